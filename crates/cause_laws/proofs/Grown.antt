@@ -112,7 +112,7 @@ module _ (predefined : Entries) (peer : Peer) (s : Session) where
 
   -- ---- Delivery
 
-  -- what is acknowledged behind it, and what was before
+  -- what is acknowledged after it, and what was before
   abbrev Keeps : List Put → Drafted → Drafted → Type 0
   Keeps pending d e = (name : ℕ × ℕ) → Contains e.acks name → Contains d.acks name ⊎ IsOfOneDone predefined peer s pending e.sends name
 

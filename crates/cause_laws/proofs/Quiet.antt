@@ -150,7 +150,7 @@ module _ (seen : Seen) (a : Addr) (now : ℕ) where
 
   -- ---- waking
 
-  -- the session behind a draft that leaves the client as it is, or takes it over so
+  -- the session after a draft that leaves the client as it is, or takes it over so
   module _ (c : List ℕ) (s : Session) (idle : Bool) (d : Drafted) (none : d.acks ≡ []) (kept : session_after (session_of seen c) d ≡ s) where
     awake-served : is_served (session_after (session_of seen c) (changed (Presence Awake s.duration) d)).presence ≡ true
     awake-served = ap (λ (x : Session). is_served x.presence) (fold_one_more applied (session_of seen c) d.changes (Presence Awake s.duration))

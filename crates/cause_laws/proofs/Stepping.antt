@@ -73,7 +73,7 @@ module _ (seen : Seen) (local : Local) (a : Addr) (old new : List Send) (more : 
 -- ---- the plan of a row, with what follows it
 
 module _ (g : ℕ) (p : Entries) (seen : Seen) (local : Local) (a : Addr) (frame : Frame) (now : ℕ) (plan : Plan) where
-  -- the name is acknowledged for a cause, or since Delivery is done with it, by the session behind the row
+  -- the name is acknowledged for a cause, or since Delivery is done with it, by the session after the row
   abbrev IsFor : Drafted → List ℕ → ℕ × ℕ → Type 0
   IsFor d c name = (sender_of local a frame ≡ Some c) × ((put : Put) × Contains (seen.of c).pending put × (name ≡ name_of put)
       × (IsCause seen local a frame plan.sends c put ⊎ IsSpent p a c now (session_after (session_of seen c) d) put plan.sends))

@@ -12,7 +12,7 @@ client = 104 ∷ 49 ∷ []
 takes : IsTakeAtZero (OfSession client (record { epoch = 1; gateway = 1 }) 0 (Take empty_session))
 takes = (λ _. refl, λ _. refl)
 
--- the first operation behind it
+-- the first operation after it
 sleeps : IsTakeAtZero (OfSession client (record { epoch = 1; gateway = 1 }) 1 (Presence Asleep 300))
 sleeps = (λ e. absurd (true≢false (sym e)), λ e. absurd (omega (arith, e)))
 

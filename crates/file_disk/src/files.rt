@@ -18,7 +18,7 @@ pub struct FileDisk<F: SlotFile = File> {
 }
 
 impl FileDisk<File> {
-    /// The files at a path with `.0` and `.1` behind it. Where there is no journal yet they are
+    /// The files at a path with `.0` and `.1` after it. Where there is no journal yet they are
     /// made, first the one and then the other, and their names are made durable. No call has
     /// failed.
     ///

@@ -2,7 +2,7 @@
 //!
 //! What a call answers (`Answer`) is shared and not copied: the caller, a history and a printer may
 //! each hold a share of one answer. Shares are taken before the journal is written, so that nothing
-//! behind the write can want memory. Contracts see an answer's value, whoever has a share of it
+//! after the write can want memory. Contracts see an answer's value, whoever has a share of it
 //! (`said`, `told`).
 //!
 //! - `step`: a call, with its arguments (`Step`).

@@ -90,7 +90,7 @@ fn take_in<S: Drop>(alloc: Global, link: &mut Link<S>, piece: &[u8]) -> Result<(
     }
 }
 
-/// Puts deltas behind those that wait. A digest takes the place of one that was not answered yet.
+/// Puts deltas after those that wait. A digest takes the place of one that was not answered yet.
 fn wait_all<S: Drop>(
     alloc: Global,
     link: &mut Link<S>,
@@ -124,7 +124,7 @@ fn take_number<S: Drop>(link: &mut Link<S>, number: u8) -> Result<(), End> {
     Ok(())
 }
 
-/// Puts a number behind others, unless it is among them.
+/// Puts a number after others, unless it is among them.
 fn add_once(numbers: &mut Vec<u8>, number: u8) -> Result<(), End> {
     if numbers.as_slice().contains(&number) || numbers.push(number).is_ok() {
         return Ok(());

@@ -60,7 +60,7 @@ pub struct Link<S: Drop> {
     pub(crate) silence: u32,
     /// How often this end has said its number again since it last said its digest.
     pub(crate) repeats: u32,
-    /// What came behind it is no message.
+    /// What came after it is no message.
     pub(crate) failed: bool,
     /// What is to go out, a message each.
     pub(crate) outgoing: VecDeque<Vec<u8>>,

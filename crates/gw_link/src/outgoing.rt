@@ -46,7 +46,7 @@ pub(crate) fn is_nothing(error: &Error) -> bool {
     kind == ErrorKind::WouldBlock || kind == ErrorKind::TimedOut || kind == ErrorKind::Interrupted
 }
 
-/// Puts a message behind those that are to go out. The number of a hello is not 0.
+/// Puts a message after those that are to go out. The number of a hello is not 0.
 pub(crate) fn say<S: Drop>(
     alloc: Global,
     link: &mut Link<S>,
@@ -68,7 +68,7 @@ pub(crate) fn spelled(alloc: Global, message: &LinkMessage) -> Result<Vec<u8>, E
     Ok(octets)
 }
 
-/// Puts the octets of a message behind those that are to go out.
+/// Puts the octets of a message after those that are to go out.
 pub(crate) fn say_spelled<S: Drop>(link: &mut Link<S>, octets: Vec<u8>) -> Result<(), End> {
     let size = octets.len();
     if link.outgoing.push_back(octets).is_err() {
@@ -126,7 +126,7 @@ fn fall_silent<S: Drop>(link: &mut Link<S>) {
     link.written = 0;
 }
 
-/// Writes once, behind so many octets that went out.
+/// Writes once, after so many octets that went out.
 fn write_once<S: Write>(stream: &mut S, octets: &[u8], written: usize) -> Outcome {
     if written >= octets.len() {
         return Outcome::Took(0);

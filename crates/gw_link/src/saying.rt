@@ -140,7 +140,7 @@ fn front(ops: &[Op], count: usize) -> &[Op] {
     ops.split_at(count).0
 }
 
-/// The operations behind the first ones, so many.
+/// The operations after the first ones, so many.
 fn behind(ops: &[Op], count: usize) -> &[Op] {
     if count >= ops.len() {
         return &[];

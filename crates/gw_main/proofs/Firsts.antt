@@ -17,11 +17,11 @@ bad_here None key rest (faults.Key told) h = ap (λ (k : Key). Some k) (sym h.1)
 bad_here {A} (Some value) key rest (faults.Key told) h = absurd (let e : ◌≡◌ {A = Option A} (Some value) None = h.0 in cc)
 bad_here read key rest faults.Memory h = tt
 
--- it is one behind this one
+-- it is one after this one
 pass_on : {A : Type 0} (read : Option A) (value : A) (key : Key) (rest : Option Key) (fault : SettingsFault) → read ≡ Some value → IsBadOf rest fault → IsBadOf (or_else read key rest) fault
 pass_on {A} read value key rest fault e h = subst (λ (r : Option A). IsBadOf (or_else r key rest) fault) (sym e) h
 
--- what is looked for behind each key
+-- what is looked for after each key
 abbrev from_numbers : Members → Option Key
 from_numbers m = or_else (numbers_in m) keys.Numbers None
 

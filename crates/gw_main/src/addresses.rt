@@ -15,7 +15,7 @@ fn place_of(text: &[u8], mark: u8) -> Option<usize>
     text.iter().position(|octet| *octet == mark)
 }
 
-/// What stands before the first place of an octet, and what stands behind it.
+/// What stands before the first place of an octet, and what stands after it.
 fn cut(text: &[u8], mark: u8) -> Option<(&[u8], &[u8])>
     ensures { option_map (λ parts. (parts.0.now, parts.1.now)) result ≡ spec.cut mark text.now }
 {

@@ -12,7 +12,7 @@ pub struct Settings {
     pub listen: Addr,
     /// The address at which links are accepted.
     pub link: Addr,
-    /// The path of the journal; its files have `.0` and `.1` behind it.
+    /// The path of the journal; its files have `.0` and `.1` after it.
     pub journal: String,
     /// How many threads make calls for datagrams: 1 to 8.
     pub workers: u8,

@@ -1,4 +1,4 @@
--- A message in front of a stream, and the octets behind it.
+-- A message in front of a stream, and the octets after it.
 use Rattle.std.proofs.Common.{◌≡◌, ℕ, zero, suc, ◌+◌, ◌-◌, ◌<◌, ◌≤◌, ◌^◌, Bool, true, false, cond, not, ◌&&◌, ◌==◌, if◌then◌else◌, nat_le, List, [], ◌∷◌, ◌++◌, take, drop, length, get_or, Option, Some, None, Result, Ok, Err, refl, sym, ap, subst, ◌∙◌, arith, leb-true, le-leb, eqb-true, true≢false, append_assoc, append-nil}
 use Rattle.std.specs.Prelude.{nat_lt, slice_index}
 use Rattle.std.specs.Int.{w32, to_be_bytes}
@@ -146,7 +146,7 @@ front_taken (kind ∷ bytes) m rest octets e =
 pub shorter : (bytes : List ℕ) (m : LinkMessage) (rest : List ℕ) → bytes ≡ spelling m ++ rest → length rest < length bytes
 shorter bytes m rest e = let len = ap length e in let sum = length-append (spelling m) rest in omega (arith, len, sum)
 
--- what is left behind a part
+-- what is left after a part
 pub left_behind : (whole front rest : List ℕ) → whole ≡ front ++ rest → (length rest ≤ length whole) × (rest ≡ drop (length whole - length rest) whole)
 left_behind whole front rest e =
     let len = ap length e ∙ length-append front rest in

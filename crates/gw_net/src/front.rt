@@ -18,7 +18,7 @@ use rep_digest::Digest;
 use rep_ops::{Delta, MAX_OCTETS, OpsFault};
 use std::alloc::Global;
 
-/// The message in front of the octets, and the octets behind it; nothing where octets are wanting.
+/// The message in front of the octets, and the octets after it; nothing where octets are wanting.
 ///
 /// `Kind` as soon as the kind is there, `TooLong` as soon as the length is, `Body` when the body is
 /// whole.
@@ -36,7 +36,7 @@ pub fn front(alloc: Global, bytes: &[u8]) -> Result<Option<(LinkMessage, &[u8])>
     sized(alloc, kind, rest)
 }
 
-/// The message behind its kind.
+/// The message after its kind.
 fn sized(alloc: Global, kind: u8, bytes: &[u8]) -> Result<Option<(LinkMessage, &[u8])>, LinkFault>
     ensures { IsFront (λ x. (x.0, x.1.now)) result (sized_at kind (number_at w32 bytes.now)) }
 {
@@ -46,7 +46,7 @@ fn sized(alloc: Global, kind: u8, bytes: &[u8]) -> Result<Option<(LinkMessage, &
     }
 }
 
-/// The length, and the octets behind it; nothing where octets are wanting.
+/// The length, and the octets after it; nothing where octets are wanting.
 fn size_at(bytes: &[u8]) -> Option<(u32, &[u8])>
     ensures { MatchOption result (number_at w32 bytes.now ≡ Err OpsFault.Truncated)
         (λ read. number_at w32 bytes.now ≡ Ok (read.0, read.1.now)) }
@@ -57,7 +57,7 @@ fn size_at(bytes: &[u8]) -> Option<(u32, &[u8])>
     }
 }
 
-/// The message behind its kind and length.
+/// The message after its kind and length.
 fn whole(
     alloc: Global,
     kind: u8,

@@ -14,7 +14,7 @@ ghost use Rattle.gw_net.specs.Streams.{IsRead};
 
 /// A stream says one thing, however it is cut into pieces.
 pub fn one_stream()
-    // What a stream says and what a piece behind its rest says is what both together say.
+    // What a stream says and what a piece after its rest says is what both together say.
     ensures joined { (stream piece rest after : List ℕ) (messages more : List LinkMessage)
         (fault : Option LinkFault)
         → IsRead stream messages None rest → IsRead (rest ++ piece) more fault after

@@ -83,7 +83,7 @@ fn head(alloc: Global, message: &LinkMessage, size: usize) -> Result<Vec<u8>, No
     Ok(head)
 }
 
-/// Writes octets of a message behind so many that are written.
+/// Writes octets of a message after so many that are written.
 fn write_behind<W: Write>(writer: &mut W, octets: &[u8], before: usize) -> Result<(), LinkOutFault>
     requires { before + length octets.now < 2 ^ 64 }
     ensures ok { OnOk result (Appends (W.contents writer.old) (W.contents writer.new) octets.now) }

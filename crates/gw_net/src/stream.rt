@@ -15,7 +15,7 @@ use std::marker::Model;
 pub struct Fed {
     /// The messages that are whole now, in their order.
     pub messages: Vec<LinkMessage>,
-    /// What stands behind them where it is none: the link has failed.
+    /// What stands after them where it is none: the link has failed.
     pub fault: Option<LinkFault>,
 }
 
@@ -49,7 +49,7 @@ impl LinkIn {
         }
     }
 
-    /// Takes a piece, and gives the messages that are whole now, with the fault behind them, if
+    /// Takes a piece, and gives the messages that are whole now, with the fault after them, if
     /// there is one.
     ///
     /// `Failed` after a fault; `Memory`, and the link is as it was.
@@ -77,7 +77,7 @@ impl LinkIn {
     }
 }
 
-/// Takes a piece behind the octets that wait, and the whole messages out of them. On an error what
+/// Takes a piece after the octets that wait, and the whole messages out of them. On an error what
 /// waits is as it was.
 fn take_piece(alloc: Global, waiting: &mut Vec<u8>, piece: &[u8]) -> Result<Fed, NoMemory>
     ensures ok { IfOk result (λ fed. IsRead (waiting.old.items ++ piece.now) fed.messages.items
@@ -98,7 +98,7 @@ fn take_piece(alloc: Global, waiting: &mut Vec<u8>, piece: &[u8]) -> Result<Fed,
     }
 }
 
-/// The messages in front of the octets, what stands behind them, and how many octets are left.
+/// The messages in front of the octets, what stands after them, and how many octets are left.
 fn read_messages(alloc: Global, bytes: &[u8]) -> Result<(Fed, usize), NoMemory>
     ensures { IfOk result (λ read. (read.1 ≤ length bytes.now)
         × IsRead bytes.now read.0.messages.items read.0.fault

@@ -1,4 +1,4 @@
--- Sets between what must be kept and what was taken, with more behind them.
+-- Sets between what must be kept and what was taken, with more after them.
 use Rattle.std.proofs.Common.{◌≡◌, ℕ, Bool, true, false, cond, not, if◌then◌else◌, ◌||◌, List, [], ◌∷◌, ◌++◌, Option, Some, None, is_some, IfSome, refl, sym, ap, ◌∙◌, subst, true≢false}
 use Rattle.std.proofs.lemmas.List.{append-nil}
 use Rattle.sn_session.specs.declared.change.SessionOp.{SessionOp}

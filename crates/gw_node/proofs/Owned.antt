@@ -217,7 +217,7 @@ pub known_of : (known : Bool) (g : ℕ) (kept : List Op) (local : Local) → tid
 known_of true g kept local h e = h
 known_of false g kept local h e = absurd (true≢false (sym e))
 
--- behind changes that note nobody else, where that was asked
+-- after changes that note nobody else, where that was asked
 pub tidied_noted : (known : Bool) (g : ℕ) (kept : List Op) (local : Local) (changes : List LocalChange) → tidied known g kept local ≡ true → tidied (known && list_all (notes_owned g (seen_of kept)) changes) g kept (after_all local changes) ≡ true
 tidied_noted false g kept local changes h = refl
 tidied_noted true g kept local changes h =

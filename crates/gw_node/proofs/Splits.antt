@@ -40,7 +40,7 @@ longer a b =
     ap length (flat_map-append op_octets a b) ∙ length-append (flat_map op_octets a) (flat_map op_octets b) in
     omega (arith, front, whole, parts)
 
--- a part that goes on behind a full one would pass the limit
+-- a part that goes on after a full one would pass the limit
 too-long : (d : List Op) (op : Op) (r : List Op) → IsWithinLimit (d ++ op ∷ r) → 8388608 < length (spelling (d ++ op ∷ [])) → ⊥
 too-long d op r within full =
     let more : length (spelling (d ++ op ∷ [])) ≤ length (spelling (d ++ op ∷ r)) =

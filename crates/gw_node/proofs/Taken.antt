@@ -102,7 +102,7 @@ one_more S D deltas h =
     subst (λ (ops : List Op). CountsAs (S ++ D) ops) (sym (all_of_more deltas D))
     (counts-more S (all_of deltas) D h)
 
--- ---- a delta that may be written behind records
+-- ---- a delta that may be written after records
 
 pub record MayFollow (S kept D : List Op) (deltas : List (List Op)) : Type 0 where
   pub agrees : AllAgree S D

@@ -1,5 +1,5 @@
 //! A plan is carried out, and a delta is taken: room, delta, journal, replica, local state, in this
-//! order. What can be refused is refused before the journal is written; behind it nothing can be.
+//! order. What can be refused is refused before the journal is written; after it nothing can be.
 
 ghost use Rattle.std.specs.Prelude.{◌≡◌, ◌≢◌, ◌++◌, [], IfOk, IfErr, OnOk, OnErr, unwrap_or};
 ghost use Rattle.rep_ops.specs.Deltas.{IsDelta};

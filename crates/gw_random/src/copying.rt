@@ -92,7 +92,7 @@ pub(crate) fn append_show(made: &mut Vec<Event>, gateway: u8) -> Result<(), NoMe
     append(made, Event::Show { gateway })
 }
 
-/// The events, each with what its gateways show behind it.
+/// The events, each with what its gateways show after it.
 pub(crate) fn with_shows(alloc: Global, events: &[Event]) -> Result<Vec<Event>, NoMemory> {
     let mut made = Vec::new(alloc);
     for event in events {
@@ -101,7 +101,7 @@ pub(crate) fn with_shows(alloc: Global, events: &[Event]) -> Result<Vec<Event>, 
     Ok(made)
 }
 
-/// Appends an equal event, and what its gateways show behind it.
+/// Appends an equal event, and what its gateways show after it.
 fn append_shown(alloc: Global, made: &mut Vec<Event>, event: &Event) -> Result<(), NoMemory> {
     append_copy(alloc, made, event)?;
     append_show(made, event.gateway())?;

@@ -7,7 +7,7 @@ use rep_ops::Delta;
 pub(crate) struct Failure {
     /// After so many bytes.
     bytes: u64,
-    /// Or in the sync behind them all.
+    /// Or in the sync after them all.
     sync: bool,
     /// The index of the first event that arranged one since the last that came.
     pub(crate) first: usize,

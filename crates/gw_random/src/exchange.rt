@@ -7,7 +7,7 @@ use octets::NoMemory;
 use rep_model::Replica;
 use std::alloc::Global;
 
-/// The events, and behind them an exchange: each gateway is opened again, asks each other, and
+/// The events, and after them an exchange: each gateway is opened again, asks each other, and
 /// takes what is answered. Nothing where the events cannot be played.
 pub(crate) fn with_exchange<R: Replica>(
     alloc: Global,
@@ -22,7 +22,7 @@ pub(crate) fn with_exchange<R: Replica>(
     Ok(Some(all))
 }
 
-/// The events, and behind them each gateway is opened again, and asks each other.
+/// The events, and after them each gateway is opened again, and asks each other.
 fn with_questions(alloc: Global, field: &Field, events: &[Event]) -> Result<Vec<Event>, NoMemory> {
     let mut all = Vec::new(alloc);
     append_copies(alloc, &mut all, events)?;

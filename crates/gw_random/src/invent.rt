@@ -96,7 +96,7 @@ impl Invention {
         })
     }
 
-    /// All rounds, each played behind it. The last is the first that cannot be played.
+    /// All rounds, each played after it. The last is the first that cannot be played.
     fn rounds<R: Replica>(
         &mut self,
         alloc: Global,

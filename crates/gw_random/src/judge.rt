@@ -114,7 +114,7 @@ impl Seats {
         Ok(Seats { seats, listed: 0 })
     }
 
-    /// Goes on by all events, up to the first behind which something differs.
+    /// Goes on by all events, up to the first after which something differs.
     fn follow_all<R: Replica>(
         &mut self,
         alloc: Global,

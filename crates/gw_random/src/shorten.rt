@@ -69,7 +69,7 @@ pub(crate) fn examined<R: Replica>(
     }
 }
 
-/// What comes of events, each with what its gateways show behind it.
+/// What comes of events, each with what its gateways show after it.
 fn compared<R: Replica>(
     alloc: Global,
     field: &Field,

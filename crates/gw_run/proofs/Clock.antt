@@ -30,7 +30,7 @@ clock_none before after same = (before, each_none IsLiveTick before before refl,
 pub clock_cannot : (before after : Holder) (end : End) → CannotCall end → after ≡ before → AddsOfClock before (Some end) after
 clock_cannot before after end why same = (before, each_none IsLiveTick before before refl, inl (why, same))
 
--- ticks that ended nothing, and more behind them
+-- ticks that ended nothing, and more after them
 pub clock_later : (a b c : Holder) (end : Option End) → AddsOfClock a None b → AddsOfClock b end c → AddsOfClock a end c
 clock_later a b c end x y = (
   y.0,
@@ -38,7 +38,7 @@ clock_later a b c end x y = (
   y.2,
 )
 
--- a tick that did not find the gateway halted, and what ended behind it
+-- a tick that did not find the gateway halted, and what ended after it
 pub clock_tick : (before : Holder) (moment : ℕ) (answer : Result Out Refusal) (number : ℕ) (after : Holder) → says_halted answer ≡ false → Made before (steps.Tick moment) answer number after → AddsOfClock before None after
 clock_tick before moment answer number after live made = (after, each_one IsLiveTick before (steps.Tick moment) answer number after (refl, live) made, refl)
 
@@ -74,17 +74,17 @@ clock_uncalled {A} before after answered end is why =
     let known : CannotCall end × (after ≡ before) = subst (λ (r : Result A End). IfErr r (λ (e : End). CannotCall e × (after ≡ before))) is why in
     clock_cannot before after end known.0 known.1
 
--- ticks that ended nothing, and behind them those of a call that gave something
+-- ticks that ended nothing, and after them those of a call that gave something
 pub clock_gave : {A : Type 0} (a b c : Holder) (ticked : Result A End) (gave : A) → ticked ≡ Ok gave → AddsOfClock a None b → MatchResult ticked (λ (_ : A). AddsOfClock b None c) (λ (e : End). AddsOfClock b (Some e) c) → AddsOfClock a None c
 clock_gave {A} a b c ticked gave is x y =
     clock_later a b c None x (subst (λ (r : Result A End). MatchResult r (λ (_ : A). AddsOfClock b None c) (λ (e : End). AddsOfClock b (Some e) c)) is y)
 
--- and behind them those of a call that ended it
+-- and after them those of a call that ended it
 pub clock_ended : {A : Type 0} (a b c : Holder) (ticked : Result A End) (end : End) → ticked ≡ Err end → AddsOfClock a None b → MatchResult ticked (λ (_ : A). AddsOfClock b None c) (λ (e : End). AddsOfClock b (Some e) c) → AddsOfClock a (Some end) c
 clock_ended {A} a b c ticked end is x y =
     clock_later a b c (Some end) x (subst (λ (r : Result A End). MatchResult r (λ (_ : A). AddsOfClock b None c) (λ (e : End). AddsOfClock b (Some e) c)) is y)
 
--- ticks that ended nothing, and behind them such as end nothing
+-- ticks that ended nothing, and after them such as end nothing
 pub clock_goes_on : (a b c : Holder) (end : Option End) → is_some end ≡ false → AddsOfClock a None b → AddsOfClock b end c → AddsOfClock a None c
 clock_goes_on a b c None is x y = clock_later a b c None x y
 clock_goes_on a b c (Some end) is x y = absurd (true≢false is)

@@ -49,7 +49,7 @@ word_at-text words.Show = refl
 pub one_word : (v w : Word) → text_of v ≡ text_of w → v ≡ w
 one_word v w same = let a = word_at-text v in let b = word_at-text w in let e = ap word_at same in cc
 
--- what the fields behind a line's word say, the line spells
+-- what the fields after a line's word say, the line spells
 pub spelled : (line first : List ℕ) (rest : List (List ℕ)) (word : Word) (r : Result Command LineFault)
     → fields_of line ≡ first ∷ rest → text_of word ≡ first → Reads (Says word rest) r → Reads (Spells line) r
 spelled line first rest word (Ok command) cut named said = (word, rest, cut ∙ ap (λ (text : List ℕ). text ∷ rest) (sym named), said)
@@ -151,7 +151,7 @@ one_spared a b m n same (inl p) (inr q) = absurd (no_number b 64 n (sym same ∙
 one_spared a b m n same (inr p) (inl q) = absurd (no_number a 64 m (same ∙ q.0) p)
 one_spared a b m n same (inr p) (inr q) = one_number 64 a b m n same p q
 
--- what fields say behind each word
+-- what fields say after each word
 gateway_says : (fields : List (List ℕ)) (c : Command) → Says words.Gateway fields c
     → (text : List ℕ) × (g : ℕ) × (fields ≡ text ∷ []) × (c ≡ commands.Gateway g) × IsNumber 8 text g
 gateway_says (text ∷ []) (commands.Gateway g) said = (text, g, refl, refl, said)
@@ -205,7 +205,7 @@ predefine_says : (fields : List (List ℕ)) (c : Command) → Says words.Predefi
 predefine_says (a ∷ b ∷ o ∷ []) (commands.Predefine g i name) said = (a, b, o, g, i, name, refl, refl, said.0, said.1, said.2, said.3)
 predefine_says fields c said = absurd said
 
--- behind a word, fields say one command
+-- after a word, fields say one command
 one_saying : (word : Word) (fields : List (List ℕ)) (c d : Command) → Says word fields c → Says word fields d → c ≡ d
 one_saying words.Gateway fields c d p q =
     let x = gateway_says fields c p in

@@ -82,7 +82,7 @@ impl Word {
     }
 }
 
-/// What stands before, between and behind the places of an octet.
+/// What stands before, between and after the places of an octet.
 pub fn cut(alloc: Global, text: &[u8], at: u8) -> Result<Vec<&[u8]>, AllocError>
     ensures { IfOk result (λ parts. map (λ part. part.now) parts.items ≡ slice_split
         (λ b. b == at) text.now) }
@@ -107,7 +107,7 @@ pub fn read_command(alloc: Global, line: &[u8]) -> Result<Command, LineFault>
     say(alloc, word, rest)
 }
 
-/// The command that fields say behind a word.
+/// The command that fields say after a word.
 fn say(alloc: Global, word: Word, fields: &[&[u8]]) -> Result<Command, LineFault>
     ensures { Reads (Says word (map (λ field. field.now) fields.now)) result }
 {
@@ -125,7 +125,7 @@ fn say(alloc: Global, word: Word, fields: &[&[u8]]) -> Result<Command, LineFault
     }
 }
 
-/// What the fields behind `gateway` say.
+/// What the fields after `gateway` say.
 fn gateway(fields: &[&[u8]]) -> Result<Command, LineFault>
     ensures { Reads (Says words.Gateway (map (λ field. field.now) fields.now)) result }
 {
@@ -150,7 +150,7 @@ fn topic_name(alloc: Global, octets: &[u8]) -> Result<TopicName, LineFault>
     }
 }
 
-/// What the fields behind `predefine` say.
+/// What the fields after `predefine` say.
 fn predefine(alloc: Global, fields: &[&[u8]]) -> Result<Command, LineFault>
     ensures { Reads (Says words.Predefine (map (λ field. field.now) fields.now)) result }
 {
@@ -169,7 +169,7 @@ fn predefine(alloc: Global, fields: &[&[u8]]) -> Result<Command, LineFault>
     }
 }
 
-/// What the fields behind `frame` say.
+/// What the fields after `frame` say.
 fn frame(alloc: Global, fields: &[&[u8]]) -> Result<Command, LineFault>
     ensures { Reads (Says words.Frame (map (λ field. field.now) fields.now)) result }
 {
@@ -197,7 +197,7 @@ fn frame(alloc: Global, fields: &[&[u8]]) -> Result<Command, LineFault>
     }
 }
 
-/// What the fields behind `tick` say.
+/// What the fields after `tick` say.
 fn tick(fields: &[&[u8]]) -> Result<Command, LineFault>
     ensures { Reads (Says words.Tick (map (λ field. field.now) fields.now)) result }
 {
@@ -210,7 +210,7 @@ fn tick(fields: &[&[u8]]) -> Result<Command, LineFault>
     }
 }
 
-/// What the fields behind `take` say.
+/// What the fields after `take` say.
 fn take(fields: &[&[u8]]) -> Result<Command, LineFault>
     ensures { Reads (Says words.Take (map (λ field. field.now) fields.now)) result }
 {
@@ -223,7 +223,7 @@ fn take(fields: &[&[u8]]) -> Result<Command, LineFault>
     }
 }
 
-/// What the fields behind `answer` say.
+/// What the fields after `answer` say.
 fn answer(fields: &[&[u8]]) -> Result<Command, LineFault>
     ensures { Reads (Says words.Answer (map (λ field. field.now) fields.now)) result }
 {
@@ -250,7 +250,7 @@ fn failure(text: &[u8]) -> Option<(u64, bool)>
     }
 }
 
-/// What the fields behind `fail` say.
+/// What the fields after `fail` say.
 fn fail(fields: &[&[u8]]) -> Result<Command, LineFault>
     ensures { Reads (Says words.Fail (map (λ field. field.now) fields.now)) result }
 {
@@ -270,7 +270,7 @@ fn fail(fields: &[&[u8]]) -> Result<Command, LineFault>
     }
 }
 
-/// What the fields behind `compact` say.
+/// What the fields after `compact` say.
 fn compact(fields: &[&[u8]]) -> Result<Command, LineFault>
     ensures { Reads (Says words.Compact (map (λ field. field.now) fields.now)) result }
 {
@@ -294,7 +294,7 @@ fn spared(text: &[u8]) -> Option<u64>
     }
 }
 
-/// What the fields behind `restart` say.
+/// What the fields after `restart` say.
 fn restart(fields: &[&[u8]]) -> Result<Command, LineFault>
     ensures { Reads (Says words.Restart (map (λ field. field.now) fields.now)) result }
 {
@@ -310,7 +310,7 @@ fn restart(fields: &[&[u8]]) -> Result<Command, LineFault>
     }
 }
 
-/// What the fields behind `show` say.
+/// What the fields after `show` say.
 fn show(fields: &[&[u8]]) -> Result<Command, LineFault>
     ensures { Reads (Says words.Show (map (λ field. field.now) fields.now)) result }
 {

@@ -5,13 +5,13 @@
 //! microseconds: a client that waits for its answer sends its next datagram by then. One worker
 //! looks at a time, and a ring for which one looks wakes nobody.
 //!
-//! Each ring brings a worker to the queue behind it:
+//! Each ring brings a worker to the queue after it:
 //!
 //! - The count of rings and what is said beside it change under the lock alone.
 //! - A worker reads the count before it goes to the queue. It says that it looks, and it falls
 //!   asleep, only where the count is still the same under the lock. So a ring from before finds it
 //!   awake, and it goes to the queue once more.
-//! - The first ring behind a worker's word that it looks takes that word back, under the lock, and
+//! - The first ring after a worker's word that it looks takes that word back, under the lock, and
 //!   wakes nobody. That worker does not sleep: it sees the other count while it looks, or finds it
 //!   under the lock before it would sleep. Either way it goes to the queue.
 //! - Any other ring wakes one who sleeps. Where nobody sleeps, all are awake and go to the queue

@@ -61,14 +61,14 @@ pub struct ServeFault<'a, R: Replica, D: Disk> {
 ///
 /// One thread reads; there is a worker for each pass. Each datagram that finds room in the queue
 /// gets the next number, from 1 on; one that finds the queue full is dropped without a number.
-/// Replies are sent behind the lock, also those of a gateway whose disk has just failed.
+/// Replies are sent after the lock is given back, also those of a gateway whose disk has just failed.
 ///
 /// Each number is handed back once, in `taken` or in `left`. There are as many numbers as datagrams
 /// came over the wire, less those that it was told were dropped. The passes hold what they held and
 /// the calls of `taken`, pass by pass, and nothing else. The faults: `Wire`, a receive failed;
 /// `Memory`; `Behind`, a pass has seen more calls than the shift has. With each of them every pass
-/// comes back too, and has gained nothing but calls of datagrams. After `Behind` one of them has
-/// seen a number, so passes that have made no call are never behind at their first.
+/// comes back too, and has gained nothing but calls of datagrams. After `Behind` one of those that
+/// come back has seen a number.
 pub fn serve<'a, T, R, D, W, P, G>(
     rt: &T,
     alloc: Global,

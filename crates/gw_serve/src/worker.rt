@@ -215,7 +215,7 @@ fn has_room(taken: &mut Vec<Taken>, left: &mut Vec<u64>) -> bool
     taken.reserve(1).is_ok() && left.reserve(1).is_ok()
 }
 
-/// Makes the call of a datagram, which ends the worker's turn, and sends its replies behind the
+/// Makes the call of a datagram, which ends the worker's turn, and sends its replies after the
 /// lock.
 fn handle<T: Wait, R: Replica, D: Disk + Drop, P: Post, G: Gate>(
     rt: &T,

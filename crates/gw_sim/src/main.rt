@@ -6,7 +6,7 @@
 //!
 //! With `--random SEED` it makes scripts from the seed, plays them, and compares what gateways show
 //! with what the definitions say. With `--plain` gateways keep their operations in the plain
-//! replica, which forgets nothing. With `--rows` it reads many scripts, each behind a line with its
+//! replica, which forgets nothing. With `--rows` it reads many scripts, each after a line with its
 //! name, and plays each by itself on both replicas.
 //!
 //! - `words`: the words of the command line.

@@ -1,8 +1,8 @@
 //! Worked scripts, each played by itself, on both replicas; and scripts that are made from a seed.
 //!
-//! A text holds scripts, each behind a line `== NAME`. A script is what stands between two such
+//! A text holds scripts, each after a line `== NAME`. A script is what stands between two such
 //! lines, without the line feed in front of the second: so a script that ends with a line feed has
-//! an empty line behind it. For each script that line is printed, what is printed for the script,
+//! an empty line after it. For each script that line is printed, what is printed for the script,
 //! and a line with the exit status. Each is played on the folded replica and on the plain one;
 //! where these do not print the same, what the plain one prints stands below.
 //!
@@ -22,7 +22,7 @@ use std::io::Write;
 /// What stands in front of a name.
 const MARK: &str = "== ";
 
-/// What ends a script behind which there is another.
+/// What ends a script after which there is another.
 const NEXT: &str = "\n== ";
 
 /// What a script begins with that stands for scripts from a seed.

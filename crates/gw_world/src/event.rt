@@ -33,7 +33,7 @@ pub enum Event {
         peer: u8,
     },
     /// The next append to a gateway's journal goes wrong: it stops after so many bytes, or after
-    /// all where there are fewer; or, where `sync` is true, all goes out and the sync behind it
+    /// all where there are fewer; or, where `sync` is true, all goes out and the sync after it
     /// fails. A failure that was arranged before is forgotten.
     WriteFails {
         gateway: u8,

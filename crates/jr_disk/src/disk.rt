@@ -29,7 +29,7 @@ pub struct Short {
 pub enum Plan {
     /// The next append fails after so many bytes, or after all where there are fewer.
     Stop { after: usize },
-    /// The next append goes out, and the sync behind it fails.
+    /// The next append goes out, and the sync after it fails.
     KeepBack,
     /// The next sync fails.
     FailSync,
@@ -76,7 +76,7 @@ pub trait Disk {
         ensures cause { HasCause (failures self.old) (failures self.new) result }
         ensures starved { starved self.new ≡ starved self.old }
         ensures keeps { StaysArranged (outlook self.old) (outlook self.new) }
-        // Of a read behind the end nothing is said here.
+        // Of a read after the end nothing is said here.
         ensures outlook { from + length buffer.old ≤ length (bytes_of (at (slots self.old) slot)) →
             GoesAs (outlook self.old) result (outlook self.new) }
         ensures same { honest → slots self.new ≡ slots self.old }

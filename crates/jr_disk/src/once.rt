@@ -38,14 +38,14 @@ impl Model for OnceDisk {
 impl OnceDisk {
     ghost use Rattle.jr_disk.specs.Memory.{empty_disk};
 
-    /// A disk with two empty slots, of which one call of this kind fails, behind so many of them.
+    /// A disk with two empty slots, of which one call of this kind fails, after so many of them.
     pub fn new(alloc: Global, call: OnceCall, after: usize) -> OnceDisk
         ensures { result ≡ record { disk = empty_disk; call = call; due = Some after } }
     {
         OnceDisk::over(MemoryDisk::new(alloc), call, after)
     }
 
-    /// The disk as it stands, of which one call of this kind fails, behind so many of them.
+    /// The disk as it stands, of which one call of this kind fails, after so many of them.
     pub fn over(disk: MemoryDisk, call: OnceCall, after: usize) -> OnceDisk
         ensures { result ≡ record { disk = disk; call = call; due = Some after } }
     {

@@ -1,4 +1,4 @@
--- Bytes behind the whole pieces of a slot: a record, or the front of one.
+-- Bytes after the whole pieces of a slot: a record, or the front of one.
 use Rattle.std.proofs.Common.{◌≡◌, ℕ, zero, suc, ◌+◌, ◌<◌, ◌≤◌, Bool, true, false, List, [], ◌∷◌, ◌++◌, length, take, drop, refl, sym, ap, subst, ◌∙◌, inl, inr, append_assoc, arith}
 use Rattle.std.specs.Prelude.{nat_lt}
 use Rattle.std.specs.Int.{w32, from_be_bytes}
@@ -17,7 +17,7 @@ use Rattle.jr_journal.specs.Records.{delta_bytes, written, body_at, record_at, p
 use Rattle.jr_journal.specs.inner.Records.{IsReadable}
 use Rattle.jr_journal.proofs.Pieces.{IsRecord, record_shape, record_again, record_same, seal_same, found_record, found_seal, found_second_seal, found_torn, found_bad, found_nothing, found_passed, found_skip}
 
--- ---- pieces behind pieces
+-- ---- pieces after pieces
 
 pub made_same : (d e : List (List Op)) (s : Bool) (m n : ℕ) (b : Bool) → d ≡ e → m ≡ n → made d s m b ≡ made e s n b
 made_same d e s m n b p q = λ i. made (p i) s (q i) b

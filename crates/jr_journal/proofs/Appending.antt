@@ -96,7 +96,7 @@ struck_short (Err short) Honest slot old new delta bytes e spelled is = (
       ∙ ap (λ xs. replaced old slot (appended (at old slot) xs)) (sym (take_min short.written (written delta))),
 )
 
--- all went out, and the sync behind it failed
+-- all went out, and the sync after it failed
 pub struck_kept : (Honest : Type 0) (slot : Slot) (old middle new : Slots) (delta : List Op) (bytes : List ℕ) → bytes ≡ written delta
     → (Honest → middle ≡ replaced old slot (appended (at old slot) bytes)) → (Honest → new ≡ middle) → IsStruck Honest old slot (written delta) new
 struck_kept Honest slot old middle new delta bytes spelled e f =

@@ -11,7 +11,7 @@ use Rattle.jr_journal.specs.Records.{new_journal}
 use Rattle.jr_journal.specs.inner.Opening.{IsBegun}
 use Rattle.jr_journal.proofs.Appending.{on_ok, on_err, err_written}
 
--- an emptied slot, and bytes behind that
+-- an emptied slot, and bytes after that
 emptied : (s : SlotBytes) (bytes : List ℕ) → appended (cut_to s 0) bytes ≡ record { synced = []; unsynced = bytes }
 emptied s bytes = let none : 0 - length s.synced ≡ 0 = omega arith in λ j. appended (record { synced = []; unsynced = take (none j) s.unsynced }) bytes
 

@@ -1,4 +1,4 @@
--- What a slot is: by its bytes, and with more bytes behind them.
+-- What a slot is: by its bytes, and with more bytes after them.
 use Rattle.std.proofs.Common.{◌≡◌, ℕ, ◌+◌, ◌<◌, ◌≤◌, Bool, true, false, cond, List, ◌++◌, length, take, drop, min, refl, sym, ap, ◌∙◌, inl, inr, arith}
 use Rattle.std.specs.Prelude.{nat_lt}
 use Rattle.std.specs.Int.{w64, from_be_bytes}
@@ -24,7 +24,7 @@ pub content_whole : (gateway : ℕ) (bytes : List ℕ) → begins gateway bytes 
 unfolding slot_content
 content_whole gateway bytes e le = let long : nat_lt (length bytes) 13 ≡ false = le-ltb (length bytes) 13 le in rw (e, long) refl
 
--- as a reader takes it: a number of eight bytes behind the first five, and the pieces behind it
+-- as a reader takes it: a number of eight bytes after the first five, and the pieces after it
 pub content_read : (gateway generation : ℕ) (bytes numbered pieces : List ℕ) (f : Found) (content : SlotContent) → begins gateway bytes ≡ true → 13 ≤ length bytes → numbered ≡ drop 5 bytes
     → generation ≡ from_be_bytes w64 (take 8 numbered) → pieces ≡ drop 8 numbered → f ≡ found 0 false pieces → content ≡ after_header generation f → content ≡ slot_content gateway bytes
 content_read gateway generation bytes numbered pieces f content e le cut number behind read is =
@@ -102,7 +102,7 @@ sealed_same gateway xs ys generation f g h long same pieces good seal =
       seal = seal;
     }
 
--- ---- more bytes behind a sealed slot that ends with a whole piece
+-- ---- more bytes after a sealed slot that ends with a whole piece
 
 abbrev pub IsFull : List ℕ → Found → Type 0
 IsFull bytes f = 13 + f.whole ≡ length bytes

@@ -1,4 +1,4 @@
--- What a crash leaves behind an opening that failed.
+-- What a crash leaves after an opening that failed.
 use Rattle.std.proofs.Common.{◌≡◌, ℕ, ◌<◌, ◌≤◌, true, false, None, Result, Ok, Err, List, [], ◌∷◌, ◌++◌, length, take, drop, min, refl, sym, ap, subst, ◌∙◌, inl, inr, ◌⊎◌, arith}
 use Rattle.std.specs.Prelude.{nat_lt, OnErr}
 use Rattle.std.specs.Int.{w64, from_be_bytes}

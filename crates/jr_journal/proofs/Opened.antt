@@ -290,7 +290,7 @@ recovered_leaves gateway i o h =
     let p = opened gateway i o h in
     subst (λ (xs : List (List Op)). Leaves gateway (recovered gateway i) xs) p.same (used_leaves gateway (place_of o) (recovered gateway i) (number_of o) p.pieces p.used)
 
--- a cut behind the end does nothing
+-- a cut after the end does nothing
 pub cut_nothing : (s : SlotBytes) (len : ℕ) → length (bytes_of s) ≤ len → s ≡ cut_to s len
 cut_nothing s len le =
     let size = length-append s.synced s.unsynced in

@@ -1,4 +1,4 @@
--- The pieces of a slot: one of them, and one behind the other.
+-- The pieces of a slot: one of them, and one after the other.
 use Rattle.std.proofs.Common.{◌≡◌, ℕ, zero, suc, ◌+◌, ◌≤◌, Bool, true, false, cond, List, [], ◌∷◌, length, take, drop, Result, Ok, Err, refl, sym, ap, ◌∙◌, inl, inr, arith}
 use Rattle.std.specs.Prelude.{nat_lt, ◌==◌, IfSome}
 use Rattle.std.specs.Int.{w32, from_be_bytes}
@@ -40,7 +40,7 @@ delta_shape (Err fault) size delta n e = absurd cc
 
 -- ---- one piece
 
--- a whole record behind its tag, and how it is read
+-- a whole record after its tag, and how it is read
 pub record IsRecord (tag : ℕ) (rest : List ℕ) (delta : List Op) (n : ℕ) : Type 0 where
   pub tag_is : (tag == 68) ≡ true
   pub inside : 4 + n ≤ length rest
@@ -131,7 +131,7 @@ body_not_seal size rest e =
           ]
     ]
 
--- the seal is one byte: nothing behind it counts
+-- the seal is one byte: nothing after it counts
 pub seal_same : (tag : ℕ) (xs ys : List ℕ) → piece_at tag xs ≡ Seal → piece_at tag ys ≡ Seal
 unfolding piece_at
 seal_same tag xs ys e =
@@ -147,7 +147,7 @@ seal_same tag xs ys e =
           rw other e1
     ]
 
--- ---- one piece behind the other
+-- ---- one piece after the other
 
 pub found_record : (sealed : Bool) (b : ℕ) (rest : List ℕ) (delta : List Op) (n : ℕ) → piece_at b rest ≡ Whole delta n → found 0 sealed (b ∷ rest) ≡ joined (one_record delta n sealed) (found (4 + n) sealed rest)
 unfolding found

@@ -16,7 +16,7 @@ use Rattle.jr_journal.proofs.Opened.{synced_same, opening_fresh}
 pub one_step : (fresh : Bool) (before after : Outlook) (s t : Bool) → (s ≡ true → t ≡ true) → t ≡ false → is_quiet before fresh ≡ true → (s ≡ false → is_calm before ≡ true → after ≡ before) → after ≡ before
 one_step fresh before after s t kept fed quiet step = step (not_starved s t kept fed) (quiet_calm before fresh quiet)
 
--- behind a step that leaves what is arranged, it is still none of the opening's
+-- after a step that leaves what is arranged, it is still none of the opening's
 pub still_calm : (fresh : Bool) (before after : Outlook) → is_quiet before fresh ≡ true → after ≡ before → is_calm after ≡ true
 still_calm fresh before after quiet same = quiet_calm after fresh (ap (λ o. is_quiet o fresh) same ∙ quiet)
 

@@ -162,7 +162,7 @@ used_records gateway slot d m f h =
     (sealed_at gateway (at d slot).synced (image_at (image d) slot) m f (clean_image slot d h.first_clean h.second_clean) h.sealed)
     (below_at gateway (at d (other slot)).synced (image_at (image d) (other slot)) m (clean_image (other slot) d h.first_clean h.second_clean) h.below)
 
--- ---- bytes behind the slot in use
+-- ---- bytes after the slot in use
 
 abbrev pub with_more : Slots → Slot → List ℕ → Slots
 with_more d slot bytes = replaced d slot (appended (at d slot) bytes)
@@ -179,7 +179,7 @@ take_both j w xs =
       | inr le ↦ let m : min j w ≡ j = omega arith in take-take j w xs le ∙ ap (λ k. take k xs) (sym m)
     ]
 
--- behind whole pieces the front of a record is nothing, and the whole of it is the record
+-- after whole pieces the front of a record is nothing, and the whole of it is the record
 pub front_sealed : (gateway : ℕ) (xs : List ℕ) (m : ℕ) (f : Found) (delta : List Op) (n : ℕ) → IsSealed gateway xs m f → IsFull xs f → IsReadable delta
     → (q : Found) × IsSealed gateway (xs ++ take n (written delta)) m q × ((q.deltas ≡ f.deltas) ⊎ (q.deltas ≡ f.deltas ++ delta ∷ []))
 front_sealed gateway xs m f delta n h full readable =

@@ -37,7 +37,7 @@ fn begins(gateway: u8, bytes: &[u8]) -> bool
     bytes[..count] == magic[..count]
 }
 
-/// A number, and the bytes behind it; none where the number is cut.
+/// A number, and the bytes after it; none where the number is cut.
 fn read_generation(bytes: &[u8]) -> Option<(u64, &[u8])>
     ensures none { IfNone result (length bytes.now < 8) }
     ensures some { IfSome result (λ read. (8 ≤ length bytes.now)
@@ -46,7 +46,7 @@ fn read_generation(bytes: &[u8]) -> Option<(u64, &[u8])>
     read_u64(bytes)
 }
 
-/// What a slot is by the pieces behind its header.
+/// What a slot is by the pieces after its header.
 fn behind_header(generation: u64, found: Found) -> SlotContent
     requires { 13 + found.whole < 2 ^ 64 }
     ensures { result ≡ after_header generation found }

@@ -19,7 +19,7 @@ use jr_disk::{Disk, Slot};
 use rep_ops::Delta;
 use std::alloc::Global;
 
-/// How many bytes a header has with the seal behind it.
+/// How many bytes a header has with the seal after it.
 const SEALED_HEADER: usize = 14;
 
 /// What is to be done with the slots.
@@ -209,7 +209,7 @@ fn begin<D: Disk>(disk: &mut D, gateway: u8) -> Result<(), JournalFault>
     Ok(())
 }
 
-/// Cuts away what stands behind the whole pieces of a slot.
+/// Cuts away what stands after the whole pieces of a slot.
 #[tactic(auto, using(crate::proofs::Opened::cut_nothing))]
 fn cut_torn<D: Disk>(
     disk: &mut D,
@@ -322,7 +322,7 @@ fn recovered_by(alloc: Global, opening: Opening) -> Recovered
     }
 }
 
-/// The records of a journal, which is settled behind it: both slots are synced, a torn end is cut
+/// The records of a journal, which is settled after it: both slots are synced, a torn end is cut
 /// away, and where there was no journal one is begun.
 pub(crate) fn recover<D: Disk>(
     alloc: Global,

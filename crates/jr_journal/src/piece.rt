@@ -1,4 +1,4 @@
-//! What stands in a slot behind its header: records and a seal.
+//! What stands in a slot after its header: records and a seal.
 
 ghost use Rattle.std.specs.Prelude.{◌≡◌, ◌≤◌, ◌<◌, ◌+◌, false, length, take, drop, IfOk, IfNone, IfSome};
 ghost use Rattle.std.specs.Int.{w32, from_be_bytes};
@@ -85,7 +85,7 @@ fn read_body(alloc: Global, size: usize, rest: &[u8]) -> Result<Piece, NoMemory>
     read_delta(alloc, size, rest)
 }
 
-/// A length, and the bytes behind it; none where the length is cut.
+/// A length, and the bytes after it; none where the length is cut.
 fn read_length(bytes: &[u8]) -> Option<(u32, &[u8])>
     ensures none { IfNone result (length bytes.now < 4) }
     ensures some { IfSome result (λ read. (4 ≤ length bytes.now)
@@ -94,7 +94,7 @@ fn read_length(bytes: &[u8]) -> Option<(u32, &[u8])>
     read_u32(bytes)
 }
 
-/// A record, behind its tag.
+/// A record, after its tag.
 fn read_record(alloc: Global, rest: &[u8]) -> Result<Piece, NoMemory>
     ensures { IfOk result (λ piece. piece ≡ record_at rest.now) }
 {
@@ -124,7 +124,7 @@ fn behind_record(rest: &[u8], size: usize) -> &[u8]
     &rest[4 + size..]
 }
 
-/// The pieces so far, behind which nothing more counts.
+/// The pieces so far, after which nothing more counts.
 fn found_until(deltas: Sequence<Delta>, sealed: bool, whole: usize, bad: bool) -> Found
     ensures { result ≡ made deltas sealed whole bad }
 {
@@ -136,7 +136,7 @@ fn found_until(deltas: Sequence<Delta>, sealed: bool, whole: usize, bad: bool) -
     }
 }
 
-/// The whole pieces of a slot, behind its header.
+/// The whole pieces of a slot, after its header.
 pub(crate) fn read_pieces(alloc: Global, bytes: &[u8]) -> Result<Found, NoMemory>
     ensures ok { IfOk result (λ f. f ≡ found 0 false bytes.now) }
     ensures inside { IfOk result (λ f. f.whole ≤ length bytes.now) }

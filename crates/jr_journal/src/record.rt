@@ -30,7 +30,7 @@ fn append_delta(out: &mut Vec<u8>, delta: &Delta) -> Result<(), NoMemory>
     delta.append_to(out)
 }
 
-/// Writes the length of a record's delta behind its tag.
+/// Writes the length of a record's delta after its tag.
 fn set_length(bytes: &mut [u8], size: u32)
     requires { 5 ≤ length bytes.old }
     ensures { bytes.new ≡ take 1 bytes.old ++ (big_bytes 4 size ++ drop 5 bytes.old) }

@@ -13,7 +13,7 @@ const NO_RECORD: JournalFault = JournalFault::BadRecord {
     at: 0,
 };
 
-/// The number by which a gateway tells a fault, behind a `J`. A record that does not fit is told as
+/// The number by which a gateway tells a fault, after a `J`. A record that does not fit is told as
 /// one that is none.
 pub(crate) fn number(fault: &Fault) -> u8 {
     match fault {

@@ -145,7 +145,7 @@ fn base(alloc: Global, gateway: u8, slot: Slot, octets: &[u8]) -> Option<Reading
     alone(alloc, gateway, slot, sealed.as_slice())
 }
 
-/// These octets with a seal behind them.
+/// These octets with a seal after them.
 fn sealed(alloc: Global, octets: &[u8]) -> Option<Vec<u8>> {
     let mut sealed = Vec::from_slice(alloc, octets).ok()?;
     sealed.push(SEAL).ok()?;

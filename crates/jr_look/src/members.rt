@@ -32,7 +32,7 @@ pub(crate) fn begin(text: &mut String, client: &ClientId) -> Result<(), AllocErr
     write!(text, "{{\"client\":{client}")
 }
 
-/// The members of an operation behind its client.
+/// The members of an operation after its client.
 fn members(text: &mut String, op: &Op) -> Result<(), AllocError> {
     match op {
         Op::Session {

@@ -71,7 +71,7 @@ fn read_slot(text: &mut String, reading: &Reading) -> Result<(), AllocError> {
     writeln!(text, "records of slot {slot}, generation {generation}")
 }
 
-/// The records, each behind a line with its place in that slot.
+/// The records, each after a line with its place in that slot.
 fn records(text: &mut String, reading: &Reading) -> Result<(), AllocError> {
     let places = reading.places.as_slice();
     for (index, delta) in reading.records.as_slice().iter().enumerate() {

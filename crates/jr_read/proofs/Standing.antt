@@ -27,7 +27,7 @@ use Rattle.jr_read.specs.inner.Places.{Holds, after_seal}
 
 -- ---- one record
 
--- in front stands the whole record of this delta, and behind it these are the records
+-- in front stands the whole record of this delta, and after it these are the records
 pub record IsNext (start : List ℕ) (delta : List Op) (deltas : List (List Op)) : Type 0 where
   pub size : ℕ
   pub piece : piece_in start ≡ Whole delta size
@@ -75,7 +75,7 @@ no_seal b rest other e =
       | inr bad ↦ (let wrong : Bad ≡ Seal = rw (bad, other) at alone in cc)
     ]
 
--- behind the seal the next piece is a record
+-- after the seal the next piece is a record
 sealed_next : (bytes : List ℕ) (d : List Op) (ds : List (List Op)) → (found 0 true bytes).deltas ≡ d ∷ ds → IsNext bytes d ds
 sealed_next [] d ds h = absurd (nothing_left d ds (found 0 true []) (ap (λ (f : Found). f.deltas) (found_nothing 0 true)) h)
 sealed_next (b ∷ rest) d ds h =
@@ -99,7 +99,7 @@ past_seal : (s : Bool) (b : ℕ) (rest : List ℕ) (d : List Op) (ds : List (Lis
 past_seal false b rest d ds e h = sym (ap (λ (f : Found). f.deltas) (found_seal b rest e)) ∙ h
 past_seal true b rest d ds e h = absurd (nothing_left d ds (found 0 true (b ∷ rest)) (ap (λ (f : Found). f.deltas) (found_second_seal b rest e)) h)
 
--- behind a seal, where there is one in front, stands the next record
+-- after a seal, where there is one in front, stands the next record
 pub next : (bytes : List ℕ) (d : List Op) (ds : List (List Op)) → Holds bytes (d ∷ ds) → IsNext (after_seal bytes) d ds
 next [] d ds h = absurd (nothing_left d ds (found 0 h.0 []) (ap (λ (f : Found). f.deltas) (found_nothing 0 h.0)) h.1)
 next (b ∷ rest) d ds h =
@@ -198,7 +198,7 @@ pub record AreSoFar (slot left : List ℕ) (places : List Place) (deltas : List 
   pub place : left ≡ drop (length slot - length left) slot
   pub all : AreAll left (drop i deltas)
 
--- there is room for a length behind the tag
+-- there is room for a length after the tag
 pub has_length : (left start : List ℕ) (deltas : List (List Op)) (i : ℕ) → i < length deltas → AreAll left (drop i deltas) → start ≡ after_seal left → 5 ≤ length start
 has_length left start deltas i within all is =
     let n = next_of left deltas i within all in

@@ -19,7 +19,7 @@ pub struct Place {
     pub octets: usize,
 }
 
-/// What stands behind the header.
+/// What stands after the header.
 fn behind_header(slot: &[u8]) -> &[u8]
     ensures { result.now ≡ drop 13 slot.now }
 {
@@ -30,7 +30,7 @@ fn behind_header(slot: &[u8]) -> &[u8]
     pieces
 }
 
-/// What stands behind a seal, where there is one in front.
+/// What stands after a seal, where there is one in front.
 fn behind_seal(left: &[u8]) -> &[u8]
     ensures { result.now ≡ after_seal left.now }
 {
@@ -40,7 +40,7 @@ fn behind_seal(left: &[u8]) -> &[u8]
     }
 }
 
-/// A number, and the octets behind it; none where the number is cut.
+/// A number, and the octets after it; none where the number is cut.
 fn read_length(octets: &[u8]) -> Option<(u32, &[u8])>
     ensures none { IfNone result (length octets.now < 4) }
     ensures some { IfSome result (λ read. read.0 ≡ from_be_bytes w32 (take 4 octets.now)) }

@@ -28,7 +28,7 @@ pub struct Reading {
     pub generation: u64,
     /// Where the records stand in that slot, one for each.
     pub places: Vec<Place>,
-    /// How many octets that slot has behind the opening: a torn end is cut away, and where there
+    /// How many octets that slot has after the opening: a torn end is cut away, and where there
     /// was no journal one is begun.
     pub whole: usize,
 }
@@ -64,7 +64,7 @@ pub fn generation(slot: &[u8]) -> Option<u64>
     }
 }
 
-/// A number, and the octets behind it; none where the number is cut.
+/// A number, and the octets after it; none where the number is cut.
 fn read_generation(octets: &[u8]) -> Option<(u64, &[u8])>
     ensures none { IfNone result (length octets.now < 8) }
     ensures some { IfSome result (λ read. read.0 ≡ from_be_bytes w64 (take 8 octets.now)) }

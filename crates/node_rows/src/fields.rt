@@ -20,7 +20,7 @@ pub(crate) fn gateway(text: &str) -> Result<u8, Stop> {
     }
 }
 
-/// A client: a word, or octets behind `0x`.
+/// A client: a word, or octets after `0x`.
 pub(crate) fn client(alloc: Global, text: &str) -> Result<ClientId, Stop> {
     match text.strip_prefix("0x") {
         Some(octets) => named(alloc, &digits(alloc, octets)?),

@@ -122,7 +122,7 @@ fn go_out<W: Write>(
     }
 }
 
-/// `say MESSAGE`: it goes out behind what went out before.
+/// `say MESSAGE`: it goes out after what went out before.
 pub(crate) fn say(
     alloc: Global,
     text: &mut String,
@@ -148,7 +148,7 @@ fn print_said(
     }
 }
 
-/// `within COUNT MESSAGE`: it goes to a writer that fails behind so many octets.
+/// `within COUNT MESSAGE`: it goes to a writer that fails after so many octets.
 pub(crate) fn within(
     alloc: Global,
     text: &mut String,
@@ -198,7 +198,7 @@ fn read_piece(
     }
 }
 
-/// The messages that are whole now, and the fault behind them.
+/// The messages that are whole now, and the fault after them.
 fn print_fed(alloc: Global, text: &mut String, fed: &Fed) -> Result<(), Stop> {
     print_messages(alloc, text, fed.messages.as_slice())?;
     print_fault(text, fed.fault)

@@ -2,20 +2,20 @@
 //! clause says, as that calls succeed, and octets written out by hand. And the work of benchmarks.
 //!
 //! A contract lets a call answer want of memory in place of almost anything; a row does not.
-//! Standard input holds rows, each behind a line `== NAME`; empty lines and those that begin with
+//! Standard input holds rows, each after a line `== NAME`; empty lines and those that begin with
 //! `#` are skipped. Each row begins with nothing: no gateway, an empty disk, a link on which
 //! nothing was said. The program prints each name, and below it what the lines of the row give; of
 //! a line that is none of these, `no such line` and the line.
 //!
 //! A line is words with one space between them. Numbers are decimal, and below 65,536. The name of
-//! a client is a word, and stands for the octets of the word; behind `0x` it is the octets
+//! a client is a word, and stands for the octets of the word; after `0x` it is the octets
 //! themselves. OCTETS are words: hexadecimal digits in as many as is pleasant, names of octets, and
 //! `-` for none.
 //!
 //! Names, which stay from row to row:
 //!
 //! - `name NAME OCTETS ..`: after this line, which may stand anywhere, the name is these octets.
-//! - `repeat COUNT OCTETS ..`: these stand behind the octets of the latest name so many times; `%`
+//! - `repeat COUNT OCTETS ..`: these stand after the octets of the latest name so many times; `%`
 //!   is the number of the time, from 0 on, in two octets.
 //!
 //! A gateway on the row's disk; the first three lines close the one that is open:
@@ -23,7 +23,7 @@
 //! - `open GATEWAY`: a gateway of this number is opened: the records that it read.
 //! - `open GATEWAY SECONDS PORT`: the same of one that advertises itself so often, to a port of
 //!   host 0.
-//! - `fail COUNT`, `fail sync`: the next append stops behind so many octets; or it goes out and its
+//! - `fail COUNT`, `fail sync`: the next append stops after so many octets; or it goes out and its
 //!   sync fails.
 //! - `slots`: the octets of both slots.
 //! - `state`: the records of its opening, whether it has halted, and how many clients it knows.
@@ -58,13 +58,13 @@
 //! - `beginnings OCTETS ..`: the same of each beginning of them but the whole.
 //! - `say hello GATEWAY`, `say digest OCTETS ..`, `say delta OCTETS ..`: a message goes out: all
 //!   that went out in this row.
-//! - `within COUNT hello GATEWAY` and so on: a message goes to a writer that fails behind so many
+//! - `within COUNT hello GATEWAY` and so on: a message goes to a writer that fails after so many
 //!   octets.
-//! - `feed OCTETS ..`: a piece comes in: the messages that are whole now, and the fault behind
+//! - `feed OCTETS ..`: a piece comes in: the messages that are whole now, and the fault after
 //!   them.
 //!
 //! All these lines are played on both replicas, and a last line says that they print the same. What
-//! stands behind a heading is played once, on the plain replica.
+//! stands after a heading is played once, on the plain replica.
 //!
 //! Behind the heading `=== shifts` rows are of shifts. Each of the lines above may stand there, but
 //! `repeat`; and in a shift, during which the gateway is not open, those below. PLACE is where a

@@ -40,7 +40,7 @@ fn entry(alloc: Global, names: &Names, name: &str, fields: &[&str]) -> Result<Na
     Ok(Named { name, octets })
 }
 
-/// `repeat COUNT OCTETS ..`: these stand behind the octets of the latest name so many times.
+/// `repeat COUNT OCTETS ..`: these stand after the octets of the latest name so many times.
 pub(crate) fn repeat(alloc: Global, names: &mut Names, fields: &[&str]) -> Result<(), Stop> {
     let Some((times, rest)) = fields.split_first() else {
         return Err(Stop::Line);
@@ -51,7 +51,7 @@ pub(crate) fn repeat(alloc: Global, names: &mut Names, fields: &[&str]) -> Resul
     extend_latest(names, &octets)
 }
 
-/// Puts octets behind those of the latest name.
+/// Puts octets after those of the latest name.
 fn extend_latest(names: &mut Names, octets: &[u8]) -> Result<(), Stop> {
     match names.all.last_mut() {
         Some(named) => Ok(named.octets.extend_from_slice(octets)?),
@@ -66,7 +66,7 @@ pub(crate) fn octets(alloc: Global, names: &Names, fields: &[&str]) -> Result<Ve
     Ok(octets)
 }
 
-/// Puts the octets of fields behind those that are there, so many times.
+/// Puts the octets of fields after those that are there, so many times.
 fn add_times(
     alloc: Global,
     names: &Names,
@@ -80,7 +80,7 @@ fn add_times(
     Ok(())
 }
 
-/// Puts the octets of fields behind those that are there.
+/// Puts the octets of fields after those that are there.
 fn add_all(
     alloc: Global,
     names: &Names,
@@ -98,7 +98,7 @@ fn add_all(
     Ok(())
 }
 
-/// Puts the octets of a name or of digits behind those that are there.
+/// Puts the octets of a name or of digits after those that are there.
 fn add_field(alloc: Global, names: &Names, octets: &mut Vec<u8>, field: &str) -> Result<(), Stop> {
     match found(names, field) {
         Some(named) => Ok(octets.extend_from_slice(named)?),

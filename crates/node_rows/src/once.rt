@@ -1,5 +1,5 @@
-//! Lines that are played once, on the plain replica: rows of shifts behind the heading
-//! `=== shifts`, and the works of the benchmarks behind `=== benchmarks`.
+//! Lines that are played once, on the plain replica: rows of shifts after the heading
+//! `=== shifts`, and the works of the benchmarks after `=== benchmarks`.
 
 use crate::names::{self, Names};
 use crate::row::{Row, begin};

@@ -52,7 +52,7 @@ fn slot_octets(alloc: Global, disk: &mut MemoryDisk, slot: Slot) -> Result<Vec<u
     }
 }
 
-/// A line of octets behind a word.
+/// A line of octets after a word.
 pub(crate) fn print_octets(text: &mut String, word: &str, octets: &[u8]) -> Result<(), AllocError> {
     let octets = Digits(octets);
     writeln!(text, "{word} {octets}")

@@ -16,7 +16,7 @@ pub(crate) type Made = (Pass, Arc<Out>, u64, u64);
 /// Two calls of a pass, and one of another.
 pub(crate) type Steps = ((Arc<Step>, Arc<Step>), Arc<Step>);
 
-/// Seats passes behind those that are seated.
+/// Seats passes after those that are seated.
 pub(crate) fn seated(seats: &mut Vec<Option<Pass>>, passes: Vec<Pass>) -> Result<(), Stop> {
     for pass in passes {
         seats.push(Some(pass))?;

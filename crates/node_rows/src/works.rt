@@ -89,7 +89,7 @@ pub(crate) fn delta_of(alloc: Global, ops: Vec<Op>) -> Result<Delta, Stop> {
     }
 }
 
-/// Puts the octets of a delta behind those that are there.
+/// Puts the octets of a delta after those that are there.
 pub(crate) fn write_delta(alloc: Global, delta: &Delta, out: &mut Vec<u8>) -> Result<(), Stop> {
     match delta.encode(alloc, out) {
         Ok(()) => Ok(()),

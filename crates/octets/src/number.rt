@@ -36,7 +36,7 @@ pub fn append_u64(out: &mut Vec<u8>, n: u64) -> Result<(), AllocError>
     out.extend_from_slice(&octets)
 }
 
-/// The number in the first two octets, and the octets behind it; nothing where there are fewer.
+/// The number in the first two octets, and the octets after it; nothing where there are fewer.
 pub fn read_u16(octets: &[u8]) -> Option<(u16, &[u8])>
     ensures { MatchOption result (length octets.now < 2) (λ read. octets.now ≡ big_bytes 2 read.0 ++
         read.1.now) }
@@ -48,7 +48,7 @@ pub fn read_u16(octets: &[u8]) -> Option<(u16, &[u8])>
     Some((BigEndian::read_u16(number), rest))
 }
 
-/// The number in the first four octets, and the octets behind it; nothing where there are fewer.
+/// The number in the first four octets, and the octets after it; nothing where there are fewer.
 pub fn read_u32(octets: &[u8]) -> Option<(u32, &[u8])>
     ensures { MatchOption result (length octets.now < 4) (λ read. octets.now ≡ big_bytes 4 read.0 ++
         read.1.now) }
@@ -60,7 +60,7 @@ pub fn read_u32(octets: &[u8]) -> Option<(u32, &[u8])>
     Some((BigEndian::read_u32(number), rest))
 }
 
-/// The number in the first eight octets, and the octets behind it; nothing where there are fewer.
+/// The number in the first eight octets, and the octets after it; nothing where there are fewer.
 pub fn read_u64(octets: &[u8]) -> Option<(u64, &[u8])>
     ensures { MatchOption result (length octets.now < 8) (λ read. octets.now ≡ big_bytes 8 read.0 ++
         read.1.now) }

@@ -68,12 +68,12 @@ module _ (P : Binding → Type 0) where
   all-kept : (test : Binding → Bool) (bindings : List Binding) → AllByRecursion P bindings → AllByRecursion P (filter test bindings)
   all-kept test bindings all = all-weaken (λ (b : Binding). P b × (test b ≡ true)) P (λ b h. h.0) (filter test bindings) (all-filtered test bindings all)
 
-  -- a binding that is there behind a new one is the new one, or was there
+  -- a binding that is there after a new one is the new one, or was there
   all-bound : (a : Addr) (c : List ℕ) (bindings : List Binding) → P (record { address = a; client = c }) → AllByRecursion P bindings → AllByRecursion P (bound a c bindings)
   all-bound a c bindings new all =
       all_with binding_cmp P (record { address = a; client = c }) (filter (is_apart a c) bindings) new (all-kept (is_apart a c) bindings all)
 
-  -- one that is there behind the end of a client's binding was there, and is of another
+  -- one that is there after the end of a client's binding was there, and is of another
   all-unbound : (c : List ℕ) (bindings : List Binding) → AllByRecursion P bindings → AllByRecursion (λ (b : Binding). P b × (is_of_other c b ≡ true)) (unbound c bindings)
   all-unbound c bindings all = all-filtered (is_of_other c) bindings all
 

@@ -1,4 +1,4 @@
--- Drafts behind which a bound client is up: its changes keep it up, or take it over so, or it is bound no more.
+-- Drafts after which a bound client is up: its changes keep it up, or take it over so, or it is bound no more.
 use Rattle.std.proofs.Common.{◌≡◌, ◌⊎◌, ℕ, Bool, true, false, ◌&&◌, is_none, if◌then◌else◌, List, [], ◌∷◌, ◌++◌, Option, Some, None, IfSome, refl, ap, ◌∙◌, inl, inr, ◌==◌}
 use Rattle.std.specs.List.{AllByRecursion}
 use Rattle.std.proofs.lemmas.List.{append_assoc}
@@ -36,7 +36,7 @@ use Rattle.sn_exchange.specs.Delivery.{next_after, Stop, begun, entry_or_fresh, 
 use Rattle.sn_exchange.specs.Resending.{register_by, register_again, publish_by, publish_again, resend_in, resend_if}
 use Rattle.sn_exchange.specs.Following.{followed_by}
 
--- behind the change a client that was up is up; a Take has it so
+-- after the change a client that was up is up; a Take has it so
 abbrev pub KeepsUp : SessionOp → Type 0
 KeepsUp (Take s) = is_up s.presence ≡ true
 KeepsUp (Presence state duration) = is_up state ≡ true

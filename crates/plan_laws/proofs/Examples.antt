@@ -1,4 +1,4 @@
--- Worked rows: topics of wills that a dialog may have been given, and the operation that a first CONNECT makes; who is up behind it.
+-- Worked rows: topics of wills that a dialog may have been given, and the operation that a first CONNECT makes; who is up after it.
 use Rattle.std.proofs.Common.{◌≡◌, ℕ, true, false, List, [], ◌∷◌, refl}
 use Rattle.sn_session.specs.declared.will.WillTopic.{WillTopic}
 use Rattle.sn_local.specs.declared.local.Awaited.TheVariants.{Topic, Message}
@@ -39,7 +39,7 @@ miscounted = refl
 no_message : is_well_made (Ack s1 1 0 0) ≡ false
 no_message = refl
 
--- behind that Take the client is gateway 1's, and up; it is not gateway 2's, and where there is no Take it is not up
+-- after that Take the client is gateway 1's, and up; it is not gateway 2's, and where there is no Take it is not up
 owned_first : is_owned 1 (seen_of (first_take ∷ [])) s1 ≡ true
 owned_first = refl
 

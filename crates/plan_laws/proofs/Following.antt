@@ -85,7 +85,7 @@ told-fine name (Some entry) free h = tt
 
 -- ---- Delivery
 
--- one message: the draft behind it; and where Delivery goes on, the others are left
+-- one message: the draft after it; and where Delivery goes on, the others are left
 record AfterOne (rest : List Put) (stop : Stop) : Type 0 where
   sound : Sound stop.1
   goes_on : stop.0 ≡ false → AllByRecursion (IsNotDone stop.1.acks) rest

@@ -98,7 +98,7 @@ pub sound-acked : (name : ℕ × ℕ) (d : Drafted) → IsNamed name → is_done
 sound-acked name d h e s =
     record { changes = s.changes; acks = all-append IsNamed d.acks (name ∷ []) s.acks (h, tt); once = once-more d.acks name s.once e; puts = s.puts; local = s.local }
 
--- behind one more acknowledgement the others are not done
+-- after one more acknowledgement the others are not done
 pub others-left : (acks : List (ℕ × ℕ)) (put : Put) (rest : List Put) → AllByRecursion (λ (other : Put). same_name (name_of put) (name_of other) ≡ false) rest
     → AllByRecursion (IsNotDone acks) rest → AllByRecursion (IsNotDone (acks ++ name_of put ∷ [])) rest
 others-left acks put rest apart all =

@@ -1,4 +1,4 @@
--- Each step and each tick of a gateway that keeps well has a plan of operations that can be written, and it keeps well behind it.
+-- Each step and each tick of a gateway that keeps well has a plan of operations that can be written, and it keeps well after it.
 use Rattle.std.proofs.Common.{◌≡◌, ℕ, ◌≤◌, Bool, true, false, ◌&&◌, not, nat_le, if◌then◌else◌, List, [], ◌∷◌, ◌++◌, map, filter, fold, length, Option, Some, None, IfSome, cond, refl, sym, ap, ◌∙◌, subst, IsTrue}
 use Rattle.std.specs.Prelude.{slice_get}
 use Rattle.std.specs.List.{AllByRecursion}
@@ -245,7 +245,7 @@ after-asked ds (change ∷ rest) all h = after-asked (dialog_change ds change) r
 pub start-keeps : (g : ℕ) → 1 ≤ g → KeepsWell g [] no_local
 start-keeps g h = record { numbered = h; flush = λ c. flush-start g c; made = tt; asked = tt }
 
--- behind a plan whose delta it takes
+-- after a plan whose delta it takes
 pub made-keeps : (g : ℕ) (S : List Op) (local : Local) (plan : Plan) (delta : List Op) → KeepsWell g S local → IsOfDraft g (seen_of S) plan → Makes plan → AreWellMade delta → Same delta plan.ops
     → KeepsWell g (S ++ delta) (after_all local plan.local)
 made-keeps g S local plan delta k drafted makes proper same = record {
@@ -255,7 +255,7 @@ made-keeps g S local plan delta k drafted makes proper same = record {
   asked = after-asked local.dialogs plan.local k.asked makes.moves;
 }
 
--- and behind a delta of another
+-- and after a delta of another
 pub taken-keeps : (g : ℕ) (S D : List Op) (local : Local) (seen : Seen) → KeepsWell g S local → AreWellMade D → ((c : List ℕ) → AddsNone g c S D) → KeepsWell g (S ++ D) (owned g seen local)
 taken-keeps g S D local seen k proper news = record {
   numbered = k.numbered;

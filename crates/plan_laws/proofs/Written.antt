@@ -170,7 +170,7 @@ module _ (R : Op → Op → Type 0) where
   pair-append [] ys h k cross = k
   pair-append (x ∷ xs) ys h k cross = (all-append (R x) xs ys h.0 cross.0, pair-append xs ys h.1 k cross.1)
 
--- a name that is fresh behind an operation is not that operation's
+-- a name that is fresh after an operation is not that operation's
 abbrev Apart : Op → Op → Type 0
 Apart a b = ¬ (ShareName a b)
 

@@ -52,7 +52,7 @@ pub fn keeps_well()
 {}
 
 /// A client that is bound at a gateway is owned by it, and is Active, Asleep or Awake: from its
-/// start on, behind each step and each tick that it carries out, and behind each delta of others
+/// start on, after each step and each tick that it carries out, and after each delta of others
 /// that it takes, which ends the bindings of the clients that it owns no more. So a frame from a
 /// bound address finds a session, and a client that is up.
 pub fn bound_up()

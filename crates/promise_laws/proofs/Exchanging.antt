@@ -39,7 +39,7 @@ use Rattle.promise_laws.proofs.Promising.{contains-place}
 pub below-within : (A S : List Op) → Within A S → Below A S
 below-within A S h = counts-same S (A ++ S) (same-absorbed A S h)
 
--- a set that counts with another behind it as without is above that one
+-- a set that counts with another after it as without is above that one
 below-behind : (A S : List Op) → IsConsistent (S ++ A) → CountsAs (S ++ A) S → Below A S
 below-behind A S consistent h = same_trans (counts-same (S ++ A) (A ++ S) (same_sym (same-turned S A consistent))) (same_sym h)
 

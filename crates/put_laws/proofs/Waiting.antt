@@ -1,4 +1,4 @@
--- A message that a step makes waits behind it: nothing acknowledges it, for what a step acknowledges waited before.
+-- A message that a step makes waits after it: nothing acknowledges it, for what a step acknowledges waited before.
 use Rattle.std.proofs.Common.{◌≡◌, ℕ, Bool, true, false, cond, not, ◌||◌, List, [], ◌∷◌, ◌++◌, Option, Some, None, is_some, Contains, refl, sym, ap, ◌∙◌, subst, true≢false, inl, inr, append_assoc, append-nil}
 use Rattle.std.specs.List.{AllByRecursion}
 use Rattle.rep_op.specs.declared.op.Op.{Op}

@@ -224,7 +224,7 @@ outside_ending r (s ∷ rs) =
     falsely true = refl
     falsely false = refl
 
--- nor do ranges that begin behind it
+-- nor do ranges that begin after it
 beyond : (k : ℕ) (r : ℕ × ℕ) (rs : List (ℕ × ℕ)) → AreApartFrom k rs → r.1 < k → outside r rs ≡ r ∷ []
 beyond k r [] h lt = refl
 beyond k r (s ∷ rs) h lt =

@@ -67,7 +67,7 @@ fn left_of_deltas(
     Ok(left)
 }
 
-/// Copies what a digest leaves of operations behind the others.
+/// Copies what a digest leaves of operations after the others.
 fn add_left(
     alloc: Global,
     left: &mut Vec<Op>,
@@ -85,7 +85,7 @@ fn add_left(
     Ok(())
 }
 
-/// Copies what a digest leaves of an operation behind the others.
+/// Copies what a digest leaves of an operation after the others.
 fn add_left_of(
     alloc: Global,
     left: &mut Vec<Op>,
@@ -102,7 +102,7 @@ fn add_left_of(
     }
 }
 
-/// Copies what an entry leaves of an operation behind the others.
+/// Copies what an entry leaves of an operation after the others.
 fn add_left_by(
     alloc: Global,
     left: &mut Vec<Op>,
@@ -149,7 +149,7 @@ fn covers(entry: &ClientEntry, origin: u8, seq: u64) -> bool
     in_ranges(seq, waiting_in(entry, origin)) || in_ranges(seq, acknowledged_in(entry, origin))
 }
 
-/// Puts what of a range of acknowledgements is in none of the ranges behind the others.
+/// Puts what of a range of acknowledgements is in none of the ranges after the others.
 fn add_outside(
     alloc: Global,
     left: &mut Vec<Op>,
@@ -178,7 +178,7 @@ fn add_outside(
     }
 }
 
-/// Puts what of a range is before another behind the others, if that other reaches into the range.
+/// Puts what of a range is before another after the others, if that other reaches into the range.
 fn add_before(
     alloc: Global,
     left: &mut Vec<Op>,
@@ -196,7 +196,7 @@ fn add_before(
     Ok(())
 }
 
-/// What of a range is behind another.
+/// What of a range is after another.
 fn behind(range: (u64, u64), covered: (u64, u64)) -> Option<(u64, u64)>
     ensures { result ≡ steps.behind range covered }
 {
@@ -209,7 +209,7 @@ fn behind(range: (u64, u64), covered: (u64, u64)) -> Option<(u64, u64)>
     }
 }
 
-/// Puts the acknowledgements of a range behind the others.
+/// Puts the acknowledgements of a range after the others.
 fn add_range(
     alloc: Global,
     left: &mut Vec<Op>,

@@ -15,7 +15,7 @@ use Rattle.rep_digest.specs.WellMade.{OriginsAscend}
 use Rattle.rep_digest.specs.inner.Steps.{numbers_of, seq_of, with_number, in_ranges_of, drafted, drafted_origins, AreDrafted}
 use Rattle.rep_digest.proofs.Occurring.{silent, unchanged, at_place, at_gap, origins_up, none_listed}
 
--- ---- a number behind the others
+-- ---- a number after the others
 
 -- the first number
 pub first_number : (rs new : List (ℕ × ℕ)) (n : ℕ) → length rs ≡ 0 → new ≡ rs ++ (n, n) ∷ [] → new ≡ with_number rs n

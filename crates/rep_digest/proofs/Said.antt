@@ -108,7 +108,7 @@ within_one m s =
           true≢false (sym (eq-eqb m s (let lo : s ≤ m = w.0 in let hi : m ≤ s = w.1 in omega (arith, lo, hi))) ∙ e))
     ] refl
 
--- ranges with one number more behind them
+-- ranges with one number more after them
 number_ranges : (k : ℕ) (rs : List (ℕ × ℕ)) (n : ℕ) → AreApartFrom k rs → ((m : ℕ) → in_ranges m rs ≡ true → m < n) → k ≤ n
     → AreApartFrom k (with_number rs n) × ((m : ℕ) → in_ranges m (with_number rs n) ≡ (in_ranges m rs || (m == n)))
 number_ranges k [] n h below le = ((le, omega arith, tt), λ m. ap (λ b. b || false) (within_one m n) ∙ nothing (m == n))
@@ -168,7 +168,7 @@ number_ranges k (r ∷ []) n h below le =
         agree false true f g = g refl
         agree false false f g = refl
 
--- all numbers of a list, one behind the other
+-- all numbers of a list, one after the other
 numbers_ranges : (ns : List ℕ) (rs : List (ℕ × ℕ)) → AreApart rs → Ascend ns → AllByRecursion (λ n. (m : ℕ) → in_ranges m rs ≡ true → m < n) ns
     → AreApart (fold with_number rs ns) × ((m : ℕ) → in_ranges m (fold with_number rs ns) ≡ (in_ranges m rs || is_number m ns))
 numbers_ranges [] rs h up below = (h, λ m. nothing (in_ranges m rs))

@@ -75,7 +75,7 @@ impl Digest {
     /// a version other than 1, `Truncated` where the octets end, `Kind` for a value out of range (a
     /// length as soon as it is read, any other value when it is whole), `Order` where clients,
     /// origins or ranges are out of order, looked at when an entry is whole, and last `Trailing`
-    /// for octets behind the digest.
+    /// for octets after the digest.
     pub fn decode(alloc: Global, bytes: &[u8]) -> Result<Digest, OpsFault>
         // What is read is spelled so.
         ensures ok { IfOk result (λ d. bytes.now ≡ spelling d) }

@@ -48,7 +48,7 @@ fn origins_of(
     Ok(Sequence::new(origins))
 }
 
-/// Puts acknowledgements behind those of their origins.
+/// Puts acknowledgements after those of their origins.
 fn note_acknowledged(
     alloc: Global,
     origins: &mut Vec<OriginEntry>,
@@ -64,7 +64,7 @@ fn note_acknowledged(
     Ok(())
 }
 
-/// Puts messages that wait behind those of their origins.
+/// Puts messages that wait after those of their origins.
 fn note_waiting(
     alloc: Global,
     origins: &mut Vec<OriginEntry>,
@@ -80,7 +80,7 @@ fn note_waiting(
     Ok(())
 }
 
-/// Puts a range of acknowledgements behind those of its origin. The time is logarithmic, but for an
+/// Puts a range of acknowledgements after those of its origin. The time is logarithmic, but for an
 /// origin that is new.
 fn note_range(
     alloc: Global,
@@ -112,7 +112,7 @@ fn note_range(
     Ok(())
 }
 
-/// Puts the number of a message behind those of its origin. The time is logarithmic, but for an
+/// Puts the number of a message after those of its origin. The time is logarithmic, but for an
 /// origin that is new.
 fn note_put(alloc: Global, origins: &mut Vec<OriginEntry>, put: &Put) -> Result<(), NoMemory>
     requires { AreDrafted origins.old.items }
@@ -155,7 +155,7 @@ fn one_range(alloc: Global, range: (u64, u64)) -> Result<Sequence<(u64, u64)>, N
     Ok(ranges)
 }
 
-/// Puts a number behind the others: in the last range where it touches it.
+/// Puts a number after the others: in the last range where it touches it.
 fn add_number(ranges: &mut Sequence<(u64, u64)>, number: u64) -> Result<(), NoMemory>
     ensures { OnOk result (ranges.new ≡ with_number ranges.old number) }
 {
@@ -171,7 +171,7 @@ fn add_number(ranges: &mut Sequence<(u64, u64)>, number: u64) -> Result<(), NoMe
     Ok(())
 }
 
-/// Whether the number comes right behind the other.
+/// Whether the number comes right after the other.
 fn touches(last: u64, number: u64) -> bool
     ensures { result ≡ (last + 1 == number) }
 {

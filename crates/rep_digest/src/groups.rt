@@ -48,7 +48,7 @@ fn no_groups(alloc: Global, clients: &[ClientId]) -> Result<Vec<Sequence<Acknowl
     Ok(groups)
 }
 
-/// Puts the acknowledgements of each operation behind those of its client.
+/// Puts the acknowledgements of each operation after those of its client.
 fn note_all(
     groups: &mut Vec<Sequence<Acknowledged>>,
     clients: &[ClientId],
@@ -64,7 +64,7 @@ fn note_all(
     Ok(())
 }
 
-/// Puts the acknowledgements of an operation behind those of its client.
+/// Puts the acknowledgements of an operation after those of its client.
 fn note(
     groups: &mut Vec<Sequence<Acknowledged>>,
     clients: &[ClientId],
@@ -93,7 +93,7 @@ fn note(
     }
 }
 
-/// Puts a range of acknowledgements behind those of its client, if the client is there.
+/// Puts a range of acknowledgements after those of its client, if the client is there.
 fn note_range(
     groups: &mut Vec<Sequence<Acknowledged>>,
     clients: &[ClientId],

@@ -1,4 +1,4 @@
--- Messages in order, by their names; and new ones behind them.
+-- Messages in order, by their names; and new ones after them.
 use Rattle.std.proofs.Common.{◌≡◌, ℕ, zero, suc, ◌-◌, ◌≤◌, ◌==◌, max, true, false, cond, if◌then◌else◌, List, [], ◌∷◌, ◌++◌, length, drop, get_or, slice_get, Some, None, refl, sym, ap, ◌∙◌, subst, arith, Ordering, Less, Equal, Greater, nat_cmp, true≢false}
 use Rattle.std.proofs.lemmas.Bool.Decides.{nat_tests}
 use Rattle.std.proofs.lemmas.Option.{slice_get-get_or}
@@ -96,7 +96,7 @@ none_of_it g p rest other none =
     let here : seq_from g p ≡ 0 = ap (λ b. if b then p.seq else 0) apart in
     omega (arith, here, none)
 
--- ---- behind those that wait
+-- ---- after those that wait
 
 less : (r : Ordering) → is_lt r ≡ true → r ≡ Less
 less Less e = refl

@@ -33,7 +33,7 @@ or_none : (a : Bool) → (a || false) ≡ a
 or_none true = refl
 or_none false = refl
 
--- one that is new may stand in front or behind
+-- one that is new may stand in front or after
 swapped : {X : Type 0} (a b : Option X) → (is_some b ≡ true → a ≡ None) → or_else a b ≡ or_else b a
 swapped None None h = refl
 swapped None (Some y) h = refl

@@ -54,7 +54,7 @@ kept_between W A s = record {
 pub kept_step : (W Y A B : List Op) → Same A (keep W) → Same B (keep (A ++ Y)) → Same B (keep (W ++ Y))
 kept_step W Y A B s t = same_trans t (same_kept (A ++ Y) (W ++ Y) (thin-right A W (thin-between W A (kept_between W A s)) Y))
 
--- the readers of K and a delta D behind it, of which L keeps what must be kept
+-- the readers of K and a delta D after it, of which L keeps what must be kept
 pub record KeepsOf (c : List ℕ) (K D L : List Op) : Type 0 where
   pub stamp : Option Stamp
   pub visible_is : stamp ≡ visible c (K ++ D)

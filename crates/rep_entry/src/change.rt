@@ -76,7 +76,7 @@ pub fn put_into(place: &mut Entry, change: Change)
     place.exceptions = exceptions;
 }
 
-/// Puts a log in its place. Operations that come behind those that are there are moved there.
+/// Puts a log in its place. Operations that come after those that are there are moved there.
 fn put_log(place: &mut Entry, log: Option<Log>, room: Vec<NamedOp>)
     requires empty { room.items ≡ [] }
     requires fit { IsLogFit place.old.known log (vec_capacity room) }
@@ -97,7 +97,7 @@ fn put_log(place: &mut Entry, log: Option<Log>, room: Vec<NamedOp>)
     }
 }
 
-/// Puts operations behind those that are there, or in their place.
+/// Puts operations after those that are there, or in their place.
 fn put_known(known: &mut Known, anew: bool, more: Known, room: Vec<NamedOp>)
     requires empty { room.items ≡ [] }
     requires room { anew ≡ false → length known.old + length more ≤ vec_capacity room }

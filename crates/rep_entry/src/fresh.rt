@@ -258,7 +258,7 @@ fn exceptions_with(entry: &Entry, acks: &Option<Acks>) -> u64
 }
 
 /// Room for the session operations that are there and those behind them, and for half as many more,
-/// so that they seldom move; none where none comes behind them.
+/// so that they seldom move; none where none comes after them.
 fn log_room_for(alloc: Global, known: &Known, log: &Option<Log>) -> Result<Vec<NamedOp>, NoMemory>
     ensures empty { IfOk result (λ room. room.items ≡ []) }
     ensures room { IfOk result (λ room. HasLogRoom known.now log.now (vec_capacity room)) }

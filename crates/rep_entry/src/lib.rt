@@ -4,7 +4,7 @@
 //! delta makes of a client is worked out operation by operation (`Fresh`): each may be new, may
 //! wait, may be below the visible stamp or acknowledged already, and after each of them what is
 //! held is exactly what must be kept of all that came. What is worked out is then moved into its
-//! place, or behind what is there (`Change`), for which no memory is needed.
+//! place, or after what is there (`Change`), for which no memory is needed.
 //!
 //! What a delta acknowledges anew lies between two sequence numbers, which are noted as its
 //! operations come (`Span`). Messages are in the order of these numbers, so those between the two
@@ -14,7 +14,7 @@
 //!
 //! What a delta does not touch of a client is not copied: a change has a log where a session
 //! operation came, and acknowledgements where one came; else those of the entry stay. A session
-//! operation that comes behind all that are there is moved behind them, so that a step costs the
+//! operation that comes after all that are there is moved after them, so that a step costs the
 //! same however long the log is.
 //!
 //! - `entry`, `fresh`: what is kept of a client, and what a delta changes of it.

@@ -33,7 +33,7 @@ fn drop_any(all: &mut Vec<Put>, acks: &Acks)
     all.retain(|put| is_left(acks, put));
 }
 
-/// Drops the message at a place, if it is acknowledged. Those behind it move.
+/// Drops the message at a place, if it is acknowledged. Those after it move.
 fn drop_at(all: &mut Vec<Put>, at: usize, acks: &Acks)
     requires { at < length all.old.items }
     ensures { (whole : List Put) → at < length whole
@@ -75,7 +75,7 @@ fn drop_covered(all: &mut Vec<Put>, span: Span, acks: &Acks)
     }
 }
 
-/// Whether the new messages come behind all that wait.
+/// Whether the new messages come after all that wait.
 fn come_behind(waiting: &[Put], news: &[Put]) -> bool
     requires { Rising waiting.now }
     ensures { IsTrue result → weave waiting.now news.now ≡ waiting.now ++ news.now }
@@ -86,7 +86,7 @@ fn come_behind(waiting: &[Put], news: &[Put]) -> bool
     }
 }
 
-/// Whether the first of the new messages, if there is one, comes behind this.
+/// Whether the first of the new messages, if there is one, comes after this.
 fn are_behind(last: &Put, news: &[Put]) -> bool
     ensures { result ≡ spec.are_behind last.now news.now }
 {
@@ -97,7 +97,7 @@ fn are_behind(last: &Put, news: &[Put]) -> bool
 }
 
 /// The messages that wait, and new ones. Where none is new nothing is moved, and where all come
-/// behind those that wait, these stay where they are as long as there is room.
+/// after those that wait, these stay where they are as long as there is room.
 fn joined(room: Vec<Put>, mut waiting: Vec<Put>, news: Vec<Put>) -> Vec<Put>
     requires empty { room.items ≡ [] }
     requires room { (length news.items == 0) ≡ false

@@ -29,7 +29,7 @@ fn begins_before(news: &VecDeque<Put>, put: &Put) -> bool
     }
 }
 
-/// Puts the message behind the others, where there is room for it.
+/// Puts the message after the others, where there is room for it.
 fn push(into: &mut Vec<Put>, put: Put)
     requires { vec_len into.old < vec_capacity into.old }
     ensures items { into.new.items ≡ into.old.items ++ put ∷ [] }

@@ -38,7 +38,7 @@ module _ {K X : Type 0} (R : K → K → Ordering) where
     below_next k v xs ys (second (below_all R x.0 (xs ++ (k, v) ∷ ys)) (is_sorted R (xs ++ (k, v) ∷ ys)) h),
   )
 
-  -- the next entry of a list in order goes behind those before it
+  -- the next entry of a list in order goes after those before it
   pub put_next : IsTotalOrder R → (k : K) (v : X) (xs ys : List (K × X)) → T (is_sorted R (xs ++ (k, v) ∷ ys)) → put R k v xs ≡ xs ++ (k, v) ∷ []
   put_next o k v xs ys h = put_last o k v xs (below_next k v xs ys h)
 

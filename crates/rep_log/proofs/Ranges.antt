@@ -1,4 +1,4 @@
--- The acknowledged ranges of a client, one behind the other.
+-- The acknowledged ranges of a client, one after the other.
 use Rattle.std.proofs.Common.{◌≡◌, ℕ, ◌+◌, not, ◌==◌, ◌||◌, List, [], ◌∷◌, ◌++◌, map, length, refl, ap, Vec, Global}
 use Rattle.std.specs.List.{list_any}
 use Rattle.rep_op.specs.declared.op.Op.TheVariants.{Ack}

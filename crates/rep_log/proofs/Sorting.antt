@@ -55,7 +55,7 @@ module _ {K X : Type 0} (R : K → K → Ordering) where
   ascends [] h = tt
   ascends (e ∷ es) h = (all_less e.0 es (first (below_all R e.0 es) (is_sorted R es) h), ascends es (second (below_all R e.0 es) (is_sorted R es) h))
 
-  -- what comes behind others in order is in order
+  -- what comes after others in order is in order
   pub sorted_behind : (xs ys : List (K × X)) → T (is_sorted R (xs ++ ys)) → T (is_sorted R ys)
   sorted_behind [] ys h = h
   sorted_behind (x ∷ xs) ys h = sorted_behind xs ys (second (below_all R x.0 (xs ++ ys)) (is_sorted R (xs ++ ys)) h)
@@ -88,14 +88,14 @@ module _ {K X : Type 0} (R : K → K → Ordering) where
         ap (λ rest. e ∷ rest) (put_gap v es i h.1)
         ∙ sym (ap (λ r. by_order r ((q, v) ∷ e ∷ es) ((e.0, v) ∷ es) (e ∷ put R q v es)) (reversed R total q e.0 Less h.0))
 
-    -- where it comes behind the first of them, these stay as they are
+    -- where it comes after the first of them, these stay as they are
     pub put_behind : (v : X) (es more : List (K × X)) → AllByRecursion (λ (e : K × X). R e.0 q ≡ Less) es → put R q v (es ++ more) ≡ es ++ put R q v more
     put_behind v [] more h = refl
     put_behind v (e ∷ es) more h =
         ap (λ r. by_order r ((q, v) ∷ e ∷ es ++ more) ((e.0, v) ∷ es ++ more) (e ∷ put R q v (es ++ more))) (reversed R total q e.0 Less h.0)
         ∙ ap (λ rest. e ∷ rest) (put_behind v es more h.1)
 
-    -- where it comes behind the last of those in order, it comes behind all
+    -- where it comes after the last of those in order, it comes after all
     pub behind_last : (es : List (K × X)) (k : ℕ) (last : K × X) → Ascends (λ (x y : K × X). R x.0 y.0) es → length es ≡ suc k → slice_get es k ≡ Some last → R last.0 q ≡ Less → AllByRecursion (λ (e : K × X). R e.0 q ≡ Less) es
     behind_last [] k last h long is less = tt
     behind_last (e ∷ []) zero last h long is less = (subst (λ (x : K × X). R x.0 q ≡ Less) (sym (same is)) less, tt)

@@ -90,7 +90,7 @@ impl Acks {
         any_range(&self.origins)
     }
 
-    /// Puts the client's acknowledgements behind the operations.
+    /// Puts the client's acknowledgements after the operations.
     pub fn push_to(
         &self,
         alloc: Global,
@@ -140,7 +140,7 @@ fn any_range(origins: &BTreeMap<u8, Vec<(u64, u64)>>) -> bool
     origins.values().any(|ranges| !ranges.as_slice().is_empty())
 }
 
-/// Puts an acknowledgement of the client behind the operations.
+/// Puts an acknowledgement of the client after the operations.
 fn push_ack(
     alloc: Global,
     kept: &mut Vec<Op>,
@@ -161,7 +161,7 @@ fn push_ack(
     Ok(())
 }
 
-/// Puts the client's acknowledgements of all origins behind the operations.
+/// Puts the client's acknowledgements of all origins after the operations.
 fn push_origins(
     alloc: Global,
     kept: &mut Vec<Op>,
@@ -177,7 +177,7 @@ fn push_origins(
     Ok(())
 }
 
-/// Puts the client's acknowledgements of an origin behind the operations.
+/// Puts the client's acknowledgements of an origin after the operations.
 fn push_ranges(
     alloc: Global,
     kept: &mut Vec<Op>,

@@ -2,7 +2,7 @@
 
 ghost use Rattle.std.specs.Prelude.{◌≡◌, ◌+◌, ◌≤◌, ◌++◌, [], IsTrue, vec_len, vec_capacity};
 
-/// Moves what is in a list behind what is in another, where there is room for it.
+/// Moves what is in a list after what is in another, where there is room for it.
 fn move_behind<T: Drop>(into: &mut Vec<T>, more: &mut Vec<T>)
     requires { vec_len into.old + vec_len more.old ≤ vec_capacity into.old }
     ensures items { into.new.items ≡ into.old.items ++ more.old.items }
@@ -25,7 +25,7 @@ fn has_room<T: Drop>(list: &Vec<T>, more: usize) -> bool
     }
 }
 
-/// Moves more behind what is there: it stays where it is, if there is room for all, and goes to
+/// Moves more after what is there: it stays where it is, if there is room for all, and goes to
 /// `room` else, which is empty.
 pub fn put_behind<T: Drop>(there: &mut Vec<T>, mut more: Vec<T>, mut room: Vec<T>)
     requires empty { room.items ≡ [] }

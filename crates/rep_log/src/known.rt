@@ -87,7 +87,7 @@ impl Known {
         self.ops.retain(|op| !(op.0.0 < stamp));
     }
 
-    /// These operations, of which equal ones are made, and others behind them, which are moved.
+    /// These operations, of which equal ones are made, and others after them, which are moved.
     pub fn joined(alloc: Global, first: &[NamedOp], more: Known) -> Result<Known, NoMemory>
         requires { T (is_sorted operation_cmp (first.now ++ more)) }
         ensures { IfOk result (λ made. made ≡ first.now ++ more) }
@@ -98,7 +98,7 @@ impl Known {
         Ok(Known { ops })
     }
 
-    /// Moves operations behind those that are there: these stay where they are, if there is room
+    /// Moves operations after those that are there: these stay where they are, if there is room
     /// for all, and go to `room` else, which is empty.
     pub fn move_behind(&mut self, more: Known, room: Vec<NamedOp>)
         requires empty { room.items ≡ [] }
@@ -170,7 +170,7 @@ pub(crate) fn count_waiting(ops: &[NamedOp], visible: Option<Stamp>, prefix: u16
     }
 }
 
-/// How many of the operations, which stand in order, have this name or come behind it. The time is
+/// How many of the operations, which stand in order, have this name or come after it. The time is
 /// logarithmic.
 fn count_from(ops: &[NamedOp], stamp: Stamp, counter: u16) -> usize
     requires { T (is_sorted operation_cmp ops.now) }

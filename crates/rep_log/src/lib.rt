@@ -2,7 +2,7 @@
 //! keeps them.
 //!
 //! Of session operations only those of the visible stamp and those above it are kept, which wait
-//! for their Take. A delta's come behind those that are there, or the list is given up and made
+//! for their Take. A delta's come after those that are there, or the list is given up and made
 //! anew (`Log`). Per origin the acknowledged numbers are ranges (`Acks`), so that what was
 //! acknowledged in order is one range for ever.
 //!

@@ -26,7 +26,7 @@ use std::alloc::Global;
 use std::mem;
 
 /// The session operations of a client as they will be, and what they come to. Those that are there
-/// stay where they are, with more behind them, as long as each new one comes behind all; else they
+/// stay where they are, with more after them, as long as each new one comes after all; else they
 /// are given up, and those of them that stay are copied.
 #[derive(Debug, Drop)]
 pub struct Log {
@@ -38,7 +38,7 @@ pub struct Log {
     pub session: Option<Session>,
     /// Whether the operations that are there are given up.
     pub anew: bool,
-    /// The operations behind those that are there, or all, where those are given up.
+    /// The operations after those that are there, or all, where those are given up.
     pub more: Known,
 }
 
@@ -62,7 +62,7 @@ fn copied_session(alloc: Global, session: &Option<Session>) -> Result<Option<Ses
     }
 }
 
-/// Whether an operation of that name comes behind all of these, which stand in order.
+/// Whether an operation of that name comes after all of these, which stand in order.
 fn comes_behind(ops: &[NamedOp], name: (Stamp, u8)) -> bool
     requires { T (is_sorted operation_cmp ops.now) }
     ensures { IsTrue result → AllByRecursion (λ op. operation_cmp op.0 name ≡ Less) ops.now }
@@ -142,7 +142,7 @@ impl Log {
         Ok(())
     }
 
-    /// Sees to it that an operation of that name comes behind all that was there and is not given
+    /// Sees to it that an operation of that name comes after all that was there and is not given
     /// up.
     fn make_way(&mut self, alloc: Global, known: &Known, name: (Stamp, u8)) -> Result<(), NoMemory>
         requires { T (is_sorted operation_cmp (all_of known.now self.old)) }

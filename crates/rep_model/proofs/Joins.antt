@@ -49,7 +49,7 @@ counts-same S K s = same_kept K S (thin-same K S s)
 pub joined-kept : (S Y : List Op) → Same (keep (keep S ++ Y)) (keep (S ++ Y))
 joined-kept S Y = same_kept (keep S ++ Y) (S ++ Y) (thin-right (keep S) S (thin-keep S) Y)
 
--- with the same more behind both
+-- with the same more after both
 pub counts-more : (S K Y : List Op) → CountsAs S K → CountsAs (S ++ Y) (K ++ Y)
 counts-more S K Y h =
     same_trans (same_sym (joined-kept K Y))

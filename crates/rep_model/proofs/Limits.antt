@@ -131,6 +131,6 @@ acknowledged-counts c origin = same_by_counts (acknowledged c origin) (λ N W t.
 pub first_passed-counts : (S K : List Op) → CountsAs S K → first_passed K ≡ first_passed S
 first_passed-counts = same_by_counts first_passed first_passed-thin
 
--- with the same more behind both
+-- with the same more after both
 pub first_passed-more : (S K Y : List Op) → CountsAs S K → first_passed (K ++ Y) ≡ first_passed (S ++ Y)
 first_passed-more S K Y h = first_passed-counts (S ++ Y) (K ++ Y) (counts-more S K Y h)

@@ -132,7 +132,7 @@ last j k r t rs ts h g same start =
           (λ f. absurd (omega (arith, in-apart (r.1 + 1) (r.1 + 2) rs h.2 f)))
     ] refl
 
--- behind the first range
+-- after the first range
 rest_same : (n : ℕ) (r : ℕ × ℕ) (rs ts : List (ℕ × ℕ)) → AreApartFrom (r.1 + 2) rs → AreApartFrom (r.1 + 2) ts → in_ranges n (r ∷ rs) ≡ in_ranges n (r ∷ ts) → in_ranges n rs ≡ in_ranges n ts
 rest_same n r rs ts h g =
     elim (is_within n r) as (λ b. is_within n r ≡ b → (b || in_ranges n rs) ≡ (b || in_ranges n ts) → in_ranges n rs ≡ in_ranges n ts) [

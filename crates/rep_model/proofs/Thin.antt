@@ -162,7 +162,7 @@ none_right false b e = e
 none_right true b e = absurd (true≢false e)
 
 module _ (N W : List Op) (t : Thin N W) (Y : List Op) where
-  -- with more behind both
+  -- with more after both
   pub thin-right : Thin (N ++ Y) (W ++ Y)
   thin-right = record {
     operations_there = λ c name h. ap is_some (operation_at_both c W Y name) ∙ some_first (operation_at c N name) (operation_at c W name) (operation_at c Y name) (t.operations_there c name) (sym (ap is_some (operation_at_both c N Y name)) ∙ h);

@@ -67,7 +67,7 @@ pub trait Replica: Drop {
         ensures err { IfErr result (λ fault. fault ≡ Memory) };
 
     /// The client at a place among those that operations name, which stand in ascending order from
-    /// place 0 on, with its view, and the place behind it; nothing behind the last.
+    /// place 0 on, with its view, and the place after it; nothing after the last.
     fn client_at(&self, place: usize) -> Option<(usize, &ClientId, &ClientView)>
         ensures { MatchOption result
             (drop place (views.clients (kept self.now)) ≡ [])
@@ -77,7 +77,7 @@ pub trait Replica: Drop {
             × (found.2.now ≡ view found.1.now (kept self.now))) };
 
     /// The next client, from a place on, that may be subscribed to the topic (MQTT-SN 1.2 section
-    /// 6.10), with its view, and the place behind it; nothing only where nobody who is left is
+    /// 6.10), with its view, and the place after it; nothing only where nobody who is left is
     /// subscribed. Whoever is passed over is not. A replica need not pass over everybody that it
     /// could: whom it finds is to be asked.
     fn next_candidate(

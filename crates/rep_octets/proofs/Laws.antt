@@ -27,7 +27,7 @@ pub record Taken {A : Type 0} (text : A → List ℕ) (Fits : A → Type 0) (byt
   pub rest : IsBytes x.1
   pub fits : Fits x.0
 
--- the same outcome, with more octets behind it
+-- the same outcome, with more octets after it
 abbrev pub extended : {A : Type 0} → List ℕ → Result (A × List ℕ) OpsFault → Result (A × List ℕ) OpsFault
 extended more (Ok x) = Ok (x.0, x.1 ++ more)
 extended more (Err fault) = Err fault

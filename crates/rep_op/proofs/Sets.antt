@@ -126,7 +126,7 @@ pub record IsExact {K : Type 0} (R : K → K → Ordering) : Type 0 where
   pub same : (a b : K) → R a b ≡ Equal → a ≡ b
   pub itself : (a : K) → R a a ≡ Equal
 
--- what stands first, or else what is found behind it
+-- what stands first, or else what is found after it
 found_here : {K V : Type 0} (R : K → K → Ordering) (exact : IsExact R) (of : Op → Option (K × V)) (name : K) (v : V) (y : Op) (ys : List Op) (e : K × V) (rest : Option V) → of y ≡ Some e
     → (o : Ordering) → R name e.0 ≡ o → cond (is_eq o) (Some e.1) rest ≡ Some v
     → (rest ≡ Some v → (x : Op) × IsIn x ys × (of x ≡ Some (name, v))) → (x : Op) × IsIn x (y ∷ ys) × (of x ≡ Some (name, v))

@@ -33,7 +33,7 @@ pub enum OpsFault {
     /// Fault 7: the operations are not in the order of their names.
     #[error("the operations are not in the order of their names")]
     Order,
-    /// Fault 8: bytes stand behind the delta.
+    /// Fault 8: bytes stand after the delta.
     #[error("bytes stand behind the delta")]
     Trailing,
 }

@@ -152,7 +152,7 @@ same_first (Ack c r f l) (Ack d s g m) us vs ha hb pa pb over back e =
     let first : f ≡ g = nat_equal f g y.1 in
     same_range c d r s f g l m us vs client origin first (made_range c r f l ha).forward (made_range d s g m hb).forward pa pb over back
 
--- ---- what is behind
+-- ---- what is after
 
 both_cover : (c : List ℕ) (name : ℕ × ℕ) (a y : Op) → Past 1 a y → acknowledges c name a ≡ true → acknowledges c name y ≡ true → ⊥
 both_cover c name (OfSession d t j o) y past ea ey = absurd cc

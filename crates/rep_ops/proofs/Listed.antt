@@ -1,4 +1,4 @@
--- Texts of a version, a count and values of which each may stand behind those before it: the law of their readers.
+-- Texts of a version, a count and values of which each may stand after those before it: the law of their readers.
 use Rattle.std.proofs.Common.{◌≡◌, ◌≢◌, ℕ, zero, suc, ◌+◌, ◌<◌, ◌≤◌, ◌^◌, Bool, true, false, cond, List, [], ◌∷◌, ◌++◌, length, Result, Ok, Err, refl, sym, ap, subst, ◌∙◌, inl, inr, append_assoc, arith}
 use Rattle.std.specs.Prelude.{nat_lt, ◌==◌}
 use Rattle.std.specs.Int.{w32, to_be_bytes}
@@ -29,7 +29,7 @@ pub record FitsText {A : Type 0} (Fits : A → Type 0) (Up : List A → Type 0) 
   pub fits : AllByRecursion Fits d
   pub ascending : Up d
 
--- the test of each value behind those before it is the order of the list
+-- the test of each value after those before it is the order of the list
 pub record Order {A : Type 0} (follows : List A → A → Bool) (Up : List A → Type 0) : Type 0 where
   pub none : Up []
   pub push : (front : List A) (x : A) → Up front → follows front x ≡ true → Up (front ++ x ∷ [])
@@ -206,7 +206,7 @@ module _ {A : Type 0} (p : Reader A) (text : A → List ℕ) (Fits : A → Type 
         | inr same ↦ absurd (cut_short d front rest (text_at p follows front) ne (sym whole ∙ same))
       ]
 
-  -- and so is what stands behind
+  -- and so is what stands after
   pub text_behind : (d : List A) (rest : List ℕ) → FitsText Fits Up d → length (text_of text d ++ rest) ≤ max_octets → rest ≢ [] → reading_of p follows (text_of text d ++ rest) ≡ Err faults.Trailing
   unfolding whole_at
   text_behind d rest fits size ne =

@@ -1,4 +1,4 @@
--- Reading values one after the other, of which each may stand behind those before it, as a loop does.
+-- Reading values one after the other, of which each may stand after those before it, as a loop does.
 use Rattle.std.proofs.Common.{◌≡◌, ℕ, zero, suc, ◌+◌, ◌-◌, ◌<◌, ◌≤◌, Bool, true, false, List, [], ◌∷◌, ◌++◌, length, Result, Ok, Err, Some, refl, sym, ap, ◌∙◌, arith}
 use Rattle.std.specs.Prelude.{slice_get}
 use Rattle.rep_op.specs.declared.fault.OpsFault.{OpsFault}

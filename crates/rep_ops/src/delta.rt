@@ -103,8 +103,8 @@ impl Delta {
     /// `Limit` for more than 8,388,608 octets; else the first of these from the left: `Version` for
     /// a version other than 1, `Truncated` where the octets end, `Kind` for a value out of range (a
     /// length, count or tag as soon as it is read, any other value when it is whole), `Order` for
-    /// an operation that may not stand behind the one before it, and last `Trailing` for octets
-    /// behind the delta.
+    /// an operation that may not stand after the one before it, and last `Trailing` for octets
+    /// after the delta.
     pub fn decode(alloc: Global, bytes: &[u8]) -> Result<Delta, OpsFault>
         // What is read is spelled so.
         ensures ok { IfOk result (IsSpelled bytes.now) }
@@ -206,14 +206,14 @@ pub fn one_reading()
 /// No spelling begins another.
 pub fn no_prefix()
     // Where two spellings stand in front of the same octets they are the same, and so is what is
-    // behind them.
+    // after them.
     ensures free { (a b : List Op) (x y : List ℕ) → IsDelta a → AreValues a → IsWithinLimit a
         → IsDelta b → AreValues b → IsWithinLimit b
         → spelling a ++ x ≡ spelling b ++ y → (a ≡ b) × (x ≡ y) }
     // What is cut off anywhere is told by `Truncated`.
     ensures cut { (d : List Op) (front rest : List ℕ) → IsDelta d → AreValues d → IsWithinLimit d
         → spelling d ≡ front ++ rest → rest ≢ [] → reading front ≡ Err OpsFault.Truncated }
-    // What stands behind is told by `Trailing`.
+    // What stands after is told by `Trailing`.
     ensures behind { (d : List Op) (rest : List ℕ) → IsDelta d → AreValues d → rest ≢ []
         → length (spelling d ++ rest) ≤ max_octets
         → reading (spelling d ++ rest) ≡ Err OpsFault.Trailing }

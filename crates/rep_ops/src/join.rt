@@ -45,7 +45,7 @@ pub fn has_twice(ops: &[Op]) -> bool
 }
 
 /// Whether the second has the name of the first, or is a range that begins within it or right
-/// behind.
+/// after.
 fn joins(a: &Op, b: &Op) -> bool
     ensures { result ≡ spec.joins a.now b.now }
 {
@@ -91,7 +91,7 @@ fn united(a: Op, b: Op) -> Op
     }
 }
 
-/// Puts an operation behind those that are joined, or joins it with the last of them.
+/// Puts an operation after those that are joined, or joins it with the last of them.
 fn put_behind(out: &mut Vec<Op>, op: Op) -> Result<(), NoMemory>
     ensures { (S : List Op) → out.old.items ≡ spec.joined S
         → OnOk result (out.new.items ≡ spec.joined (S ++ op ∷ [])) }

@@ -38,7 +38,7 @@ fn is_apart(a: &Op, b: &Op) -> bool
     }
 }
 
-/// Whether an operation may stand behind these.
+/// Whether an operation may stand after these.
 fn may_follow(ops: &[Op], op: &Op) -> bool
     ensures { result ≡ spec.may_follow ops.now op.now }
 {

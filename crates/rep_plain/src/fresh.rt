@@ -21,7 +21,7 @@ use rep_ops::{ClientId, Op};
 use std::alloc::Global;
 use std::collections::BTreeMap;
 
-/// For each client of the new operations: what the table has of it, and the new operations behind.
+/// For each client of the new operations: what the table has of it, and the new operations after.
 pub(crate) fn grown(
     alloc: Global,
     table: &Table,
@@ -37,7 +37,7 @@ pub(crate) fn grown(
     Ok(groups)
 }
 
-/// Puts an operation behind those of its client.
+/// Puts an operation after those of its client.
 fn add_to_group(
     alloc: Global,
     table: &Table,

@@ -40,7 +40,7 @@ fn kept_ops(alloc: Global, table: &Table) -> Result<Vec<Op>, NoMemory>
     Ok(kept)
 }
 
-/// Copies the operations of a client that must be kept behind the others.
+/// Copies the operations of a client that must be kept after the others.
 fn add_kept(
     alloc: Global,
     kept: &mut Vec<Op>,
@@ -55,7 +55,7 @@ fn add_kept(
     push_kept(alloc, kept, ops, entry.seen.stamp, ranges.as_slice())
 }
 
-/// Copies the operations behind the others that the visible stamp and the acknowledgements leave.
+/// Copies the operations after the others that the visible stamp and the acknowledgements leave.
 fn push_kept(
     alloc: Global,
     kept: &mut Vec<Op>,

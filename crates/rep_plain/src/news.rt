@@ -33,7 +33,7 @@ pub(crate) fn news(alloc: Global, table: &Table, delta: &[Op]) -> Result<Vec<Op>
     Ok(news)
 }
 
-/// Puts an operation behind the others, if it is not there yet and contradicts nothing.
+/// Puts an operation after the others, if it is not there yet and contradicts nothing.
 fn add_new(alloc: Global, table: &Table, news: &mut Vec<Op>, op: &Op) -> Result<(), TakeFault>
     requires { AreRows (rows_of table.now.entries) }
     ensures agrees { OnOk result (Agrees (flat (rows_of table.now.entries)) op.now) }
@@ -104,7 +104,7 @@ fn has_range(client: &ClientId, wanted: u8, range: (u64, u64), op: &Op) -> bool
     }
 }
 
-/// Puts an equal operation behind the others.
+/// Puts an equal operation after the others.
 pub(crate) fn push_copy(alloc: Global, ops: &mut Vec<Op>, op: &Op) -> Result<(), NoMemory>
     ensures { OnOk result (ops.new.items ≡ ops.old.items ++ op.now ∷ []) }
 {

@@ -8,7 +8,7 @@ use Rattle.rep_model.specs.Fresh.{one_more}
 pub capped_sum : (a b : ℕ) → min (min a (2 ^ 64 - 1) + min b (2 ^ 64 - 1)) (2 ^ 64 - 1) ≡ min (a + b) (2 ^ 64 - 1)
 capped_sum a b = omega arith
 
--- the number behind, where there is one
+-- the number after, where there is one
 pub next_one : (n : ℕ) (r : Option ℕ) → SomeIff r (n + 1 < 2 ^ 64) (n + 1) → r ≡ one_more n
 next_one n None h = ap (λ b. if b then Some (n + 1) else None) (sym (let e : nat_lt (n + 1) (2 ^ 64) ≡ false = grind (arith, nat_tests, h) in e))
 next_one n (Some x) h = ap Some h.1 ∙ ap (λ b. if b then Some (n + 1) else None) (sym (let e : nat_lt (n + 1) (2 ^ 64) ≡ true = grind (arith, nat_tests, h.0) in e))

@@ -5,7 +5,7 @@ use Rattle.rep_op.specs.declared.op.Op.{Op}
 use Rattle.rep_shared.specs.Rows.{has_any}
 use Rattle.rep_shared.specs.inner.Rows.{named_rows}
 
--- what stands behind the one at a place
+-- what stands after the one at a place
 pub drop_next : {A : Type 0} (n : ℕ) (xs ys : List A) (y : A) → drop n xs ≡ y ∷ ys → drop (n + 1) xs ≡ ys
 drop_next n xs ys y h = sym (drop-drop 1 n xs) ∙ ap (drop 1) h
 

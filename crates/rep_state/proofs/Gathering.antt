@@ -60,7 +60,7 @@ module _ {K X : Type 0} (R : K → K → Ordering) where
   )
 
   module _ (total : IsTotalOrder R) (q : K) where
-    -- what comes behind the last goes behind all
+    -- what comes after the last goes after all
     pub gap_behind : (es : List (K × X)) (last : K × X) → T (is_sorted R es) → slice_get es (length es - 1) ≡ Some last → R last.0 q ≡ Less → IsGap (λ (e : K × X). R e.0 q) es (length es)
     gap_behind [] last h is less = tt
     gap_behind (e ∷ es) last h is less =

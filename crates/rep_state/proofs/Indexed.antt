@@ -48,7 +48,7 @@ module _ (all : List (List ℕ × Entry)) (c : List ℕ) (e : Entry) (found : fi
 pub entry_at : (es : List (List ℕ × Entry)) (i : ℕ) (c : List ℕ) (e : Entry) → T (is_sorted client_cmp es) → slice_get (keys_of es) i ≡ Some c → find client_cmp c es ≡ Some e → drop i es ≡ (c, e) ∷ drop (i + 1) es
 entry_at es i c e sorted is found = go es c e found es i (all_found client_cmp client_total es sorted) is ∙ ap (λ rest. (c, e) ∷ rest) (drop-drop 1 i es)
 
--- nobody behind the last
+-- nobody after the last
 pub none_at : (es : List (List ℕ × Entry)) (i : ℕ) → slice_get (keys_of es) i ≡ None → drop i es ≡ []
 none_at [] zero h = refl
 none_at [] (suc i) h = refl

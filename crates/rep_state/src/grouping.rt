@@ -145,7 +145,7 @@ pub(crate) fn worked_out(
     Ok(made)
 }
 
-/// Puts what is staged of the client behind the others.
+/// Puts what is staged of the client after the others.
 fn push_change(
     alloc: Global,
     table: &Table,

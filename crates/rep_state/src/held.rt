@@ -105,7 +105,7 @@ fn walk_to<'a>(
 }
 
 /// The next client from a place on, among those that have operations, where so many have some, that
-/// may ask for the topic, with its entry and the place behind it. Where all of them have
+/// may ask for the topic, with its entry and the place after it. Where all of them have
 /// operations, those that are passed over are told by their marks alone.
 pub(crate) fn next_asking<'a>(
     table: &'a Table,
@@ -157,7 +157,7 @@ fn kept_ops(alloc: Global, table: &Table, places: &[Place]) -> Result<Vec<Op>, N
     Ok(kept)
 }
 
-/// Puts what is kept of these clients behind the others.
+/// Puts what is kept of these clients after the others.
 fn push_all(
     alloc: Global,
     kept: &mut Vec<Op>,
@@ -173,7 +173,7 @@ fn push_all(
     Ok(())
 }
 
-/// Puts what is kept of the client behind the others.
+/// Puts what is kept of the client after the others.
 fn push_own(
     alloc: Global,
     kept: &mut Vec<Op>,
@@ -189,7 +189,7 @@ fn push_own(
     }
 }
 
-/// Puts what is kept of the client, which is this, behind the others.
+/// Puts what is kept of the client, which is this, after the others.
 fn push_row(
     alloc: Global,
     kept: &mut Vec<Op>,
@@ -204,7 +204,7 @@ fn push_row(
     Ok(())
 }
 
-/// Puts the client's session operations behind the others.
+/// Puts the client's session operations after the others.
 fn push_log(
     alloc: Global,
     kept: &mut Vec<Op>,
@@ -219,7 +219,7 @@ fn push_log(
     Ok(())
 }
 
-/// Puts a session operation of the client behind the others.
+/// Puts a session operation of the client after the others.
 fn push_session(
     alloc: Global,
     kept: &mut Vec<Op>,
@@ -240,7 +240,7 @@ fn push_session(
     Ok(())
 }
 
-/// Puts the messages that wait for the client behind the others.
+/// Puts the messages that wait for the client after the others.
 fn push_mail(
     alloc: Global,
     kept: &mut Vec<Op>,
@@ -255,7 +255,7 @@ fn push_mail(
     Ok(())
 }
 
-/// Puts a message of the client behind the others.
+/// Puts a message of the client after the others.
 fn push_put(alloc: Global, kept: &mut Vec<Op>, client: &ClientId, put: &Put) -> Result<(), NoMemory>
     ensures { OnOk result (kept.new.items ≡ kept.old.items ++ OfPut client.now put.now ∷ []) }
 {

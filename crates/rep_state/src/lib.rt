@@ -8,7 +8,7 @@
 //! A delta is taken in two steps. `prepare` tests it against what is kept, before it changes
 //! anything; works out what it makes of each client that it names; counts what the limits speak of;
 //! and makes places for new clients, and room for new messages and session operations. `commit`
-//! moves what was worked out into its places, or behind what is there, for which no memory is
+//! moves what was worked out into its places, or after what is there, for which no memory is
 //! needed.
 //!
 //! - `replica`: the replica and what it promises (`Folded`, `Staged`).

@@ -88,7 +88,7 @@ pub(crate) fn names(alloc: Global, places: &[Place]) -> Result<Vec<ClientId>, No
     Ok(names)
 }
 
-/// The client at a place, with its entry; nothing behind the last.
+/// The client at a place, with its entry; nothing after the last.
 pub(crate) fn client_at<'a>(
     table: &'a Table,
     places: &'a [Place],

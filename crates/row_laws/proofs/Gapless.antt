@@ -21,7 +21,7 @@ module _ (to : ℕ → Option SessionOp) where
   gapless-one x zero k e end lt = absurd (omega (arith, lt))
   gapless-one x (suc room) k e end lt = ap (λ o. then_more o (gapless to room (k + 1))) e ∙ ap (λ xs. x ∷ xs) (gapless-nothing room (k + 1) end)
 
-  -- n things stand without a gap from k on; one more is written behind them
+  -- n things stand without a gap from k on; one more is written after them
   pub gapless-more : (at : ℕ → Option SessionOp) (x : SessionOp) (room k n : ℕ) → length (gapless at room k) ≡ n → n < room → to (k + n) ≡ Some x → to (k + n + 1) ≡ None → ((j : ℕ) → ¬ (j ≡ k + n) → to j ≡ at j) → gapless to room k ≡ gapless at room k ++ x ∷ []
   unfolding gapless
   gapless-more at x zero k n l lt own end same = absurd (omega (arith, lt))

@@ -27,7 +27,7 @@ one_more-is n e h = elim (nat_lt (n + 1) (2 ^ 64)) as (λ b. (if b then Some (n 
 ] h
 
 -- of the set T the client's view has the stamp of that epoch, as many operations as the counter, this session; nothing stands
--- behind, and the next epoch is next
+-- after, and the next epoch is next
 pub record At (g : ℕ) (c : List ℕ) (T : List Op) (epoch counter : ℕ) (next : Option ℕ) (session : Session) : Type 0 where
   pub numbered : next ≡ next_epoch c T
   pub seen : visible c T ≡ Some (stamp_of epoch g)

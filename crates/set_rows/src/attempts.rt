@@ -19,7 +19,7 @@ pub(crate) enum Trial<'a> {
     Append(&'a Delta),
     /// A compaction that stops after so many octets.
     Compaction(&'a [Delta]),
-    /// The calls of a journal, of which one fails behind so many of its kind.
+    /// The calls of a journal, of which one fails after so many of its kind.
     Calls(OnceCall, &'a [Delta]),
 }
 
@@ -56,7 +56,7 @@ fn fault_text(alloc: Global, fault: JournalFault) -> Result<String, AllocError> 
     format!(in alloc; "refused {why}")
 }
 
-/// How many records an opening reads, and what their slot holds behind it.
+/// How many records an opening reads, and what their slot holds after it.
 fn opening_whole(alloc: Global, disk: MemoryDisk, gateway: u8) -> Result<String, Stop> {
     match calls::open(alloc, disk, gateway) {
         Ok((journal, deltas)) => {
@@ -85,7 +85,7 @@ fn read_text(alloc: Global, count: usize, slot: Slot, octets: &[u8]) -> Result<S
     format!(in alloc; "records {count} in {slot}, {octets}")
 }
 
-/// `openings GATEWAY SLOT`: an opening where each beginning of the octets stands behind what the
+/// `openings GATEWAY SLOT`: an opening where each beginning of the octets stands after what the
 /// slot has.
 pub(crate) fn openings(
     alloc: Global,
@@ -104,7 +104,7 @@ pub(crate) fn openings(
     Ok(finish(text, run)?)
 }
 
-/// The openings behind each beginning of the octets.
+/// The openings after each beginning of the octets.
 fn open_each(
     alloc: Global,
     text: &mut String,
@@ -121,7 +121,7 @@ fn open_each(
     Ok(())
 }
 
-/// An opening where octets stand behind what the slot has.
+/// An opening where octets stand after what the slot has.
 fn opening_behind(
     alloc: Global,
     held: &Held,
@@ -255,7 +255,7 @@ fn compact_on(
     }
 }
 
-/// What a write answered, which was to be refused, and an opening behind a crash that leaves all.
+/// What a write answered, which was to be refused, and an opening after a crash that leaves all.
 fn behind_crash(
     alloc: Global,
     mut disk: MemoryDisk,
@@ -272,7 +272,7 @@ fn behind_crash(
     }
 }
 
-/// The words of a refusal and of the opening behind it.
+/// The words of a refusal and of the opening after it.
 fn refused_and_found(
     alloc: Global,
     fault: JournalFault,

@@ -1,5 +1,5 @@
 //! Calls of the libraries. These functions say nothing of them: what a library promises would stay
-//! in view at each exit behind the call, and no row needs it.
+//! in view at each exit after the call, and no row needs it.
 
 use jr_journal::{Disk, Journal, JournalFault};
 use rep_model::{Replica, TakeFault};
@@ -12,7 +12,7 @@ pub(crate) fn read_frame(alloc: Global, datagram: &[u8]) -> Result<Frame, FrameF
     sn_frame::decode(alloc, datagram)
 }
 
-/// Puts the octets of a frame behind those that are there.
+/// Puts the octets of a frame after those that are there.
 pub(crate) fn write_frame(
     alloc: Global,
     frame: &Frame,
@@ -31,7 +31,7 @@ pub(crate) fn read_delta(alloc: Global, bytes: &[u8]) -> Result<Delta, OpsFault>
     Delta::decode(alloc, bytes)
 }
 
-/// Puts the octets of a delta behind those that are there.
+/// Puts the octets of a delta after those that are there.
 pub(crate) fn write_delta(alloc: Global, delta: &Delta, out: &mut Vec<u8>) -> Result<(), OpsFault> {
     delta.encode(alloc, out)
 }

@@ -2,7 +2,7 @@
 //! more.
 //!
 //! OCTETS are words of hexadecimal digits, in as many as is pleasant; `COUNTxDIGITS` are the octets
-//! of the digits, so often; a word behind an apostrophe, as `'t/a`, is the octets of its text, and
+//! of the digits, so often; a word after an apostrophe, as `'t/a`, is the octets of its text, and
 //! `-` is no octet. A KIND, a FILTER and a NAME are one such word.
 //!
 //! Datagrams:
@@ -11,8 +11,8 @@
 //!   written as; or the number and the words of the fault.
 //! - `with OCTETS ..`: the same of the frame that was read, with these octets in place of its
 //!   ClientId, GwAdd, WillTopic, WillMsg, TopicName or Data.
-//! - `types OCTETS ..`: what this body is behind each octet from 00 to ff in the place of MsgType.
-//! - `bodies KIND OCTETS ..`: what each beginning of this body is behind one octet in the place of
+//! - `types OCTETS ..`: what this body is after each octet from 00 to ff in the place of MsgType.
+//! - `bodies KIND OCTETS ..`: what each beginning of this body is after one octet in the place of
 //!   MsgType.
 //! - `beginnings OCTETS ..`: what each beginning of a datagram is.
 //!

@@ -56,7 +56,7 @@ pub(crate) fn none(alloc: Global, text: &mut String) -> Result<(), Stop> {
     Ok(print_delta(text, &Delta::empty(alloc))?)
 }
 
-/// `spell`: the octets of the delta of the operations stand behind those that are there.
+/// `spell`: the octets of the delta of the operations stand after those that are there.
 pub(crate) fn spelled(
     alloc: Global,
     text: &mut String,
@@ -69,7 +69,7 @@ pub(crate) fn spelled(
     }
 }
 
-/// Puts the octets of a delta behind those that are there.
+/// Puts the octets of a delta after those that are there.
 fn spell(alloc: Global, text: &mut String, delta: &Delta, out: &mut Vec<u8>) -> Result<(), Stop> {
     match calls::write_delta(alloc, delta, out) {
         Ok(()) => Ok(()),
@@ -220,7 +220,7 @@ pub(crate) fn set(alloc: Global, bytes: &mut Vec<u8>, fields: &[&str]) -> Result
     Ok(())
 }
 
-/// `fill COUNT`: octets of 0 stand behind, up to so many in all.
+/// `fill COUNT`: octets of 0 stand after, up to so many in all.
 pub(crate) fn fill(bytes: &mut Vec<u8>, fields: &[&str]) -> Result<(), Stop> {
     let [size] = fields else {
         return Err(Stop::Line);

@@ -52,7 +52,7 @@ pub(crate) fn slot(text: &str) -> Result<Slot, Stop> {
     }
 }
 
-/// Puts octets behind those of a slot, and makes them durable.
+/// Puts octets after those of a slot, and makes them durable.
 pub(crate) fn put(disk: &mut MemoryDisk, slot: Slot, bytes: &[u8]) -> Result<(), Stop> {
     if disk.append(slot, bytes).is_err() || disk.sync(slot).is_err() {
         return Err(Stop::Memory);
@@ -72,7 +72,7 @@ pub(crate) fn octets_of(alloc: Global, disk: &mut MemoryDisk, slot: Slot) -> Res
     Ok(octets)
 }
 
-/// `store SLOT`: the octets stand behind those of a slot, synced.
+/// `store SLOT`: the octets stand after those of a slot, synced.
 pub(crate) fn stored(store: &mut Store, bytes: &[u8], fields: &[&str]) -> Result<(), Stop> {
     let [name] = fields else {
         return Err(Stop::Line);

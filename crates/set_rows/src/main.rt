@@ -4,7 +4,7 @@
 //! The rows are played on both replicas, and a last line says that these print the same.
 //!
 //! A contract lets a call answer want of memory in place of almost anything; a row does not.
-//! Standard input holds rows, each behind a line `== NAME`; empty lines and those that begin with
+//! Standard input holds rows, each after a line `== NAME`; empty lines and those that begin with
 //! `#` are skipped. Each row begins with nothing: no operation, no octets, the empty session, an
 //! empty replica, an empty disk, no frame and no predefined id. The program prints each name, and
 //! below it what the lines of the row give; of a line that is none of these, `no such line` and the
@@ -54,11 +54,11 @@
 //!   operations.
 //! - `written`: the delta of the operations, and its octets, which stand in place of those that
 //!   were there.
-//! - `spell`: the octets of the delta of the operations stand behind those that are there; nothing
+//! - `spell`: the octets of the delta of the operations stand after those that are there; nothing
 //!   is printed.
 //! - `client NAME`: whether a client may have this name.
 //! - `octets OCTETS ..`, `behind OCTETS ..`: these octets; these stand behind those that are there.
-//! - `set AT HEX`, `fill COUNT`, `cut COUNT`: an octet is another; octets of 0 behind, up to so
+//! - `set AT HEX`, `fill COUNT`, `cut COUNT`: an octet is another; octets of 0 after, up to so
 //!   many; the first so many are left.
 //! - `print`, `size`: the octets; how many there are.
 //! - `read`, `count`: the delta that they spell; how many operations it has.
@@ -84,8 +84,8 @@
 //!
 //! The disk, and the journal on it; SLOT is `first` or `second`:
 //!
-//! - `store SLOT`: the octets stand behind those of a slot, synced.
-//! - `fail COUNT`, `fail sync`: the next append stops behind so many octets; or it goes out and its
+//! - `store SLOT`: the octets stand after those of a slot, synced.
+//! - `fail COUNT`, `fail sync`: the next append stops after so many octets; or it goes out and its
 //!   sync fails.
 //! - `crash COUNT`, `crash all`: of what is not synced so many octets of each slot are left, or
 //!   all.
@@ -98,17 +98,17 @@
 //! - `halted`: whether it has stopped, and whether memory was refused.
 //! - `place`: the slot that it writes.
 //! - `close`: the journal is closed.
-//! - `openings GATEWAY SLOT`: what is opened where each beginning of the octets stands behind what
+//! - `openings GATEWAY SLOT`: what is opened where each beginning of the octets stands after what
 //!   the slot has: the slot that is read, and its octets.
-//! - `appends GATEWAY COUNT`: what is opened behind an `append` that stops behind each number of
+//! - `appends GATEWAY COUNT`: what is opened after an `append` that stops after each number of
 //!   octets up to this one, and a crash that leaves these.
 //! - `compactions GATEWAY COUNT`: the same of a `compact`.
 //! - `retries GATEWAY CALL COUNT`: what an `open`, a `reopen` and a `compact` answer where one CALL
-//!   (`sync`, `cut` or `read`) fails behind each number of them up to this one.
+//!   (`sync`, `cut` or `read`) fails after each number of them up to this one.
 //!
 //! From `append` to `close` these want the journal open, all others closed. The last four try each
 //! place on a disk of its own, with what the row's disk has; neighbours that give the same share a
-//! line. With `retries` what is refused is tried once again, a compaction behind one more `reopen`;
+//! line. With `retries` what is refused is tried once again, a compaction after one more `reopen`;
 //! the line has the number of records that each opening reads, and those of an opening of what is
 //! left.
 //!
@@ -203,7 +203,7 @@ fn print_both(alloc: Global, lines: &[String]) -> Result<String, Stop> {
     Ok(folded)
 }
 
-/// Says behind what one replica prints whether the other prints the same; where not, what that is.
+/// Says after what one replica prints whether the other prints the same; where not, what that is.
 fn compare(folded: &mut String, plain: &str) -> Result<(), AllocError> {
     if folded.as_str() == plain {
         return folded.push_str("== both replicas\nno difference\n");

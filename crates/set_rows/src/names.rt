@@ -53,7 +53,7 @@ pub(crate) fn octets(alloc: Global, names: &Names, fields: &[&str]) -> Result<Ve
     Ok(octets)
 }
 
-/// Puts the octets of a field behind those that are there.
+/// Puts the octets of a field after those that are there.
 fn add_field(alloc: Global, names: &Names, octets: &mut Vec<u8>, field: &str) -> Result<(), Stop> {
     match found(names, field) {
         Some(named) => Ok(octets.extend_from_slice(named)?),

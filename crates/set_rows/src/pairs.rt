@@ -161,7 +161,7 @@ fn held<R: Replica>(alloc: Global, replica: &R) -> Result<Vec<u8>, Stop> {
     Ok(octets)
 }
 
-/// Puts the octets of deltas behind those that are there.
+/// Puts the octets of deltas after those that are there.
 fn add_deltas(alloc: Global, octets: &mut Vec<u8>, deltas: &[Delta]) -> Result<(), Stop> {
     for delta in deltas {
         if calls::write_delta(alloc, delta, octets).is_err() {

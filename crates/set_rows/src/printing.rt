@@ -7,7 +7,7 @@ use sn_session::{Outbound, Session, SessionOp, Will, WillTopic};
 use sn_tables::{QosLevel, Subscription, TopicEntry};
 use std::alloc::AllocError;
 
-/// The operations of a delta, behind a line with their number.
+/// The operations of a delta, after a line with their number.
 pub(crate) fn print_delta(text: &mut String, delta: &Delta) -> Result<(), AllocError> {
     if delta.is_empty() {
         return text.push_str("empty delta\n");
@@ -63,7 +63,7 @@ fn print_put(text: &mut String, put: &Put) -> Result<(), AllocError> {
     writeln!(text, "{origin}.{seq} {topic} {qos} {body}")
 }
 
-/// The rest of the line of a change; the lines of a session behind `take`.
+/// The rest of the line of a change; the lines of a session after `take`.
 fn print_change(text: &mut String, change: &SessionOp) -> Result<(), AllocError> {
     match change {
         SessionOp::Take(session) => {
@@ -89,18 +89,18 @@ fn print_change(text: &mut String, change: &SessionOp) -> Result<(), AllocError>
     }
 }
 
-/// A message id behind a word.
+/// A message id after a word.
 fn print_id(text: &mut String, what: &str, id: u16) -> Result<(), AllocError> {
     writeln!(text, "{what} {id}")
 }
 
-/// Octets as a word behind another.
+/// Octets as a word after another.
 fn print_word(text: &mut String, what: &str, octets: &[u8]) -> Result<(), AllocError> {
     let octets = Word(octets);
     writeln!(text, "{what} {octets}")
 }
 
-/// A topic id behind a word.
+/// A topic id after a word.
 fn print_topic(
     text: &mut String,
     what: &str,
@@ -113,7 +113,7 @@ fn print_topic(
     writeln!(text, "{what} {id} {name} {known}")
 }
 
-/// A filter behind a word.
+/// A filter after a word.
 fn print_filter(
     text: &mut String,
     what: &str,

@@ -111,7 +111,7 @@ fn print_copied(alloc: Global, text: &mut String, view: &ClientView) -> Result<(
     Ok(print_messages(text, &messages)?)
 }
 
-/// Messages, behind a line with their number.
+/// Messages, after a line with their number.
 fn print_messages(text: &mut String, messages: &Puts) -> Result<(), AllocError> {
     let (count, is_empty) = (messages.len(), messages.is_empty());
     writeln!(text, "messages {count}, none: {is_empty}")?;

@@ -21,7 +21,7 @@ fn call(text: &str) -> Result<OnceCall, Stop> {
 }
 
 /// `retries GATEWAY CALL COUNT`: the journal is opened, opened once more and compacted to the
-/// operations, where one call fails behind each number of calls of its kind up to this one; what is
+/// operations, where one call fails after each number of calls of its kind up to this one; what is
 /// refused is tried once again.
 pub(crate) fn retries(
     alloc: Global,
@@ -128,7 +128,7 @@ fn open(
     }
 }
 
-/// The opening behind one that was refused.
+/// The opening after one that was refused.
 fn open_again(
     alloc: Global,
     said: &mut String,

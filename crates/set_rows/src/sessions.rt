@@ -79,7 +79,7 @@ fn apply_line(
     apply(alloc, text, session, &words)
 }
 
-/// The words of a line, with a number behind each word that ends in its sign.
+/// The words of a line, with a number after each word that ends in its sign.
 fn numbered(alloc: Global, fields: &[&str], number: u16) -> Result<String, AllocError> {
     let mut line = String::new(alloc);
     for field in fields {
@@ -88,7 +88,7 @@ fn numbered(alloc: Global, fields: &[&str], number: u16) -> Result<String, Alloc
     Ok(line)
 }
 
-/// Adds a word to a line, with a number behind it where it ends in its sign.
+/// Adds a word to a line, with a number after it where it ends in its sign.
 fn add_word(line: &mut String, field: &str, number: u16) -> Result<(), AllocError> {
     if !line.is_empty() {
         line.push(' ')?;

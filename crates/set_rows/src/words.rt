@@ -6,7 +6,7 @@ use rep_ops::OpsFault;
 use sn_session::{Phase, Presence};
 use std::{fmt, str};
 
-/// Octets as a word: `-` for none, hexadecimal digits behind `0x` where they are no text.
+/// Octets as a word: `-` for none, hexadecimal digits after `0x` where they are no text.
 #[derive(Clone, Copy)]
 pub(crate) struct Word<'a>(pub &'a [u8]);
 

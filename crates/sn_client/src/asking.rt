@@ -175,7 +175,7 @@ fn unsubscribe(alloc: Global, topic: Topic<'_>, msg_id: u16) -> Result<Talk, NoM
     Ok(Talk::of(Some(frame), Awaited::Withdrawal { msg_id }))
 }
 
-/// A publication (sections 6.6 and 6.8), behind a registration where the topic's name stands in
+/// A publication (sections 6.6 and 6.8), after a registration where the topic's name stands in
 /// full (section 6.5).
 fn publish(
     alloc: Global,

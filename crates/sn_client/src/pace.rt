@@ -9,7 +9,7 @@ use crate::talk::Talk;
 /// section 6.13, shortened for a person).
 const RETRY: u64 = 1000;
 
-/// How many milliseconds of silence end a run that has its answer: what the gateway sends behind it
+/// How many milliseconds of silence end a run that has its answer: what the gateway sends after it
 /// still comes.
 const SILENCE: u64 = 300;
 

@@ -86,7 +86,7 @@ struct Run {
     talk: Talk,
     pace: Pace,
     hex: bool,
-    /// Whether a command follows this exchange, which hears what comes behind the answer.
+    /// Whether a command follows this exchange, which hears what comes after the answer.
     is_followed: bool,
 }
 
@@ -106,7 +106,7 @@ fn millis(duration: Duration) -> u64 {
     u64::try_from(duration.as_millis()).unwrap_or(u64::MAX)
 }
 
-/// What the settings ask for, behind a connection where they ask for one.
+/// What the settings ask for, after a connection where they ask for one.
 pub(crate) fn converse<R: Net + Clock + Print + AllocGlobal>(
     rt: &R,
     settings: &Settings<'_>,
@@ -153,7 +153,7 @@ fn talk_of<R: Clock + AllocGlobal>(
 }
 
 impl Run {
-    /// The command that was asked for, behind a connection where one is asked for.
+    /// The command that was asked for, after a connection where one is asked for.
     fn carry_out<R: Clock + Print + AllocGlobal>(
         &mut self,
         rt: &R,
@@ -207,7 +207,7 @@ impl Run {
     }
 
     /// Whether the exchange is over. One that is followed by another is over with its answer: what
-    /// comes behind that is heard there.
+    /// comes after that is heard there.
     fn is_over(&self, moment: u64) -> bool {
         if self.is_followed && self.talk.outcome.is_some() {
             return true;

@@ -122,7 +122,7 @@ impl Publication {
     }
 }
 
-/// What is awaited behind a publication.
+/// What is awaited after a publication.
 pub(crate) fn awaited_at(qos: Qos, msg_id: u16) -> Awaited
     ensures { result ≡ spec.awaited_at qos msg_id }
 {
@@ -183,7 +183,7 @@ impl Talk {
         }
     }
 
-    /// An exchange that is a publication behind the registration of its topic's name (section 6.5).
+    /// An exchange that is a publication after the registration of its topic's name (section 6.5).
     pub(crate) fn registering(publication: Publication, name: Octets, msg_id: u16) -> Talk
         ensures { result ≡ exchanges.registering publication name msg_id }
     {

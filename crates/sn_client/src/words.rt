@@ -205,7 +205,7 @@ fn word<'a>(matches: &ArgMatches<'a>, id: &str) -> Result<&'a str, Unread> {
     }
 }
 
-/// The command and what stands behind it.
+/// The command and what stands after it.
 fn asked<'a>(alloc: Global, name: &str, matches: &ArgMatches<'a>) -> Result<Command<'a>, Unread> {
     match name {
         "search" => Ok(Command::Search),

@@ -67,7 +67,7 @@ full =
       seq = λ c g. Some 1;
     }
 
--- the next operation goes under a new stamp, behind a Take of the session so far, in the same delta
+-- the next operation goes under a new stamp, after a Take of the session so far, in the same delta
 rolls_over : plan_of_row 1 full (disconnect full bound_seven seven (Some 300) 1)
     ≡ Some (record {
       ops = OfSession s1 (record { epoch = 2; gateway = 1 }) 0 (Take session_of_s1) ∷ OfSession s1 (record { epoch = 2; gateway = 1 }) 1 (Presence Asleep 300) ∷ [];

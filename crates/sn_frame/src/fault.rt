@@ -25,7 +25,7 @@ pub enum FrameFault {
     /// MsgType is none that MQTT-SN 1.2 section 5.2.2 lists.
     #[error("MsgType {value:02x} is no message of MQTT-SN 1.2")]
     UnknownType { value: u8 },
-    /// The octets behind MsgType are too few or too many for the message.
+    /// The octets after MsgType are too few or too many for the message.
     #[error("the octets behind MsgType have a size that this message does not allow")]
     Body,
     /// A copy of the message's octets could not be made.

@@ -42,7 +42,7 @@ pub by_some : {X : Type 0} (a : Option X) → (is_some a ≡ true → ⊥) → a
 by_some None f = refl
 by_some (Some x) f = absurd (f refl)
 
--- nothing is put behind: the client's operations stay
+-- nothing is put after: the client's operations stay
 pub operations-same : (c : List ℕ) (A B : List Op) → operations c B ≡ [] → operations c (A ++ B) ≡ operations c A
 operations-same c A B e = filter_map-append (operation_of c) A B ∙ ap (λ es. operations c A ++ es) e ∙ append-nil (operations c A)
 

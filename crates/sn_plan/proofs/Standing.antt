@@ -1,4 +1,4 @@
--- Operations under fresh names stand in the set that they are put behind, and contradict nothing.
+-- Operations under fresh names stand in the set that they are put after, and contradict nothing.
 use Rattle.std.proofs.Common.{◌≡◌, ℕ, ◌==◌, Bool, true, false, cond, not, ◌&&◌, ◌||◌, if◌then◌else◌, nat_le, List, [], ◌∷◌, ◌++◌, Option, Some, None, is_some, IfSome, refl, sym, ap, ◌∙◌, subst, true≢false, append_assoc, eq-eqb, le-leb}
 use Rattle.std.specs.List.{AllByRecursion, cons_option}
 use Rattle.std.specs.FinMap.{find}

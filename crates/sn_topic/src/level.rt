@@ -52,7 +52,7 @@ fn slash_at(octets: &[u8]) -> Option<usize>
     octets.iter().position(|octet| *octet == b'/')
 }
 
-/// The first level of a topic, and what stands behind the slash that ends it.
+/// The first level of a topic, and what stands after the slash that ends it.
 pub fn first_level(octets: &[u8]) -> (&[u8], Option<&[u8]>)
     ensures { MatchOption result.1 (levels octets.now ≡ result.0.now ∷ [])
         (λ rest. (length rest.now < length octets.now)

@@ -1,5 +1,5 @@
 //! Keys of the settings that mean nothing where they stand: they are ignored, and that is told. A
-//! key behind `[[predefined]]` belongs to that entry, and so `peers` there would be no peers.
+//! key after `[[predefined]]` belongs to that entry, and so `peers` there would be no peers.
 
 use gw_main::Key;
 use std::alloc::Global;

@@ -4,7 +4,7 @@
 //! threads serve datagrams, the clock ticks, and the links to other gateways talk. When a shift is
 //! over the history of its calls and what its threads hold of it are compared, the gateway is
 //! tended, and the next one begins. A gateway whose disk has failed is opened anew in place, by the
-//! clock in the shift or by tending behind it, which also writes its journal anew without what no
+//! clock in the shift or by tending after it, which also writes its journal anew without what no
 //! longer counts. The program may be stopped at any moment: what it answered for is on its disk.
 //!
 //! Where it ends early the last line on standard error says why, and where a file is the cause the

@@ -20,7 +20,7 @@ use std::thread;
 use std::thread::Threads;
 use std::time::Clock;
 
-/// Works so many shifts. The sockets are open from before the first to behind the last.
+/// Works so many shifts. The sockets are open from before the first to after the last.
 pub(crate) fn run<T, R, D>(
     rt: &T,
     alloc: Global,
@@ -169,7 +169,7 @@ where
     Ok(())
 }
 
-/// Tends the gateway behind a shift.
+/// Tends the gateway after a shift.
 fn tend_behind<T, R, D, S>(
     rt: &T,
     alloc: Global,

@@ -6,7 +6,7 @@ ghost use Rattle.sngw.specs.inner.Stopping.{status_of};
 use gw_main::Key;
 use thiserror::Error;
 
-/// Why the program ends early. What it prints of that stands behind `sngw: `.
+/// Why the program ends early. What it prints of that stands after `sngw: `.
 #[derive(Clone, Copy, Debug, PartialEq, Eq, Error)]
 pub enum Stop {
     /// The command line does not parse.

@@ -10,7 +10,7 @@ use std::sync::Wait;
 
 /// A wire that fails when its shift is to close, and closes it when all its calls are claimed. What
 /// comes is a call's, which is claimed for it and given back where it is dropped; what comes when
-/// none is left is the first datagram of the next shift, and what comes behind that waits in the
+/// none is left is the first datagram of the next shift, and what comes after that waits in the
 /// socket.
 #[derive(Drop)]
 pub struct Watched<'a, T: Wait, W: Wire> {

@@ -371,7 +371,7 @@ fn tended_in(ticking: &[Option<Seat>]) -> Tended {
 }
 
 /// Takes the passes from their seats, unless one was left for a cause that ends the program. That
-/// the gateway is halted, and refused to be opened anew, is none: that is tried once more behind
+/// the gateway is halted, and refused to be opened anew, is none: that is tried once more after
 /// the shift.
 fn gather(passes: &mut Vec<Pass>, seats: Vec<Option<Seat>>) -> Result<(), Stop> {
     for slot in seats {

@@ -29,7 +29,7 @@ use Rattle.step_laws.proofs.Keeping.{delivery-rests}
 
 -- ---- Delivery only adds changes
 
--- the second draft has the changes of the first, and more behind them
+-- the second draft has the changes of the first, and more after them
 abbrev Adds : Drafted → Drafted → Type 0
 Adds d e = (more : List SessionOp) × (e.changes ≡ d.changes ++ more)
 

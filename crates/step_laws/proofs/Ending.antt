@@ -178,7 +178,7 @@ module _ (g advertise : ℕ) (field : List Addr) (predefined : Entries) (now : �
       by_cases flush plan delta same (may_advertise advertise field now local.advertised) refl (first_due g (seen_of S) local now (clients S))
       (first-found g (seen_of S) local now (clients S)) e
 
-  -- where nothing is to be done, nothing is to be done behind the tick either
+  -- where nothing is to be done, nothing is to be done after the tick either
   nothing_left : (plan : Plan) (delta : List Op) → Same delta plan.ops → may_advertise advertise field now local.advertised ≡ false → first_due g (seen_of S) local now (clients S) ≡ None
       → tick g advertise field predefined (seen_of S) local now ≡ Some plan → does_something g advertise field (seen_of (S ++ delta)) (after_all local plan.local) now ≡ false
   nothing_left plan delta same no_time no_client e =
@@ -290,14 +290,14 @@ module _ (g advertise : ℕ) (field : List Addr) (predefined : Entries) (now : �
       let parts = or_parts (may_advertise advertise field now local.advertised) (is_some (first_due g (seen_of S) local now (clients S))) quiet in
       nothing_left g advertise field predefined now S local plan delta same parts.0 (none_found (first_due g (seen_of S) local now (clients S)) parts.1) e
 
-  -- once there is nothing to do, there is nothing to do behind more ticks
+  -- once there is nothing to do, there is nothing to do after more ticks
   pub ticks-rest : (S : List Op) (local : Local) (ticks : List Ticked) → AreTicks g advertise field predefined now S local ticks → does_something g advertise field (seen_of S) local now ≡ false
       → does_something g advertise field (seen_of (set_behind S ticks)) (local_behind local ticks) now ≡ false
   ticks-rest S local [] h quiet = quiet
   ticks-rest S local (t ∷ rest) h quiet =
       ticks-rest (S ++ t.delta) (after_all local t.plan.local) rest h.2 (one_rests S local t.plan t.delta quiet h.0 h.1)
 
-  -- where there is something to do behind them, all of them did something
+  -- where there is something to do after them, all of them did something
   all_busy : (S : List Op) (local : Local) (ticks : List Ticked) → AreTicks g advertise field predefined now S local ticks
       → does_something g advertise field (seen_of (set_behind S ticks)) (local_behind local ticks) now ≡ true → length ticks ≤ busy g advertise field now S local ticks
   all_busy S local [] h is = omega arith

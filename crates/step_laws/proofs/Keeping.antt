@@ -128,7 +128,7 @@ tick-quiet g advertise field predefined seen local now no_advertise no_client = 
 
 -- ---- Delivery
 
--- the messages that are acknowledged behind a message, and those that were before
+-- the messages that are acknowledged after a message, and those that were before
 abbrev Kept : Entries → Peer → Session → List Put → Drafted → List Send → ℕ × ℕ → Type 0
 Kept predefined peer s pending d sends name = Contains d.acks name ⊎ IsOfOneDone predefined peer s pending sends name
 

@@ -191,7 +191,7 @@ module _ (g advertise : ℕ) (field : List Addr) (now : ℕ) where
         (times local) (times then_local)
         (count-most (is_up_in S) (is_up_in after) up (clients S)) (count-most (is_due_in S local) (is_due_in after then_local) due (clients S)) (times_same told))
 
--- ---- a set with equal operations behind it
+-- ---- a set with equal operations after it
 
 pub view-behind : (S ops delta : List Op) → Same delta ops → (c : List ℕ) → view c (S ++ delta) ≡ view c (S ++ ops)
 view-behind S ops delta same c = view-thin (S ++ delta) (S ++ ops) (thin-same (S ++ delta) (S ++ ops) (same-behind S ops delta same)) c

@@ -1,4 +1,4 @@
--- The messages that wait for a client: under names that are all different, and which of them are left behind acknowledgements.
+-- The messages that wait for a client: under names that are all different, and which of them are left after acknowledgements.
 use Rattle.std.proofs.Common.{◌≡◌, ℕ, Bool, true, false, cond, not, ◌&&◌, ◌==◌, T, if◌then◌else◌, List, [], ◌∷◌, filter, map, Some, None, refl, sym, ap, ◌∙◌, subst, Less, Equal, Greater, is_lt, eqb-true}
 use Rattle.std.specs.List.{cons_option, AllByRecursion}
 use Rattle.std.specs.FinMap.{find}

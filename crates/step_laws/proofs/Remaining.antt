@@ -56,7 +56,7 @@ all_left name [] h = refl
 all_left name (put ∷ rest) h =
     ap (λ t. cond t (put ∷ left (name ∷ []) rest) (left (name ∷ []) rest)) (one_left name put ∙ ap not h.0) ∙ ap (λ xs. put ∷ xs) (all_left name rest h.1)
 
--- behind the first message the others are left
+-- after the first message the others are left
 pub rest_left : (put : Put) (rest : List Put) → AreApart (put ∷ rest) → left (name_of put ∷ []) (put ∷ rest) ≡ rest
 rest_left put rest apart =
     ap (λ t. cond t (put ∷ left (name_of put ∷ []) rest) (left (name_of put ∷ []) rest)) (one_left (name_of put) put ∙ ap not (same_name-itself (name_of put)))

@@ -44,7 +44,7 @@ use Rattle.step_laws.proofs.Remaining.{left-none, next_left, opens, closed, name
 
 -- ---- Delivery
 
--- with the client nothing is due behind the draft
+-- with the client nothing is due after the draft
 abbrev Settled : Peer → Session → List Put → List Timer → Drafted → Type 0
 Settled peer s pending timers e =
     (b : Option Addr) → due_session peer.moment (left e.acks pending) (timer_of peer.client (timers_after timers e.local)) b (Some (fold applied s e.changes)) ≡ None

@@ -85,7 +85,7 @@ will_named S c None = tt
 will_named S c (Some will) =
     among_named S will.topic will.qos will.message (filter (is_another c) (clients S)) (filter_all (λ c. is_named c S ≡ true) (is_another c) (clients S) (all_named S))
 
--- ---- sessions behind a plan
+-- ---- sessions after a plan
 
 changed_session : (s : Session) (changes : List SessionOp) → session_with (Some s) changes ≡ Some (fold applied s changes)
 changed_session s [] = refl
@@ -174,7 +174,7 @@ module _ (g advertise : ℕ) (field : List Addr) (now : ℕ) (c : List ℕ) (S :
 
 module _ (g advertise : ℕ) (field : List Addr) (predefined : Entries) (now : ℕ) (S : List Op) (local : Local) (d : Drafted) (clean : IsClean now local d)
     (c : List ℕ) (among : IsAmong c (clients S)) (flush : IsFlush g c S) where
-  -- what was due is due behind what a tick does first
+  -- what was due is due after what a tick does first
   due_yet : (reason : Due) → (due : IsDue g now local c (view c S) reason)
       → due_after now c (session_of (seen_of S) c) (view c S).pending local.timers (address_of c local.bindings) d ≡ Some reason
   due_yet reason due =

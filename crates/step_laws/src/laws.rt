@@ -68,9 +68,9 @@ pub fn tick_settles()
 {}
 
 /// Ticks of one moment come to an end. Where the set of a gateway is flush and has n clients, at
-/// most (n + 1) * (n + 1) ticks of one moment do something, however many there are; so behind that
+/// most (n + 1) * (n + 1) ticks of one moment do something, however many there are; so after that
 /// many, those that are refused not counted, there is nothing to do. Once there is nothing to do,
-/// there is nothing to do behind more ticks of the moment, and nothing is due with any client.
+/// there is nothing to do after more ticks of the moment, and nothing is due with any client.
 pub fn ticks_end()
     ensures bound { (g advertise : ℕ) (field : List Addr) (predefined : Entries) (now : ℕ)
         (S : List Op) (local : Local) (ticks : List Ticked) → AreFlush g S

@@ -125,7 +125,7 @@ where
     )
 }
 
-/// Sends both, the second behind the answer to the first, which is handed back.
+/// Sends both, the second after the answer to the first, which is handed back.
 fn ask_both(
     alloc: Global,
     socket: &UdpSocket,

@@ -1,6 +1,6 @@
 //! Worked rows of serving, of a socket, of settings, of files and of links: what no clause says.
 //!
-//! Standard input holds rows, each behind a line `== NAME`; empty lines and those that begin with
+//! Standard input holds rows, each after a line `== NAME`; empty lines and those that begin with
 //! `#` are skipped. The program prints each name, and below it what the lines of the row give; of a
 //! line that is none of these, `no such line` and the line. Numbers are decimal, octets are
 //! hexadecimal digits in one word.
@@ -29,11 +29,11 @@
 //! - `datagram HOST MOMENT OCTETS`: a datagram comes, from port 1 of a host.
 //! - `failure`: a receive fails.
 //!
-//! Serving, in a shift of the gateway that is open, which goes on behind it:
+//! Serving, in a shift of the gateway that is open, which goes on after it:
 //!
 //! - `serve`: serves what comes.
 //! - `loopback FIRST SECOND`: serves a socket of this machine, to which somebody sends the first
-//!   datagram and, behind its answer, the second.
+//!   datagram and, after its answer, the second.
 //!
 //! Of serving is printed how it ended, with how many passes; for each datagram what was asked of
 //! the outside, in its order, and how many things in all; what became of it, as its call stands in

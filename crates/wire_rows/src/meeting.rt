@@ -89,7 +89,7 @@ pub(crate) fn read_deed(alloc: Global, words: &[&str]) -> Result<Deed, Stop> {
     }
 }
 
-/// What a word and the fields behind the gateway say.
+/// What a word and the fields after the gateway say.
 fn read_act(alloc: Global, word: &str, fields: &[&str]) -> Result<Act, Stop> {
     match (word, fields) {
         ("talk", []) => Ok(Act::Talk),
@@ -177,7 +177,7 @@ fn join<'a, T: Wait>(
     put_last(dialled, other)
 }
 
-/// Puts an end of a link behind the others of a gateway.
+/// Puts an end of a link after the others of a gateway.
 fn put_last<'a, T: Wait>(side: &mut Side<'a, T>, tie: Tie<'a, T>) -> Result<(), Stop> {
     match side.ties.push_back(tie) {
         Ok(()) => Ok(()),

@@ -52,7 +52,7 @@ fn print_needed(text: &mut String, read: &Settings) -> Result<(), AllocError> {
     text.push('\n')
 }
 
-/// An address behind a word.
+/// An address after a word.
 fn print_address(text: &mut String, word: &str, at: Addr) -> Result<(), AllocError> {
     let at = address(at);
     write!(text, " {word} {at}")
@@ -75,7 +75,7 @@ fn print_others(text: &mut String, read: &Settings) -> Result<(), AllocError> {
     text.push('\n')
 }
 
-/// Addresses, each behind a word.
+/// Addresses, each after a word.
 fn print_addresses(text: &mut String, word: &str, all: &[Addr]) -> Result<(), AllocError> {
     for at in all {
         print_address(text, word, *at)?;

@@ -328,7 +328,7 @@ fn print_finished(
     print_over(alloc, text, over)
 }
 
-/// `loopback FIRST SECOND`: serves what comes over a socket: a datagram, and behind its answer
+/// `loopback FIRST SECOND`: serves what comes over a socket: a datagram, and after its answer
 /// another one.
 fn play_loopback<T: Threads + Wait + Sync + Clock + Net>(
     rt: &T,

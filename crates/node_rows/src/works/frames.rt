@@ -52,7 +52,7 @@ fn read(alloc: Global, datagram: &[u8]) -> Result<Frame, Stop> {
     }
 }
 
-/// Puts the octets of a frame behind those that are there.
+/// Puts the octets of a frame after those that are there.
 fn write(alloc: Global, frame: &Frame, out: &mut Vec<u8>) -> Result<(), Stop> {
     match encode(alloc, frame, out) {
         Ok(()) => Ok(()),

@@ -50,7 +50,7 @@ fn are_all_apart(origins: &[OriginEntry]) -> bool
     origins.iter().all(|origin| is_apart(origin))
 }
 
-/// Whether an entry may stand behind these.
+/// Whether an entry may stand after these.
 pub fn may_follow(entries: &[ClientEntry], entry: &ClientEntry) -> bool
     ensures { result ≡ spec.may_follow entries.now entry.now }
 {

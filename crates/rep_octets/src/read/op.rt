@@ -12,7 +12,7 @@ use super::session::read_change;
 use rep_op::{Op, OpsFault, Put, Stamp};
 use std::alloc::Global;
 
-/// The session operation behind its kind.
+/// The session operation after its kind.
 #[tactic(auto, unfolding(crate::specs::Reading::session_op_at))]
 fn read_session_op(alloc: Global, bytes: &[u8]) -> Result<(Op, &[u8]), OpsFault>
     ensures { Gives (λ x. (x.0, x.1.now)) result (session_op_at bytes.now) }
@@ -31,7 +31,7 @@ fn read_session_op(alloc: Global, bytes: &[u8]) -> Result<(Op, &[u8]), OpsFault>
     Ok((op, rest))
 }
 
-/// The put behind its kind.
+/// The put after its kind.
 #[tactic(auto, unfolding(crate::specs::Reading::put_op_at, crate::specs::Reading::qos_at))]
 fn read_put(alloc: Global, bytes: &[u8]) -> Result<(Op, &[u8]), OpsFault>
     ensures { Gives (λ x. (x.0, x.1.now)) result (put_op_at bytes.now) }
@@ -66,7 +66,7 @@ fn read_range(bytes: &[u8]) -> Result<((u64, u64), &[u8]), OpsFault>
     Ok(((first, last), rest))
 }
 
-/// The acknowledgements behind their kind.
+/// The acknowledgements after their kind.
 #[tactic(auto, unfolding(crate::specs::Reading::ack_at))]
 fn read_ack(alloc: Global, bytes: &[u8]) -> Result<(Op, &[u8]), OpsFault>
     ensures { Gives (λ x. (x.0, x.1.now)) result (ack_at bytes.now) }

@@ -4,7 +4,7 @@ use crate::fields::{count, digits};
 use crate::stop::Stop;
 use std::alloc::Global;
 
-/// The octets that fields write, one behind the other.
+/// The octets that fields write, one after the other.
 pub(crate) fn octets(alloc: Global, fields: &[&str]) -> Result<Vec<u8>, Stop> {
     let mut octets = Vec::new(alloc);
     for field in fields {
@@ -14,8 +14,8 @@ pub(crate) fn octets(alloc: Global, fields: &[&str]) -> Result<Vec<u8>, Stop> {
     Ok(octets)
 }
 
-/// The octets that a field writes: `-` for none, a text behind an apostrophe, hexadecimal digits,
-/// or these behind how often they stand.
+/// The octets that a field writes: `-` for none, a text after an apostrophe, hexadecimal digits,
+/// or these after how often they stand.
 pub(crate) fn field_octets(alloc: Global, field: &str) -> Result<Vec<u8>, Stop> {
     if field == "-" {
         return Ok(Vec::new(alloc));

@@ -10,7 +10,7 @@ use octets::Octets;
 use sn_frame::{Frame, FrameFault, Will};
 use std::alloc::Global;
 
-/// The most octets of a body behind a Length of one octet (MQTT-SN 1.2 section 5.2.1).
+/// The most octets of a body after a Length of one octet (MQTT-SN 1.2 section 5.2.1).
 const SHORT_BODY: usize = 253;
 
 /// `frame OCTETS ..`: the frame that a datagram spells.
@@ -156,7 +156,7 @@ fn brief_fault(alloc: Global, fault: FrameFault) -> Result<String, Stop> {
     Ok(format!(in alloc; "refused {number}")?)
 }
 
-/// What an octet in the place of MsgType and a body are; behind it what they are with a Length of
+/// What an octet in the place of MsgType and a body are; after it what they are with a Length of
 /// three octets, where that is something else.
 fn both_forms(alloc: Global, kind: u8, body: &[u8]) -> Result<String, Stop> {
     if body.len() > SHORT_BODY {
@@ -193,7 +193,7 @@ fn changed(text: &mut String, before: String, place: &str, said: String) -> Resu
     Ok(said)
 }
 
-/// `types OCTETS ..`: what this body is behind each octet in the place of MsgType.
+/// `types OCTETS ..`: what this body is after each octet in the place of MsgType.
 pub(crate) fn types(alloc: Global, text: &mut String, fields: &[&str]) -> Result<(), Stop> {
     let given = octets(alloc, fields)?;
     let body = given.as_slice();
@@ -206,7 +206,7 @@ pub(crate) fn types(alloc: Global, text: &mut String, fields: &[&str]) -> Result
     Ok(())
 }
 
-/// `bodies KIND OCTETS ..`: what each beginning of this body is behind an octet in the place of
+/// `bodies KIND OCTETS ..`: what each beginning of this body is after an octet in the place of
 /// MsgType.
 pub(crate) fn bodies(alloc: Global, text: &mut String, fields: &[&str]) -> Result<(), Stop> {
     let [kind, rest @ ..] = fields else {

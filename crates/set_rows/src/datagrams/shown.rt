@@ -12,7 +12,7 @@ const LONGEST_TEXT: usize = 32;
 #[derive(Clone, Copy)]
 pub(crate) struct Digits<'a>(pub &'a [u8]);
 
-/// Octets as a text behind an apostrophe where that shows them, else in hexadecimal digits.
+/// Octets as a text after an apostrophe where that shows them, else in hexadecimal digits.
 #[derive(Clone, Copy)]
 pub(crate) struct Text<'a>(pub &'a [u8]);
 

@@ -13,7 +13,7 @@ static OF_OTHERS: [&str; 3] = ["0", "1", "2"];
 /// What help says of `--qos`.
 const QOS: &str = "The quality of service";
 
-/// What help says behind the options.
+/// What help says after the options.
 const AFTER: &str =
     "The session is at the gateway and belongs to the client's address: so all runs of one client have one port.
 A client that sleeps may wake at another gateway of the field.

@@ -12,10 +12,10 @@ use crate::frame::{Frame, MAX_FRAME};
 use crate::msg_type::MsgType;
 use std::alloc::AllocError;
 
-/// The most octets that a body behind a Length of one octet has.
+/// The most octets that a body after a Length of one octet has.
 const SHORT_BODY: usize = 253;
 
-/// The most octets that a body behind a Length of three octets has.
+/// The most octets that a body after a Length of three octets has.
 const LONG_BODY: usize = MAX_FRAME - 4;
 
 /// Which message a frame is.
