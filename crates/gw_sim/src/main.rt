@@ -11,7 +11,7 @@
 //!
 //! - `words`: the words of the command line.
 //! - `rows`: many scripts in one text.
-//! - `stop`: why these are not played.
+//! - `stop`: why nothing is played.
 #![tactic(auto)]
 
 mod rows;
@@ -19,6 +19,7 @@ mod stop;
 mod words;
 
 use crate::rows::play_rows;
+use crate::stop::Stop;
 use crate::words::{Asked, Options, read_words};
 use gw_play::{Counted, Held, play, play_with};
 use gw_random::{Report, random_run};
@@ -26,7 +27,7 @@ use rep_model::Replica;
 use rep_plain::Plain;
 use std::alloc::Global;
 use std::env::Env;
-use std::io::Write;
+use std::io::{ErrorKind, Write};
 use std::process::ExitCode;
 use std::{env, io};
 
@@ -35,38 +36,36 @@ fn main(rt: HostRuntime) -> ExitCode {
     let errors = rt.stderr();
     let mut out = io::writer(&rt);
     let mut err = io::writer(&errors);
-    let asked = match given(&rt, alloc) {
-        Some(words) => read_words(alloc, words.as_slice()),
-        None => None,
-    };
-    let status = match asked {
-        None => {
-            let _ = writeln!(&mut err, "gw_sim: arguments");
+    let status = match asked(&rt, alloc) {
+        Err(stop) => {
+            let _ = writeln!(&mut err, "gw_sim: {stop}");
             1
         }
-        Some(Asked::Script { plain: false }) => {
+        Ok(Asked::Script { plain: false }) => {
             play(alloc, &mut Counted::new(rt.reader()), &mut out)
         }
-        Some(Asked::Script { plain: true }) => {
+        Ok(Asked::Script { plain: true }) => {
             play_with::<Plain, _, _>(alloc, &mut Counted::new(rt.reader()), &mut out)
         }
-        Some(Asked::Rows) => {
-            play_rows(alloc, &mut Counted::new(rt.reader()), &mut out, &mut err)
-        }
-        Some(Asked::Random { plain, options }) => {
-            invent(alloc, plain, options, &mut out, &mut err)
-        }
+        Ok(Asked::Rows) => play_rows(alloc, &mut Counted::new(rt.reader()), &mut out, &mut err),
+        Ok(Asked::Random { plain, options }) => invent(alloc, plain, options, &mut out, &mut err),
     };
     ExitCode::from(status)
 }
 
+/// What the command line asks for.
+fn asked<T: Env>(rt: &T, alloc: Global) -> Result<Asked, Stop> {
+    let words = given(rt, alloc)?;
+    read_words(alloc, words.as_slice())
+}
+
 /// The words of the command line, the program's name first.
-fn given<T: Env>(rt: &T, alloc: Global) -> Option<Vec<String>> {
-    let mut words = Vec::new(alloc);
-    for word in env::args(&(rt, alloc)).ok()? {
-        words.push(word).ok()?;
+fn given<T: Env>(rt: &T, alloc: Global) -> Result<Vec<String>, Stop> {
+    match env::args(&(rt, alloc)) {
+        Ok(words) => Ok(words.collect(alloc)?),
+        Err(error) if error.kind() == ErrorKind::OutOfMemory => Err(Stop::Memory),
+        Err(_) => Err(Stop::Words),
     }
-    Some(words)
 }
 
 /// Plays random scripts, and prints what came of them. The exit status is 0 where none differs from

@@ -1,4 +1,4 @@
-//! Why scripts of a text are not played.
+//! Why nothing is played.
 
 use gw_play::ReadFault;
 use gw_random::RandomFault;
@@ -6,9 +6,12 @@ use std::alloc::AllocError;
 use std::io;
 use thiserror::Error;
 
-/// Why scripts of a text are not played.
+/// Why nothing is played.
 #[derive(Clone, Copy, Debug, Error)]
 pub(crate) enum Stop {
+    /// The words of the command line do not parse, `--help` among them.
+    #[error("arguments")]
+    Words,
     /// The text cannot be read.
     #[error("{0}")]
     Read(ReadFault),

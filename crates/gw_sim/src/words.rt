@@ -1,6 +1,8 @@
 //! The words of the command line.
 
-use clap::{Arg, ArgAction, ArgMatches, Command};
+use crate::stop::Stop;
+use clap::error::ErrorKind;
+use clap::{Arg, ArgAction, ArgMatches, Command, Error};
 use std::alloc::{AllocError, Global};
 
 /// What was asked for.
@@ -25,16 +27,26 @@ pub struct Options {
     pub gateways: u8,
 }
 
-/// Reads the words, the program's name first. Nothing where they do not parse, `--help` among them,
-/// or where memory ran out.
-pub(crate) fn read_words(alloc: Global, words: &[String]) -> Option<Asked> {
+/// Reads the words, the program's name first.
+pub(crate) fn read_words(alloc: Global, words: &[String]) -> Result<Asked, Stop> {
     let matches = matched(alloc, words)?;
-    Some(ask_for(&matches))
+    Ok(ask_for(&matches))
 }
 
 /// The words, matched with the command line.
-fn matched<'a>(alloc: Global, words: &'a [String]) -> Option<ArgMatches<'a>> {
-    command_line(alloc).ok()?.try_get_matches_from(words).ok()
+fn matched<'a>(alloc: Global, words: &'a [String]) -> Result<ArgMatches<'a>, Stop> {
+    match command_line(alloc)?.try_get_matches_from(words) {
+        Ok(matches) => Ok(matches),
+        Err(error) => Err(reason(&error)),
+    }
+}
+
+/// Why words are not matched.
+fn reason(error: &Error) -> Stop {
+    match error.kind() {
+        ErrorKind::OutOfMemory => Stop::Memory,
+        _ => Stop::Words,
+    }
 }
 
 /// The command line that the program reads.

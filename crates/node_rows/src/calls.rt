@@ -4,13 +4,13 @@ use crate::fields::{client, number};
 use crate::gateways::address;
 use crate::names::{Names, octets};
 use crate::printing::print_answer;
-use crate::stop::Stop;
+use crate::stop::{Stop, check_memory};
 use gw_node::{Answer, Node, Step};
 use jr_journal::MemoryDisk;
 use octets::Octets;
 use rep_model::Replica;
 use rep_ops::{Delta, OpsFault};
-use std::alloc::{AllocError, Global};
+use std::alloc::Global;
 
 /// The call that a line says.
 pub(crate) fn step(alloc: Global, names: &Names, words: &[&str]) -> Result<Step, Stop> {
@@ -76,7 +76,13 @@ pub(crate) fn call_once<R: Replica>(
 ) -> Result<(), Stop> {
     let step = step(alloc, names, words)?;
     let answer = call(alloc, node, &step);
-    Ok(print_answer(text, &answer)?)
+    print_called(text, &answer, node.starved())
+}
+
+/// What a gateway answered, unless memory ran out.
+fn print_called(text: &mut String, answer: &Answer, is_starved: bool) -> Result<(), Stop> {
+    check_memory(answer, is_starved)?;
+    Ok(print_answer(text, answer)?)
 }
 
 /// The call of the method that a call as a value stands for.
@@ -103,7 +109,7 @@ pub(crate) fn call_thrice<R: Replica>(
 ) -> Result<(), Stop> {
     let step = step(alloc, names, words)?;
     let answers = thrice(alloc, node, &step);
-    Ok(print_answers(text, &answers)?)
+    print_answers(text, &answers, node.starved())
 }
 
 /// A call as a value, with its answer three times.
@@ -115,10 +121,14 @@ fn thrice<R: Replica>(
     node.step(alloc, step)
 }
 
-/// What a gateway answered, three times.
-fn print_answers(text: &mut String, answers: &(Answer, Answer, Answer)) -> Result<(), AllocError> {
+/// What a gateway answered, three times, unless memory ran out.
+fn print_answers(
+    text: &mut String,
+    answers: &(Answer, Answer, Answer),
+    is_starved: bool,
+) -> Result<(), Stop> {
     let (first, second, third) = answers;
-    print_answer(text, first)?;
-    print_answer(text, second)?;
-    print_answer(text, third)
+    print_called(text, first, is_starved)?;
+    print_called(text, second, is_starved)?;
+    print_called(text, third, is_starved)
 }

@@ -170,9 +170,7 @@ fn heard(
     pending: &[Put],
     bytes: &[u8],
 ) -> Result<Draft, Stop> {
-    let Ok(frame) = frame_of(alloc, bytes) else {
-        return Err(Stop::Line);
-    };
+    let frame = frame_of(alloc, bytes)?;
     match &frame {
         Frame::PubRel { msg_id } => released(alloc, peer, session, *msg_id),
         frame => acknowledged(alloc, peer, session, pending, frame),
@@ -180,8 +178,12 @@ fn heard(
 }
 
 /// The frame that octets spell, of which nothing more is said.
-fn frame_of(alloc: Global, bytes: &[u8]) -> Result<Frame, FrameFault> {
-    decode(alloc, bytes)
+fn frame_of(alloc: Global, bytes: &[u8]) -> Result<Frame, Stop> {
+    match decode(alloc, bytes) {
+        Ok(frame) => Ok(frame),
+        Err(FrameFault::Memory) => Err(Stop::Memory),
+        Err(_) => Err(Stop::Line),
+    }
 }
 
 /// What is drafted where the client releases its message of this id.

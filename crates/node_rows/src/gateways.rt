@@ -63,7 +63,7 @@ pub(crate) fn open<R: Replica>(
     fields: &[&str],
 ) -> Result<(), Stop> {
     let config = copy_of(alloc, &config(alloc, fields)?)?;
-    print_opening(text, start(alloc, store, config))
+    start(alloc, text, store, config)
 }
 
 /// A copy of what a gateway is told.
@@ -74,28 +74,34 @@ fn copy_of(alloc: Global, config: &Config) -> Result<Config, Stop> {
     }
 }
 
-/// The records of an opening, or the number of its refusal.
-fn print_opening(text: &mut String, opening: Result<u64, u8>) -> Result<(), Stop> {
-    match opening {
-        Ok(records) => Ok(writeln!(text, "records {records}")?),
-        Err(number) => Ok(writeln!(text, "refused N{number}")?),
-    }
-}
-
-/// Opens a gateway on the disk: the records that it read, or the number of its refusal.
-fn start<R: Replica>(alloc: Global, store: &mut Store<R>, config: Config) -> Result<u64, u8> {
+/// Opens a gateway on the disk, and prints the records that it read, or the number of its refusal.
+fn start<R: Replica>(
+    alloc: Global,
+    text: &mut String,
+    store: &mut Store<R>,
+    config: Config,
+) -> Result<(), Stop> {
     let disk = mem::replace(closed(store), MemoryDisk::new(alloc));
     match node_on(alloc, config, disk) {
         Ok(node) => {
             let records = node.records();
             store.node = Some(node);
-            Ok(records)
+            Ok(writeln!(text, "records {records}")?)
         }
         Err((disk, fault)) => {
             store.disk = disk;
-            Err(fault.number())
+            print_refused(text, &fault, store.disk.starved())
         }
     }
+}
+
+/// The number of a refused opening, unless memory ran out, also in its disk.
+fn print_refused(text: &mut String, fault: &NodeFault, is_starved: bool) -> Result<(), Stop> {
+    if is_starved || matches!(fault, NodeFault::Memory) {
+        return Err(Stop::Memory);
+    }
+    let number = fault.number();
+    Ok(writeln!(text, "refused N{number}")?)
 }
 
 /// A gateway is opened. Of the call nothing is said here, so that who makes it carries no clause

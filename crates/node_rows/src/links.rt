@@ -104,6 +104,7 @@ fn said_digest(alloc: Global, names: &Names, fields: &[&str]) -> Result<Digest, 
     let bytes = octets(alloc, names, fields)?;
     match decoded(alloc, &bytes) {
         Ok(digest) => Ok(digest),
+        Err(OpsFault::Memory) => Err(Stop::Memory),
         Err(_) => Err(Stop::Line),
     }
 }
@@ -168,6 +169,7 @@ fn print_written(text: &mut String, gone: Option<Result<(), LinkOutFault>>) -> R
     match gone {
         None => Err(Stop::Line),
         Some(Ok(())) => Ok(text.push_str("went out\n")?),
+        Some(Err(LinkOutFault::Memory)) => Err(Stop::Memory),
         Some(Err(fault)) => print_refused(text, &fault),
     }
 }

@@ -1,7 +1,9 @@
 //! Worked rows of gateways with their journals, of deliveries, of links and of shifts: what no
 //! clause says, as that calls succeed, and octets written out by hand. And the work of benchmarks.
 //!
-//! A contract lets a call answer want of memory in place of almost anything; a row does not.
+//! A contract lets a call answer want of memory in place of almost anything; a row does not. If
+//! memory runs out, also in a disk, the program prints no row: it says so on standard error.
+//!
 //! Standard input holds rows, each after a line `== NAME`; empty lines and those that begin with
 //! `#` are skipped. Each row begins with nothing: no gateway, an empty disk, a link on which
 //! nothing was said. The program prints each name, and below it what the lines of the row give; of

@@ -31,7 +31,7 @@ where
     for line in lines {
         answer(rt, text, &mut page, line.as_str())?;
     }
-    Ok(())
+    shifts::leave_open(&mut page.shifts)
 }
 
 /// No line has brought anything about.
@@ -73,6 +73,7 @@ where
 
 /// A row of this name begins.
 fn begin_row(alloc: Global, text: &mut String, page: &mut Page, name: &str) -> Result<(), Stop> {
+    shifts::leave_open(&mut page.shifts)?;
     page.row = begin(alloc);
     page.shifts = shifts::none(alloc);
     Ok(writeln!(text, "== {name}")?)

@@ -2,7 +2,8 @@
 
 use crate::printing::{print_out, print_refusal};
 use crate::seats::Made;
-use gw_node::Out;
+use crate::stop::Stop;
+use gw_node::{NodeFault, Out};
 use gw_shift::{CallFault, CloseFault};
 use rep_ops::Delta;
 use std::alloc::AllocError;
@@ -11,19 +12,39 @@ use std::sync::Arc;
 /// What a call of a pass was answered, with its number, or why it has no answer.
 pub(crate) type Called = Result<(Arc<Out>, u64), CallFault>;
 
+/// Ends the program if memory ran out before a call of a pass had its answer.
+pub(crate) fn check_call(fault: &CallFault) -> Result<(), Stop> {
+    match fault {
+        CallFault::Memory => Err(Stop::Memory),
+        CallFault::Node {
+            fault: NodeFault::Memory,
+            ..
+        } => Err(Stop::Memory),
+        _ => Ok(()),
+    }
+}
+
 /// What a call of a pass was answered.
-pub(crate) fn print_called(text: &mut String, called: &Called) -> Result<(), AllocError> {
+pub(crate) fn print_called(text: &mut String, called: &Called) -> Result<(), Stop> {
     match called {
         Ok((out, number)) => {
             write!(text, "call {number}: ")?;
-            print_answered(text, out)
+            Ok(print_answered(text, out)?)
         }
-        Err(CallFault::Node { number, fault }) => {
+        Err(fault) => print_uncalled(text, fault),
+    }
+}
+
+/// Why a call has no answer, unless memory ran out.
+fn print_uncalled(text: &mut String, fault: &CallFault) -> Result<(), Stop> {
+    check_call(fault)?;
+    match fault {
+        CallFault::Node { number, fault } => {
             write!(text, "call {number}: ")?;
             print_refusal(text, fault)?;
-            text.push('\n')
+            Ok(text.push('\n')?)
         }
-        Err(fault) => print_unmade(text, fault),
+        fault => Ok(print_unmade(text, fault)?),
     }
 }
 
@@ -82,10 +103,10 @@ fn print_numbers(text: &mut String, first: u64, second: u64, other: u64) -> Resu
 pub(crate) fn print_made(
     text: &mut String,
     made: &Result<Vec<(u64, Delta)>, CallFault>,
-) -> Result<(), AllocError> {
+) -> Result<(), Stop> {
     match made {
-        Ok(deltas) => print_deltas(text, deltas.len()),
-        Err(fault) => print_unmade(text, fault),
+        Ok(deltas) => Ok(print_deltas(text, deltas.len())?),
+        Err(fault) => print_uncalled(text, fault),
     }
 }
 

@@ -1,11 +1,13 @@
 //! Passes in their seats, and calls that they make: one pass, or several at the same time.
 
+use crate::passing::check_call;
 use crate::stop::Stop;
 use gw_node::{Out, Step};
-use gw_shift::{Pass, Shift};
+use gw_shift::{CallFault, Pass, Shift};
 use jr_journal::Disk;
 use rep_model::Replica;
 use std::alloc::Global;
+use std::sync::atomic::{AtomicBool, Ordering};
 use std::sync::{Arc, Barrier, Wait};
 use std::thread;
 use std::thread::{Threads, join};
@@ -35,18 +37,24 @@ pub(crate) fn risen(alloc: Global, seats: Vec<Option<Pass>>) -> Result<Vec<Pass>
     Ok(passes)
 }
 
-/// The pass makes a call, and comes back; and whether the call was answered, and not refused.
+/// The pass makes a call, and comes back; and how many answers that brought, none if it was refused.
 fn returned<W: Wait, R: Replica, D: Disk + Drop>(
     rt: &W,
     alloc: Global,
     shift: &Shift<R, D>,
     pass: Pass,
     step: Arc<Step>,
-) -> (Pass, bool) {
+) -> (Pass, Result<u64, Stop>) {
     match shift.call(rt, alloc, pass, step) {
-        Ok((pass, _out, _number)) => (pass, true),
-        Err((pass, _fault)) => (pass, false),
+        Ok((pass, _out, _number)) => (pass, Ok(1)),
+        Err((pass, fault)) => (pass, no_answer(&fault)),
     }
+}
+
+/// No answer, unless memory ran out.
+fn no_answer(fault: &CallFault) -> Result<u64, Stop> {
+    check_call(fault)?;
+    Ok(0)
 }
 
 /// The pass in a seat makes so many calls, and sits down again. How many were answered.
@@ -57,22 +65,22 @@ pub(crate) fn sit<W: Wait, R: Replica, D: Disk + Drop>(
     seat: &mut Option<Pass>,
     step: &Arc<Step>,
     calls: usize,
-) -> u64 {
+) -> Result<u64, Stop> {
     let mut answered = 0u64;
     for _ in 0..calls {
         let Ok(step) = step.clone() else {
-            return answered;
+            return Err(Stop::Memory);
         };
         if let Some(pass) = seat.take() {
-            let (pass, is_answered) = returned(rt, alloc, shift, pass, step);
+            let (pass, count) = returned(rt, alloc, shift, pass, step);
             *seat = Some(pass);
-            answered = answered.saturating_add(u64::from(is_answered));
+            answered = answered.saturating_add(count?);
         }
     }
-    answered
+    Ok(answered)
 }
 
-/// The same once all threads have come to this point.
+/// The same once all threads have come to this point. Notes if memory ran out.
 fn sit_at_once<W: Wait, R: Replica, D: Disk + Drop>(
     rt: &W,
     alloc: Global,
@@ -81,9 +89,26 @@ fn sit_at_once<W: Wait, R: Replica, D: Disk + Drop>(
     seat: &mut Option<Pass>,
     step: &Arc<Step>,
     calls: usize,
+    is_short: &AtomicBool,
 ) {
     let _leads = gate.wait(rt);
-    let _answered = sit(rt, alloc, shift, seat, step, calls);
+    if sit(rt, alloc, shift, seat, step, calls).is_err() {
+        is_short.store(true, Ordering::SeqCst);
+    }
+}
+
+/// What a pass was answered. If its call was refused, that ends the line, or the program if memory
+/// ran out.
+fn made(
+    called: Result<(Pass, Arc<Out>, u64), (Pass, CallFault)>,
+) -> Result<(Pass, Arc<Out>, u64), Stop> {
+    match called {
+        Ok(made) => Ok(made),
+        Err((_pass, fault)) => {
+            check_call(&fault)?;
+            Err(Stop::Line)
+        }
+    }
 }
 
 /// Two calls of a pass, where both succeed.
@@ -93,10 +118,10 @@ fn two_calls<W: Wait, R: Replica, D: Disk + Drop>(
     shift: &Shift<R, D>,
     pass: Pass,
     steps: (Arc<Step>, Arc<Step>),
-) -> Option<Made> {
-    let (pass, _out, first) = shift.call(rt, alloc, pass, steps.0).ok()?;
-    let (pass, out, second) = shift.call(rt, alloc, pass, steps.1).ok()?;
-    Some((pass, out, second, first))
+) -> Result<Made, Stop> {
+    let (pass, _out, first) = made(shift.call(rt, alloc, pass, steps.0))?;
+    let (pass, out, second) = made(shift.call(rt, alloc, pass, steps.1))?;
+    Ok((pass, out, second, first))
 }
 
 /// A call of a pass, where it succeeds.
@@ -106,9 +131,9 @@ fn one_call<W: Wait, R: Replica, D: Disk + Drop>(
     shift: &Shift<R, D>,
     pass: Pass,
     step: Arc<Step>,
-) -> Option<Made> {
-    let (pass, out, number) = shift.call(rt, alloc, pass, step).ok()?;
-    Some((pass, out, number, 0))
+) -> Result<Made, Stop> {
+    let (pass, out, number) = made(shift.call(rt, alloc, pass, step))?;
+    Ok((pass, out, number, 0))
 }
 
 /// A pass makes two calls and another pass makes one, each in a thread of its own.
@@ -118,7 +143,7 @@ pub(crate) fn side_by_side<T, R, D>(
     shift: &Shift<R, D>,
     passes: (Pass, Pass),
     steps: Steps,
-) -> (Option<Made>, Option<Made>)
+) -> (Result<Made, Stop>, Result<Made, Stop>)
 where
     T: Threads + Wait + Sync,
     R: Replica + Send,
@@ -129,8 +154,8 @@ where
     let (two, one) = steps;
     join(
         rt,
-        || -> Option<Made> { two_calls(rt, alloc, shift, a, two) },
-        || -> Option<Made> { one_call(rt, alloc, shift, b, one) },
+        || -> Result<Made, Stop> { two_calls(rt, alloc, shift, a, two) },
+        || -> Result<Made, Stop> { one_call(rt, alloc, shift, b, one) },
     )
 }
 
@@ -143,19 +168,24 @@ pub(crate) fn sit_all<T, R, D>(
     seats: &mut [Option<Pass>],
     step: &Arc<Step>,
     calls: usize,
-)
+) -> Result<(), Stop>
 where
     T: Threads + Wait + Sync,
     R: Replica + Send,
     R::Staged: Send,
     D: Disk + Drop + Send,
 {
+    let is_short = AtomicBool::new(false);
     let threads = seats.len();
     if threads > 0 {
         let gate = Barrier::new(threads);
         let sit = |_place: usize, seat: &mut Option<Pass>| {
-            sit_at_once(rt, alloc, shift, &gate, seat, step, calls)
+            sit_at_once(rt, alloc, shift, &gate, seat, step, calls, &is_short)
         };
         thread::for_each_mut(rt, seats, threads, &sit);
     }
+    if is_short.load(Ordering::SeqCst) {
+        return Err(Stop::Memory);
+    }
+    Ok(())
 }

@@ -18,6 +18,7 @@ use jr_journal::MemoryDisk;
 use rep_ops::Delta;
 use rep_plain::Plain;
 use std::alloc::Global;
+use std::mem;
 use std::sync::{Arc, Wait};
 use std::thread::Threads;
 
@@ -106,8 +107,30 @@ fn begin(
     };
     let (passes, steps) = (place(passes)?, u64::from(number(steps)?));
     let (shift, passes) = shift_of(alloc, taken(store)?, passes, steps)?;
-    shifts.open = Some(shift);
-    seated(&mut shifts.seats, passes)
+    let before = mem::replace(&mut shifts.open, Some(shift));
+    seated(&mut shifts.seats, passes)?;
+    leave(before)
+}
+
+/// Leaves a shift that nobody ends. Ends the program if memory was refused in its disk.
+fn leave(shift: Option<Shared>) -> Result<(), Stop> {
+    match shift {
+        Some(shift) => check_disk(&shift.end()),
+        None => Ok(()),
+    }
+}
+
+/// Ends the program if memory was refused in the disk of a shift that is over.
+fn check_disk(over: &Over) -> Result<(), Stop> {
+    if over.node.starved() {
+        return Err(Stop::Memory);
+    }
+    Ok(())
+}
+
+/// Leaves the shift that is open, if there is one.
+pub(crate) fn leave_open(shifts: &mut Shifts) -> Result<(), Stop> {
+    leave(shifts.open.take())
 }
 
 /// A shift of a gateway for so many passes and so many calls.
@@ -173,7 +196,7 @@ fn call_by<T: Wait + AllocGlobal>(
     let step = shared(rt.alloc(), names, words)?;
     let shift = opened(&shifts.open)?;
     let called = call_from(rt, shift, seat_at(shifts.seats.as_mut_slice(), at)?, step)?;
-    Ok(print_called(text, &called)?)
+    print_called(text, &called)
 }
 
 /// The pass in a seat makes a call, and sits down again.
@@ -220,7 +243,7 @@ fn call_often<T: Wait + AllocGlobal>(
     let step = shared(rt.alloc(), names, words)?;
     let shift = opened(&shifts.open)?;
     let seat = seat_at(shifts.seats.as_mut_slice(), at)?;
-    let answered = sit(rt, rt.alloc(), shift, seat, &step, count);
+    let answered = sit(rt, rt.alloc(), shift, seat, &step, count)?;
     Ok(print_answers(text, answered)?)
 }
 
@@ -240,8 +263,7 @@ where
         return Err(Stop::Line);
     }
     let (_others, seats) = shifts.seats.as_mut_slice().split_at_mut(at);
-    sit_all(rt, rt.alloc(), shift, seats, &step, count);
-    Ok(())
+    sit_all(rt, rt.alloc(), shift, seats, &step, count)
 }
 
 /// `plan CALL`: one more call for the next `beside`.
@@ -295,15 +317,11 @@ where
 fn print_and_sit(
     text: &mut String,
     seats: &mut [Option<Pass>],
-    (first, one): (usize, Option<Made>),
-    (second, other): (usize, Option<Made>),
+    (first, one): (usize, Result<Made, Stop>),
+    (second, other): (usize, Result<Made, Stop>),
 ) -> Result<(), Stop> {
-    let Some(one) = one else {
-        return Err(Stop::Line);
-    };
-    let Some(other) = other else {
-        return Err(Stop::Line);
-    };
+    let one = one?;
+    let other = other?;
     print_beside(text, &one, &other)?;
     *seat_at(seats, first)? = Some(one.0);
     *seat_at(seats, second)? = Some(other.0);
@@ -327,7 +345,7 @@ fn ask_after<T: Wait + AllocGlobal>(
         return Err(Stop::Line);
     };
     let made = after(rt, shift, pass, above, most);
-    Ok(print_made(text, &made)?)
+    print_made(text, &made)
 }
 
 /// The pass that sits at a place.
@@ -355,7 +373,9 @@ fn end(shifts: &mut Shifts) -> Result<(), Stop> {
     let Some(shift) = shifts.open.take() else {
         return Err(Stop::Line);
     };
-    shifts.over = Some(shift.end());
+    let over = shift.end();
+    check_disk(&over)?;
+    shifts.over = Some(over);
     Ok(())
 }
 

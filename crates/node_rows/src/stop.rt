@@ -1,5 +1,6 @@
 //! Why a line is not played.
 
+use gw_node::{Answer, NodeFault};
 use octets::NoMemory;
 use rep_ops::OpsFault;
 use std::alloc::{AllocError, AllocFailed};
@@ -30,9 +31,20 @@ impl fmt::Display for Stop {
     }
 }
 
+/// Ends the program if memory ran out, in a call of a gateway or in its disk.
+pub(crate) fn check_memory(answer: &Answer, is_starved: bool) -> Result<(), Stop> {
+    if is_starved || matches!(answer, Err(NodeFault::Memory)) {
+        return Err(Stop::Memory);
+    }
+    Ok(())
+}
+
 impl From<io::Error> for Stop {
-    fn from(_error: io::Error) -> Stop {
-        Stop::Stream
+    fn from(error: io::Error) -> Stop {
+        match error.kind() {
+            io::ErrorKind::OutOfMemory => Stop::Memory,
+            _ => Stop::Stream,
+        }
     }
 }
 

@@ -85,7 +85,7 @@ fn work(alloc: Global, text: &mut String, name: &str, rounds: u32) -> Result<(),
 pub(crate) fn delta_of(alloc: Global, ops: Vec<Op>) -> Result<Delta, Stop> {
     match Delta::from_ops(alloc, ops) {
         Ok(delta) => Ok(delta),
-        Err(_) => Err(Stop::Work),
+        Err(fault) => Err(Stop::from(fault)),
     }
 }
 
@@ -93,6 +93,6 @@ pub(crate) fn delta_of(alloc: Global, ops: Vec<Op>) -> Result<Delta, Stop> {
 pub(crate) fn write_delta(alloc: Global, delta: &Delta, out: &mut Vec<u8>) -> Result<(), Stop> {
     match delta.encode(alloc, out) {
         Ok(()) => Ok(()),
-        Err(_) => Err(Stop::Work),
+        Err(fault) => Err(Stop::from(fault)),
     }
 }

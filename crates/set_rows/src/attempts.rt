@@ -3,7 +3,7 @@
 use crate::calls;
 use crate::deltas::made;
 use crate::fields::{count, octet};
-use crate::journals::{Held, Store, base_of, both, octets_of, put, slot};
+use crate::journals::{Held, Store, base_of, both, octets_of, put, reason, slot};
 use crate::retries::all_calls;
 use crate::runs::{Run, add, finish};
 use crate::stop::Stop;
@@ -37,10 +37,10 @@ fn fill(disk: &mut MemoryDisk, held: &Held) -> Result<(), Stop> {
 }
 
 /// How many records an opening reads, and in which slot, or why none.
-pub(crate) fn opening(alloc: Global, disk: MemoryDisk, gateway: u8) -> Result<String, AllocError> {
+pub(crate) fn opening(alloc: Global, disk: MemoryDisk, gateway: u8) -> Result<String, Stop> {
     match calls::open(alloc, disk, gateway) {
-        Ok((journal, deltas)) => count_text(alloc, deltas.len(), journal.slot()),
-        Err((_disk, fault)) => fault_text(alloc, fault),
+        Ok((journal, deltas)) => Ok(count_text(alloc, deltas.len(), journal.slot())?),
+        Err((disk, fault)) => fault_text(alloc, fault, disk.starved()),
     }
 }
 
@@ -51,9 +51,9 @@ fn count_text(alloc: Global, count: usize, slot: Slot) -> Result<String, AllocEr
 }
 
 /// The words of a refusal.
-fn fault_text(alloc: Global, fault: JournalFault) -> Result<String, AllocError> {
-    let why = NotWritten(fault);
-    format!(in alloc; "refused {why}")
+fn fault_text(alloc: Global, fault: JournalFault, is_starved: bool) -> Result<String, Stop> {
+    let why = reason(fault, is_starved)?;
+    Ok(format!(in alloc; "refused {why}")?)
 }
 
 /// How many records an opening reads, and what their slot holds after it.
@@ -63,7 +63,7 @@ fn opening_whole(alloc: Global, disk: MemoryDisk, gateway: u8) -> Result<String,
             let slot = journal.slot();
             slot_text(alloc, deltas.len(), slot, &mut journal.into_disk())
         }
-        Err((_disk, fault)) => Ok(fault_text(alloc, fault)?),
+        Err((disk, fault)) => fault_text(alloc, fault, disk.starved()),
     }
 }
 
@@ -235,7 +235,7 @@ fn append_on(alloc: Global, disk: MemoryDisk, gateway: u8, delta: &Delta) -> Res
             let outcome = calls::append(alloc, &mut journal, delta);
             behind_crash(alloc, journal.into_disk(), gateway, outcome)
         }
-        Err((_disk, fault)) => Ok(fault_text(alloc, fault)?),
+        Err((disk, fault)) => fault_text(alloc, fault, disk.starved()),
     }
 }
 
@@ -251,7 +251,7 @@ fn compact_on(
             let outcome = calls::compact(alloc, &mut journal, base);
             behind_crash(alloc, journal.into_disk(), gateway, outcome)
         }
-        Err((_disk, fault)) => Ok(fault_text(alloc, fault)?),
+        Err((disk, fault)) => fault_text(alloc, fault, disk.starved()),
     }
 }
 
@@ -265,19 +265,15 @@ fn behind_crash(
     match outcome {
         Ok(()) => Err(Stop::Line),
         Err(fault) => {
+            let why = reason(fault, disk.starved())?;
             disk.crash(usize::MAX);
             let found = opening(alloc, disk, gateway)?;
-            Ok(refused_and_found(alloc, fault, &found)?)
+            Ok(refused_and_found(alloc, why, &found)?)
         }
     }
 }
 
 /// The words of a refusal and of the opening after it.
-fn refused_and_found(
-    alloc: Global,
-    fault: JournalFault,
-    found: &str,
-) -> Result<String, AllocError> {
-    let why = NotWritten(fault);
+fn refused_and_found(alloc: Global, why: NotWritten, found: &str) -> Result<String, AllocError> {
     format!(in alloc; "refused {why}, {found}")
 }

@@ -10,9 +10,17 @@ use crate::words::{Digits, ops_fault};
 use rep_ops::{ClientId, Delta, Op, OpsFault};
 use std::alloc::{AllocError, Global};
 
+/// Why operations or octets are refused, in a word. If memory ran out, the program ends.
+fn reason(fault: OpsFault) -> Result<&'static str, Stop> {
+    match fault {
+        OpsFault::Memory => Err(Stop::Memory),
+        fault => Ok(ops_fault(fault)),
+    }
+}
+
 /// Says why operations or octets are refused.
 fn refused(text: &mut String, fault: OpsFault) -> Result<(), Stop> {
-    let why = ops_fault(fault);
+    let why = reason(fault)?;
     Ok(writeln!(text, "refused {why}")?)
 }
 
@@ -141,9 +149,9 @@ pub(crate) fn counted(alloc: Global, text: &mut String, bytes: &[u8]) -> Result<
 }
 
 /// How many operations octets spell, or why none.
-fn answer(alloc: Global, bytes: &[u8]) -> Result<String, AllocError> {
+fn answer(alloc: Global, bytes: &[u8]) -> Result<String, Stop> {
     match calls::read_delta(alloc, bytes) {
-        Ok(delta) => count_text(alloc, delta.ops().len()),
+        Ok(delta) => Ok(count_text(alloc, delta.ops().len())?),
         Err(fault) => fault_text(alloc, fault),
     }
 }
@@ -154,9 +162,9 @@ fn count_text(alloc: Global, count: usize) -> Result<String, AllocError> {
 }
 
 /// The words of a refusal.
-fn fault_text(alloc: Global, fault: OpsFault) -> Result<String, AllocError> {
-    let why = ops_fault(fault);
-    format!(in alloc; "refused {why}")
+fn fault_text(alloc: Global, fault: OpsFault) -> Result<String, Stop> {
+    let why = reason(fault)?;
+    Ok(format!(in alloc; "refused {why}")?)
 }
 
 /// `altered AT HEX`: what the octets are read as where one of them is another; they stay.

@@ -103,9 +103,17 @@ pub(crate) fn crash(store: &mut Store, fields: &[&str]) -> Result<(), Stop> {
     Ok(())
 }
 
+/// Why a journal refuses, to be printed. If memory ran out, also in its disk, the program ends.
+pub(crate) fn reason(fault: JournalFault, is_starved: bool) -> Result<NotWritten, Stop> {
+    if is_starved || matches!(fault, JournalFault::Memory) {
+        return Err(Stop::Memory);
+    }
+    Ok(NotWritten(fault))
+}
+
 /// Says why a journal refuses.
-pub(crate) fn refused(text: &mut String, fault: JournalFault) -> Result<(), Stop> {
-    let why = NotWritten(fault);
+fn refused(text: &mut String, fault: JournalFault, is_starved: bool) -> Result<(), Stop> {
+    let why = reason(fault, is_starved)?;
     Ok(writeln!(text, "refused {why}")?)
 }
 
@@ -138,7 +146,7 @@ pub(crate) fn open(
         }
         Err((disk, fault)) => {
             store.disk = disk;
-            refused(text, fault)
+            refused(text, fault, store.disk.starved())
         }
     }
 }
@@ -165,7 +173,7 @@ fn append_delta(
 ) -> Result<(), Stop> {
     match calls::append(alloc, journal, delta) {
         Ok(()) => Ok(text.push_str("appended\n")?),
-        Err(fault) => refused(text, fault),
+        Err(fault) => refused(text, fault, journal.starved()),
     }
 }
 
@@ -237,15 +245,16 @@ fn compact_to(
 ) -> Result<(), Stop> {
     match calls::compact(alloc, journal, base) {
         Ok(()) => Ok(text.push_str("compacted\n")?),
-        Err(fault) => refused(text, fault),
+        Err(fault) => refused(text, fault, journal.starved()),
     }
 }
 
 /// `reopen`: the journal is opened once more as it stands.
 pub(crate) fn reopen(alloc: Global, text: &mut String, store: &mut Store) -> Result<(), Stop> {
-    match calls::reopen(alloc, opened(store)?) {
+    let journal = opened(store)?;
+    match calls::reopen(alloc, journal) {
         Ok(deltas) => print_records(text, deltas.as_slice()),
-        Err(fault) => refused(text, fault),
+        Err(fault) => refused(text, fault, journal.starved()),
     }
 }
 

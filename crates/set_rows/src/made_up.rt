@@ -4,7 +4,7 @@
 use crate::calls;
 use crate::fields::{message, named};
 use crate::stop::Stop;
-use rep_ops::{ClientId, Delta, Op, Put, Stamp};
+use rep_ops::{ClientId, Delta, Op, OpsFault, Put, Stamp};
 use sn_session::{Presence, Session, SessionOp};
 use sn_tables::QosLevel;
 use sn_topic::TopicName;
@@ -93,6 +93,7 @@ pub(crate) fn delta(alloc: Global, seed: u64, size: u64) -> Result<Option<Delta>
     }
     match calls::delta_of(alloc, ops) {
         Ok(delta) => Ok(Some(delta)),
+        Err(OpsFault::Memory) => Err(Stop::Memory),
         Err(_) => Ok(None),
     }
 }

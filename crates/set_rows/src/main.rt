@@ -3,7 +3,9 @@
 //!
 //! The rows are played on both replicas, and a last line says that these print the same.
 //!
-//! A contract lets a call answer want of memory in place of almost anything; a row does not.
+//! A contract lets a call answer want of memory in place of almost anything; a row does not. If
+//! memory runs out, also in a disk, the program prints no row: it says so on standard error.
+//!
 //! Standard input holds rows, each after a line `== NAME`; empty lines and those that begin with
 //! `#` are skipped. Each row begins with nothing: no operation, no octets, the empty session, an
 //! empty replica, an empty disk, no frame and no predefined id. The program prints each name, and

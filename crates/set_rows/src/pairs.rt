@@ -5,7 +5,7 @@ use crate::fields::number;
 use crate::made_up::{client, delta, next};
 use crate::replicas::empty;
 use crate::stop::Stop;
-use rep_model::{ClientView, Replica};
+use rep_model::{ClientView, Replica, TakeFault};
 use rep_ops::{ClientId, Delta};
 use rep_plain::Plain;
 use rep_state::Folded;
@@ -66,25 +66,33 @@ fn run(alloc: Global, seed: u64, times: u64, size: u64) -> Result<Counts, Stop> 
 /// Both replicas take a delta, which is counted.
 fn count(alloc: Global, pair: &mut Pair, delta: &Delta, counts: &mut Counts) -> Result<(), Stop> {
     counts.deltas = counts.deltas.saturating_add(1);
-    if take(alloc, pair, delta) && are_same(alloc, pair)? {
+    if take(alloc, pair, delta)? && are_same(alloc, pair)? {
         counts.same = counts.same.saturating_add(1);
     }
     Ok(())
 }
 
 /// Takes the delta in both: whether they are of one mind whether it can be taken.
-fn take(alloc: Global, pair: &mut Pair, delta: &Delta) -> bool {
+fn take(alloc: Global, pair: &mut Pair, delta: &Delta) -> Result<bool, Stop> {
     let plain = pair.plain.prepare(alloc, delta);
     let folded = pair.folded.prepare(alloc, delta);
+    if is_short(&plain) || is_short(&folded) {
+        return Err(Stop::Memory);
+    }
     match (plain, folded) {
         (Ok(plain), Ok(folded)) => {
             pair.plain.commit(plain);
             pair.folded.commit(folded);
-            true
+            Ok(true)
         }
-        (Err(plain), Err(folded)) => plain == folded,
-        _ => false,
+        (Err(plain), Err(folded)) => Ok(plain == folded),
+        _ => Ok(false),
     }
+}
+
+/// Whether memory ran out before a replica could say whether it can take a delta.
+fn is_short<S>(prepared: &Result<S, TakeFault>) -> bool {
+    matches!(prepared, Err(TakeFault::Memory))
 }
 
 /// Whether both say the same of all clients, and hold the same.

@@ -21,8 +21,11 @@ pub(crate) fn empty<R: Replica>(alloc: Global) -> Result<R, Stop> {
     }
 }
 
-/// Says why a replica refuses.
+/// Says why a replica refuses. If memory ran out, the program ends.
 fn refused(text: &mut String, fault: &TakeFault) -> Result<(), Stop> {
+    if matches!(fault, TakeFault::Memory) {
+        return Err(Stop::Memory);
+    }
     let why = NotTaken(fault);
     Ok(writeln!(text, "refused {why}")?)
 }

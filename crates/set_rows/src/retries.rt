@@ -3,10 +3,9 @@
 use crate::attempts::{Trial, opening, tried};
 use crate::calls;
 use crate::fields::{count, octet};
-use crate::journals::{Store, base_of};
+use crate::journals::{Store, base_of, reason};
 use crate::stop::Stop;
-use crate::words::NotWritten;
-use jr_journal::{Journal, JournalFault, OnceCall, OnceDisk};
+use jr_journal::{Journal, JournalFault, MemoryDisk, OnceCall, OnceDisk};
 use rep_ops::{Delta, Op};
 use std::alloc::Global;
 
@@ -75,8 +74,17 @@ fn call_all(
     let mut journal = open(alloc, said, disk, gateway)?;
     reopen_and_compact(alloc, said, &mut journal, base)?;
     let disk = journal.into_disk().into_inner();
+    spared(&disk)?;
     let found = opening(alloc, disk, gateway)?;
     Ok(write!(said, "; then {found}")?)
+}
+
+/// Ends the program if memory was refused in a disk, which then did not fail as arranged.
+fn spared(disk: &MemoryDisk) -> Result<(), Stop> {
+    if disk.starved() {
+        return Err(Stop::Memory);
+    }
+    Ok(())
 }
 
 /// The journal is opened once more and compacted.
@@ -102,9 +110,9 @@ fn read(said: &mut String, deltas: &[Delta]) -> Result<(), Stop> {
     Ok(write!(said, " {count}")?)
 }
 
-/// Why a call was refused.
+/// Why a call was refused. Whether its disk was refused memory is looked at in the end.
 fn refused(said: &mut String, fault: JournalFault) -> Result<(), Stop> {
-    let why = NotWritten(fault);
+    let why = reason(fault, false)?;
     Ok(write!(said, " {why}")?)
 }
 
@@ -140,7 +148,10 @@ fn open_again(
             read(said, deltas.as_slice())?;
             Ok(journal)
         }
-        Err(_) => Err(Stop::Line),
+        Err((disk, fault)) => {
+            let _why = reason(fault, disk.into_inner().starved())?;
+            Err(Stop::Line)
+        }
     }
 }
 

@@ -31,8 +31,11 @@ impl fmt::Display for Stop {
 }
 
 impl From<io::Error> for Stop {
-    fn from(_error: io::Error) -> Stop {
-        Stop::Stream
+    fn from(error: io::Error) -> Stop {
+        match error.kind() {
+            io::ErrorKind::OutOfMemory => Stop::Memory,
+            _ => Stop::Stream,
+        }
     }
 }
 

@@ -123,15 +123,42 @@ pub(crate) fn meet<T: Wait + Clock>(
         text.push_str(aside.as_str())?;
         join(rt, alloc, &mut second, &mut third, &inner, &outer)?;
     }
+    let played = happen_all(rt, alloc, text, &mut first, &mut second, &mut third, deeds);
+    let said_all = !near.is_short() && !far.is_short() && !inner.is_short() && !outer.is_short();
+    if said_all && is_spared(first) && is_spared(second) && is_spared(third) {
+        played
+    } else {
+        Err(Stop::Memory)
+    }
+}
+
+/// All that happens, in its order.
+fn happen_all<'a, T: Wait + Clock>(
+    rt: &'a T,
+    alloc: Global,
+    text: &mut String,
+    first: &mut Side<'a, T>,
+    second: &mut Side<'a, T>,
+    third: &mut Side<'a, T>,
+    deeds: &[Deed],
+) -> Result<(), Stop> {
     for deed in deeds {
         match deed.gateway {
-            1 => happen(rt, alloc, text, &mut first, &deed.act)?,
-            2 => happen(rt, alloc, text, &mut second, &deed.act)?,
-            3 => happen(rt, alloc, text, &mut third, &deed.act)?,
+            1 => happen(rt, alloc, text, first, &deed.act)?,
+            2 => happen(rt, alloc, text, second, &deed.act)?,
+            3 => happen(rt, alloc, text, third, &deed.act)?,
             _ => return Err(Stop::Line),
         }
     }
     Ok(())
+}
+
+/// Whether no memory was refused in the disk of a gateway, whose shift ends.
+fn is_spared<'a, T: Wait>(side: Side<'a, T>) -> bool {
+    match side.open {
+        Some(opened) => !opened.shift.end().node.starved(),
+        None => true,
+    }
 }
 
 /// A gateway of this number on an empty disk, without a link.
@@ -140,8 +167,9 @@ fn side_of<'a, T: Wait>(alloc: Global, text: &mut String, number: u8) -> Result<
     writeln!(toml, "gateway = {number}")?;
     toml.push_str("listen = \"127.0.0.1:1\"\nlink = \"127.0.0.1:2\"\njournal = \"j\"\n")?;
     let begun = begin_on(alloc, text, toml.as_str(), MemoryDisk::new(alloc))?;
+    // Nothing else refuses on an empty disk in memory.
     let Some(node) = begun else {
-        return Err(Stop::Line);
+        return Err(Stop::Memory);
     };
     let Some(pool) = Pool::new(alloc, 1, &[]) else {
         return Err(Stop::Memory);
@@ -282,6 +310,7 @@ fn print_asked(
     write!(text, "{number} was asked")?;
     match answered {
         Ok(answer) => print_answer(alloc, text, &answer)?,
+        Err(End::Memory) => return Err(Stop::Memory),
         Err(end) => write!(text, ": {end}")?,
     }
     Ok(text.push('\n')?)
@@ -315,10 +344,12 @@ fn talk_over<'a, T: Wait + Clock>(
     phase: Phase,
 ) -> Result<End, Stop> {
     let mut piece = Vec::from_elem(alloc, 0u8, 65_536)?;
-    let (Some(opened), Some(mut link)) = (side.open.take(), tie.link.take()) else {
+    let Some(mut link) = tie.link.take() else {
         return Err(Stop::Line);
     };
-    let OpenShift { shift, pass, seat } = opened;
+    let Some(OpenShift { shift, pass, seat }) = side.open.take() else {
+        return Err(Stop::Line);
+    };
     let stage = &tie.place.stage;
     stage.go_to(rt, phase);
     let (seat, end) = talk(
@@ -341,10 +372,11 @@ fn talk_over<'a, T: Wait + Clock>(
     Ok(end)
 }
 
-/// Why a link has stopped to talk.
+/// Why a link has stopped to talk, unless memory ran out.
 fn print_end(text: &mut String, number: u8, end: End) -> Result<(), Stop> {
     match end {
         End::Full => Ok(()),
+        End::Memory => Err(Stop::Memory),
         end => Ok(writeln!(text, "{number} ends: {end}")?),
     }
 }
@@ -409,10 +441,12 @@ fn sit_down<'a, T: Wait + Clock>(
     side: &mut Side<'a, T>,
 ) -> Result<(), Stop> {
     let mut tie = take_first(side)?;
-    let (Some(opened), Some(link)) = (side.open.take(), tie.link.take()) else {
+    let Some(link) = tie.link.take() else {
         return Err(Stop::Line);
     };
-    let OpenShift { shift, pass, seat } = opened;
+    let Some(OpenShift { shift, pass, seat }) = side.open.take() else {
+        return Err(Stop::Line);
+    };
     let origin = link.origin;
     side.pool.open(rt, link);
     let stage = &tie.place.stage;

@@ -5,8 +5,8 @@ ghost use Rattle.std.specs.Prelude.{◌<◌};
 
 use crate::seats::{risen, seated, sit_all};
 use crate::stop::Stop;
-use gw_node::{Node, NodeFault, Step};
-use gw_shift::{Pass, Shift};
+use gw_node::{Answer, Node, NodeFault, Step};
+use gw_shift::{Closed, Pass, Shift};
 use jr_journal::MemoryDisk;
 use octets::{Octets, Sequence};
 use rep_plain::Plain;
@@ -103,7 +103,23 @@ fn opened(alloc: Global) -> Result<Gateway, Stop> {
     let config = config(alloc)?;
     match open(alloc, config) {
         Ok(node) => Ok(node),
-        Err(_) => Err(Stop::Work),
+        Err((disk, fault)) => Err(stop_of(&fault, disk.starved())),
+    }
+}
+
+/// Why a work stops: memory ran out, also in its disk, or a call was refused.
+fn stop_of(fault: &NodeFault, is_starved: bool) -> Stop {
+    if is_starved || matches!(fault, NodeFault::Memory) {
+        return Stop::Memory;
+    }
+    Stop::Work
+}
+
+/// Whether a call was answered.
+fn check(answer: &Answer, is_starved: bool) -> Result<(), Stop> {
+    match answer {
+        Ok(_) => Ok(()),
+        Err(fault) => Err(stop_of(fault, is_starved)),
     }
 }
 
@@ -128,10 +144,8 @@ fn config(alloc: Global) -> Result<Config, Stop> {
 
 /// The client connects.
 fn greet(alloc: Global, node: &mut Gateway) -> Result<(), Stop> {
-    match node.frame(alloc, CLIENT, &CONNECT, 0) {
-        Ok(_) => Ok(()),
-        Err(_) => Err(Stop::Work),
-    }
+    let answer = node.frame(alloc, CLIENT, &CONNECT, 0);
+    check(&answer, node.starved())
 }
 
 /// The moment.
@@ -169,10 +183,7 @@ fn call_all(alloc: Global, node: &mut Gateway, step: &Step) -> Result<(), Stop> 
 /// A call, which is not refused.
 fn call(alloc: Global, node: &mut Gateway, step: &Step) -> Result<(), Stop> {
     let (first, _second, _third) = node.step(alloc, step);
-    match first {
-        Ok(_) => Ok(()),
-        Err(_) => Err(Stop::Work),
-    }
+    check(&first, node.starved())
 }
 
 /// The calls, made by 1 to 8 threads that share the gateway: the microseconds that they took. The
@@ -192,7 +203,7 @@ fn shared<T: Threads + Wait + Sync + Clock>(
     seated(&mut seats, passes)?;
     let each = CALLS / threads;
     let start = moment(rt)?;
-    sit_all(rt, alloc, &shift, seats.as_mut_slice(), step, each);
+    sit_all(rt, alloc, &shift, seats.as_mut_slice(), step, each)?;
     let taken = since(rt, &start)?;
     close(shift, risen(alloc, seats)?, each * threads)?;
     Ok(taken)
@@ -215,12 +226,18 @@ fn shift_of(
 /// Closes a shift, which has that many calls.
 fn close(shift: Shift<Plain, MemoryDisk>, passes: Vec<Pass>, calls: usize) -> Result<(), Stop> {
     match shift.end().close(passes) {
-        Ok(closed) => {
-            if closed.history.len() != calls {
-                return Err(Stop::Work);
-            }
-            Ok(())
-        }
+        Ok(closed) => check_closed(&closed, calls),
         Err((_ended, _passes, _fault)) => Err(Stop::Work),
     }
+}
+
+/// Whether a closed shift has that many calls, and no memory was refused in its disk.
+fn check_closed(closed: &Closed<Plain, MemoryDisk>, calls: usize) -> Result<(), Stop> {
+    if closed.node.starved() {
+        return Err(Stop::Memory);
+    }
+    if closed.history.len() != calls {
+        return Err(Stop::Work);
+    }
+    Ok(())
 }

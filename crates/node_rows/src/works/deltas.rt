@@ -40,6 +40,6 @@ fn all(alloc: Global, delta: &Delta, bytes: &mut Vec<u8>, rounds: u32) -> Result
 fn read(alloc: Global, bytes: &[u8]) -> Result<u64, Stop> {
     match Delta::decode(alloc, bytes) {
         Ok(delta) => Ok(delta.ops().len() as u64),
-        Err(_) => Err(Stop::Work),
+        Err(fault) => Err(Stop::from(fault)),
     }
 }

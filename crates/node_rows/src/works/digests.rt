@@ -45,7 +45,7 @@ fn exchange(alloc: Global, asker: &Plain, peer: &Plain) -> Result<(), Stop> {
 fn digest(alloc: Global, replica: &Plain) -> Result<Digest, Stop> {
     match digest_of(alloc, replica) {
         Ok(digest) => Ok(digest),
-        Err(_) => Err(Stop::Work),
+        Err(fault) => Err(Stop::from(fault)),
     }
 }
 
@@ -53,7 +53,7 @@ fn digest(alloc: Global, replica: &Plain) -> Result<Digest, Stop> {
 fn answer_to(alloc: Global, replica: &Plain, asked: &Digest) -> Result<Vec<Delta>, Stop> {
     match answer(alloc, replica, asked) {
         Ok(deltas) => Ok(deltas),
-        Err(_) => Err(Stop::Work),
+        Err(fault) => Err(Stop::from(fault)),
     }
 }
 
@@ -66,7 +66,7 @@ fn answered(alloc: Global, replica: &Plain, asked: &Digest) -> Result<Sizes, Sto
 /// How large all is that a gateway holds.
 fn held(alloc: Global, replica: &Plain) -> Result<Sizes, Stop> {
     let Ok(deltas) = replica.held(alloc) else {
-        return Err(Stop::Work);
+        return Err(Stop::Memory);
     };
     sizes(alloc, deltas.as_slice())
 }
@@ -76,7 +76,7 @@ fn size(alloc: Global, digest: &Digest) -> Result<usize, Stop> {
     let mut octets = Vec::new(alloc);
     match digest.encode(alloc, &mut octets) {
         Ok(()) => Ok(octets.len()),
-        Err(_) => Err(Stop::Work),
+        Err(fault) => Err(Stop::from(fault)),
     }
 }
 

@@ -3,7 +3,7 @@
 use crate::stop::Stop;
 use crate::works::datagrams::stream;
 use crate::works::numbers::checksum;
-use sn_frame::{Frame, decode, encode};
+use sn_frame::{EncodeFault, Frame, FrameFault, decode, encode};
 use std::alloc::{AllocError, Global};
 
 /// Decodes and encodes the stream so often, and says how many datagrams that were, and what the
@@ -48,6 +48,7 @@ fn round(alloc: Global, datagrams: &[Vec<u8>], out: &mut Vec<u8>) -> Result<(), 
 fn read(alloc: Global, datagram: &[u8]) -> Result<Frame, Stop> {
     match decode(alloc, datagram) {
         Ok(frame) => Ok(frame),
+        Err(FrameFault::Memory) => Err(Stop::Memory),
         Err(_) => Err(Stop::Work),
     }
 }
@@ -56,6 +57,7 @@ fn read(alloc: Global, datagram: &[u8]) -> Result<Frame, Stop> {
 fn write(alloc: Global, frame: &Frame, out: &mut Vec<u8>) -> Result<(), Stop> {
     match encode(alloc, frame, out) {
         Ok(()) => Ok(()),
+        Err(EncodeFault::Memory) => Err(Stop::Memory),
         Err(_) => Err(Stop::Work),
     }
 }

@@ -6,7 +6,7 @@ use crate::stop::Stop;
 use crate::works::delta_of;
 use crate::works::numbers::Numbers;
 use octets::Octets;
-use rep_model::Replica;
+use rep_model::{Replica, TakeFault};
 use rep_ops::{ClientId, Delta, Op, OpsFault, Put, Stamp};
 use rep_plain::Plain;
 use sn_session::{Message, Session, SessionOp};
@@ -56,6 +56,7 @@ fn take_all(alloc: Global, replica: &mut Plain, delta: &Delta) -> Result<(), Sto
             replica.commit(staged);
             Ok(())
         }
+        Err(TakeFault::Memory) => Err(Stop::Memory),
         Err(_) => Err(Stop::Work),
     }
 }

@@ -3,7 +3,7 @@
 use crate::stop::Stop;
 use crate::works::delta_of;
 use crate::works::operations::presence;
-use jr_journal::{Journal, MemoryDisk};
+use jr_journal::{Journal, JournalFault, MemoryDisk};
 use rep_ops::Delta;
 use std::alloc::Global;
 
@@ -20,8 +20,16 @@ pub(crate) fn run(alloc: Global, text: &mut String, rounds: u32) -> Result<(), S
 fn journal(alloc: Global) -> Result<Journal<MemoryDisk>, Stop> {
     match Journal::open(alloc, MemoryDisk::new(alloc), 1) {
         Ok((journal, _)) => Ok(journal),
-        Err(_) => Err(Stop::Work),
+        Err((disk, fault)) => Err(stop_of(fault, disk.starved())),
     }
+}
+
+/// Why a work stops: memory ran out, also in its disk, or a call was refused.
+fn stop_of(fault: JournalFault, is_starved: bool) -> Stop {
+    if is_starved || matches!(fault, JournalFault::Memory) {
+        return Stop::Memory;
+    }
+    Stop::Work
 }
 
 /// Appends the delta so often: how many records that were.
@@ -43,6 +51,6 @@ fn append_all(
 fn append(alloc: Global, journal: &mut Journal<MemoryDisk>, delta: &Delta) -> Result<(), Stop> {
     match journal.append(alloc, delta) {
         Ok(()) => Ok(()),
-        Err(_) => Err(Stop::Work),
+        Err(fault) => Err(stop_of(fault, journal.starved())),
     }
 }
