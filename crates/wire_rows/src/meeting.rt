@@ -124,8 +124,9 @@ pub(crate) fn meet<T: Wait + Clock>(
         join(rt, alloc, &mut second, &mut third, &inner, &outer)?;
     }
     let played = happen_all(rt, alloc, text, &mut first, &mut second, &mut third, deeds);
+    let (first, second, third) = (is_spared(first), is_spared(second), is_spared(third));
     let said_all = !near.is_short() && !far.is_short() && !inner.is_short() && !outer.is_short();
-    if said_all && is_spared(first) && is_spared(second) && is_spared(third) {
+    if said_all && first && second && third {
         played
     } else {
         Err(Stop::Memory)
