@@ -7,10 +7,47 @@ use gw_shift::{CallFault, Pass, Shift};
 use jr_journal::Disk;
 use rep_model::Replica;
 use std::alloc::Global;
-use std::sync::atomic::{AtomicBool, Ordering};
-use std::sync::{Arc, Barrier, Wait};
+use std::sync::atomic::{AtomicBool, AtomicU64, Ordering};
+use std::sync::{Arc, Wait};
 use std::thread;
 use std::thread::{Threads, join};
+
+/// How often a thread looks whether the others have come too.
+const TURNS: u64 = 100_000;
+
+/// Threads that begin at once, and what they note.
+#[derive(Drop)]
+struct Start {
+    /// How many there are to be.
+    threads: u64,
+    /// How many have come.
+    come: AtomicU64,
+    /// Memory ran out in one of them.
+    is_short: AtomicBool,
+}
+
+impl Start {
+    /// So many threads, of which none has come.
+    fn new(threads: usize) -> Start {
+        Start {
+            threads: threads as u64,
+            come: AtomicU64::new(0),
+            is_short: AtomicBool::new(false),
+        }
+    }
+
+    /// Waits until all have come. If the system refuses a thread, another one plays its part after
+    /// its own: so nobody waits for long.
+    fn wait(&self) {
+        let _before = self.come.fetch_add(1, Ordering::SeqCst);
+        for _ in 0..TURNS {
+            if self.come.load(Ordering::SeqCst) >= self.threads {
+                return;
+            }
+            thread::yield_now();
+        }
+    }
+}
 
 /// What a pass made: the pass, the latest answer, its number, and the number of the call before.
 pub(crate) type Made = (Pass, Arc<Out>, u64, u64);
@@ -85,15 +122,14 @@ fn sit_at_once<W: Wait, R: Replica, D: Disk + Drop>(
     rt: &W,
     alloc: Global,
     shift: &Shift<R, D>,
-    gate: &Barrier,
+    start: &Start,
     seat: &mut Option<Pass>,
     step: &Arc<Step>,
     calls: usize,
-    is_short: &AtomicBool,
 ) {
-    let _leads = gate.wait(rt);
+    start.wait();
     if sit(rt, alloc, shift, seat, step, calls).is_err() {
-        is_short.store(true, Ordering::SeqCst);
+        start.is_short.store(true, Ordering::SeqCst);
     }
 }
 
@@ -175,16 +211,15 @@ where
     R::Staged: Send,
     D: Disk + Drop + Send,
 {
-    let is_short = AtomicBool::new(false);
     let threads = seats.len();
+    let start = Start::new(threads);
     if threads > 0 {
-        let gate = Barrier::new(threads);
         let sit = |_place: usize, seat: &mut Option<Pass>| {
-            sit_at_once(rt, alloc, shift, &gate, seat, step, calls, &is_short)
+            sit_at_once(rt, alloc, shift, &start, seat, step, calls)
         };
         thread::for_each_mut(rt, seats, threads, &sit);
     }
-    if is_short.load(Ordering::SeqCst) {
+    if start.is_short.load(Ordering::SeqCst) {
         return Err(Stop::Memory);
     }
     Ok(())

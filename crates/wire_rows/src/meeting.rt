@@ -445,11 +445,14 @@ fn sit_down<'a, T: Wait + Clock>(
     let Some(link) = tie.link.take() else {
         return Err(Stop::Line);
     };
+    let origin = link.origin;
+    side.pool.open(rt, link);
+    if is_closed(rt, &side.pool, origin) {
+        return Err(Stop::Memory);
+    }
     let Some(OpenShift { shift, pass, seat }) = side.open.take() else {
         return Err(Stop::Line);
     };
-    let origin = link.origin;
-    side.pool.open(rt, link);
     let stage = &tie.place.stage;
     stage.go_to(rt, Phase::Serving);
     let seat = Seat {
@@ -466,6 +469,14 @@ fn sit_down<'a, T: Wait + Clock>(
     side.pool.close_all(rt);
     print_room(rt, text, side.number, &side.pool, origin)?;
     put_last(side, tie)
+}
+
+/// Whether a link that was dialled is closed: a pool closes one that it has no memory for.
+fn is_closed<T: Wait, S: Drop>(rt: &T, pool: &Pool<S>, origin: Origin) -> bool {
+    match origin {
+        Origin::Dialled(_) => pool.may_open(rt, origin),
+        Origin::Accepted => false,
+    }
 }
 
 /// Whether a gateway's link is open still.
