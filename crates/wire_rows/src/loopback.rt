@@ -99,8 +99,9 @@ fn asked<T: Threads + Wait + Sync + Clock>(
 /// What was answered, if anything.
 fn print_answer(alloc: Global, text: &mut String, answer: &Option<Got>) -> Result<(), Stop> {
     match answer {
-        Some((octets, size)) => {
-            let octets = shown(alloc, octets.get(..*size).unwrap_or(&[]))?;
+        Some(got) => {
+            let (octets, size) = *got;
+            let octets = shown(alloc, octets.get(..size).unwrap_or(&[]))?;
             Ok(writeln!(text, "answered {octets}")?)
         }
         None => Ok(text.push_str("not answered\n")?),

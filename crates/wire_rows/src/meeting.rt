@@ -124,9 +124,11 @@ pub(crate) fn meet<T: Wait + Clock>(
         join(rt, alloc, &mut second, &mut third, &inner, &outer)?;
     }
     let played = happen_all(rt, alloc, text, &mut first, &mut second, &mut third, deeds);
-    let (first, second, third) = (is_spared(first), is_spared(second), is_spared(third));
+    let is_first_spared = is_spared(&mut first);
+    let is_second_spared = is_spared(&mut second);
+    let is_third_spared = is_spared(&mut third);
     let said_all = !near.is_short() && !far.is_short() && !inner.is_short() && !outer.is_short();
-    if said_all && first && second && third {
+    if said_all && is_first_spared && is_second_spared && is_third_spared {
         played
     } else {
         Err(Stop::Memory)
@@ -155,11 +157,17 @@ fn happen_all<'a, T: Wait + Clock>(
 }
 
 /// Whether no memory was refused in the disk of a gateway, whose shift ends.
-fn is_spared<'a, T: Wait>(side: Side<'a, T>) -> bool {
-    match side.open {
-        Some(opened) => !opened.shift.end().node.starved(),
+fn is_spared<'a, T: Wait>(side: &mut Side<'a, T>) -> bool {
+    match side.open.take() {
+        Some(opened) => end_spared(opened),
         None => true,
     }
+}
+
+/// Ends a shift: whether no memory was refused in the disk of its gateway.
+fn end_spared(opened: OpenShift) -> bool {
+    let OpenShift { shift, .. } = opened;
+    !shift.end().node.starved()
 }
 
 /// A gateway of this number on an empty disk, without a link.
