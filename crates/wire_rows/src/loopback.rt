@@ -101,11 +101,16 @@ fn print_answer(alloc: Global, text: &mut String, answer: &Option<Got>) -> Resul
     match answer {
         Some(got) => {
             let (octets, size) = *got;
-            let octets = shown(alloc, octets.get(..size).unwrap_or(&[]))?;
-            Ok(writeln!(text, "answered {octets}")?)
+            print_octets(alloc, text, &octets, size)
         }
         None => Ok(text.push_str("not answered\n")?),
     }
+}
+
+/// The first octets of an answer, so many.
+fn print_octets(alloc: Global, text: &mut String, octets: &[u8], size: usize) -> Result<(), Stop> {
+    let octets = shown(alloc, octets.get(..size).unwrap_or(&[]))?;
+    Ok(writeln!(text, "answered {octets}")?)
 }
 
 /// One thread asks, others serve.
