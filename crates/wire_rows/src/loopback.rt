@@ -10,10 +10,8 @@ use mio::net::UdpSocket;
 use rep_model::Replica;
 use sn_local::Addr;
 use std::alloc::Global;
-use std::io::ErrorKind;
 use std::net::{Net, SocketAddr};
 use std::sync::Wait;
-use std::sync::atomic::{AtomicBool, Ordering};
 use std::thread;
 use std::thread::Threads;
 use std::time::Clock;
@@ -29,9 +27,6 @@ const HOME: Addr = Addr {
     host: 0x7f00_0001,
     port: 0,
 };
-
-/// An answer, and how many octets it has. It takes no memory.
-type Got = ([u8; 64], usize);
 
 /// What is asked: a first datagram, and another one once it is answered.
 #[derive(Drop)]
@@ -56,20 +51,13 @@ pub(crate) fn over_sockets<T: Threads + Wait + Sync + Clock + Net>(
     passes: Vec<Pass>,
     questions: &Questions<'_>,
 ) -> Result<Outcome, Stop> {
-    let mut socket = bound(rt, alloc)?;
+    let Ok(mut socket) = Socket::bind(rt, alloc, HOME) else {
+        return Err(Stop::Line);
+    };
     let asker = asker_of(rt, socket.local)?;
     let (answer, outcome) = asked(rt, alloc, shift, passes, &mut socket, &asker, questions);
-    print_answer(alloc, text, &answer)?;
+    print_answer(alloc, text, answer)?;
     Ok(outcome)
-}
-
-/// The gateway's socket.
-fn bound<T: Net>(rt: &T, alloc: Global) -> Result<Socket, Stop> {
-    match Socket::bind(rt, alloc, HOME) {
-        Ok(socket) => Ok(socket),
-        Err(error) if error.kind() == ErrorKind::OutOfMemory => Err(Stop::Memory),
-        Err(_) => Err(Stop::Line),
-    }
 }
 
 /// Somebody who asks the gateway at this address.
@@ -89,7 +77,7 @@ fn asked<T: Threads + Wait + Sync + Clock>(
     socket: &mut Socket,
     asker: &Asker,
     questions: &Questions<'_>,
-) -> (Option<Got>, Outcome) {
+) -> (Option<Vec<u8>>, Outcome) {
     let (mut ears, mouth) = socket.sides(rt);
     side_by_side(
         rt, alloc, shift, passes, &mut ears, &mouth, asker, questions,
@@ -97,20 +85,14 @@ fn asked<T: Threads + Wait + Sync + Clock>(
 }
 
 /// What was answered, if anything.
-fn print_answer(alloc: Global, text: &mut String, answer: &Option<Got>) -> Result<(), Stop> {
+fn print_answer(alloc: Global, text: &mut String, answer: Option<Vec<u8>>) -> Result<(), Stop> {
     match answer {
-        Some(got) => {
-            let (octets, size) = *got;
-            print_octets(alloc, text, &octets, size)
+        Some(octets) => {
+            let octets = shown(alloc, octets.as_slice())?;
+            Ok(writeln!(text, "answered {octets}")?)
         }
         None => Ok(text.push_str("not answered\n")?),
     }
-}
-
-/// The first octets of an answer, so many.
-fn print_octets(alloc: Global, text: &mut String, octets: &[u8], size: usize) -> Result<(), Stop> {
-    let octets = shown(alloc, octets.get(..size).unwrap_or(&[]))?;
-    Ok(writeln!(text, "answered {octets}")?)
 }
 
 /// One thread asks, others serve.
@@ -123,7 +105,7 @@ fn side_by_side<T, R, D, W, P>(
     post: &P,
     asker: &Asker,
     questions: &Questions<'_>,
-) -> (Option<Got>, Outcome)
+) -> (Option<Vec<u8>>, Outcome)
 where
     T: Threads + Wait + Sync,
     R: Replica + Send,
@@ -136,62 +118,35 @@ where
     let second = questions.second;
     let socket = &asker.socket;
     let at = asker.at;
-    let over = AtomicBool::new(false);
-    let is_over = &over;
     thread::join(
         rt,
-        || -> Option<Got> { ask_both(socket, at, first, second, is_over) },
-        || -> Outcome { serve_and_tell(rt, alloc, shift, passes, wire, post, is_over) },
+        || -> Option<Vec<u8>> { ask_both(alloc, socket, at, first, second) },
+        || -> Outcome { serve_all(rt, alloc, shift, passes, wire, post, &OpenGate, TURNS) },
     )
-}
-
-/// Serves, and tells the one who asks that it is over.
-fn serve_and_tell<T, R, D, W, P>(
-    rt: &T,
-    alloc: Global,
-    shift: &Shift<R, D>,
-    passes: Vec<Pass>,
-    wire: &mut W,
-    post: &P,
-    is_over: &AtomicBool,
-) -> Outcome
-where
-    T: Threads + Wait + Sync,
-    R: Replica + Send,
-    R::Staged: Send,
-    D: Disk + Drop + Send,
-    W: Wire,
-    P: Post + Sync,
-{
-    let outcome = serve_all(rt, alloc, shift, passes, wire, post, &OpenGate, TURNS);
-    is_over.store(true, Ordering::SeqCst);
-    outcome
 }
 
 /// Sends both, the second after the answer to the first, which is handed back.
 fn ask_both(
+    alloc: Global,
     socket: &UdpSocket,
     at: SocketAddr,
     first: &[u8],
     second: &[u8],
-    is_over: &AtomicBool,
-) -> Option<Got> {
-    let answer = ask(socket, at, first, is_over);
+) -> Option<Vec<u8>> {
+    let answer = ask(alloc, socket, at, first);
     let _ = socket.send_to(second, at);
     answer
 }
 
-/// Sends a datagram, and waits for the next that comes, until serving is over.
-fn ask(socket: &UdpSocket, at: SocketAddr, bytes: &[u8], is_over: &AtomicBool) -> Option<Got> {
+/// Sends a datagram, and waits for the next that comes.
+fn ask(alloc: Global, socket: &UdpSocket, at: SocketAddr, bytes: &[u8]) -> Option<Vec<u8>> {
     if socket.send_to(bytes, at).is_err() {
         return None;
     }
     let mut got = [0u8; 64];
     for _ in 0..LOOKS {
-        let was_over = is_over.load(Ordering::SeqCst);
         match socket.recv_from(&mut got) {
-            Ok((size, _)) => return Some((got, size)),
-            Err(_) if was_over => return None,
+            Ok((size, _)) => return Vec::from_slice(alloc, got.get(..size)?).ok(),
             Err(_) => thread::yield_now(),
         }
     }
