@@ -12,6 +12,7 @@
 #   make trial  builds all programs without a proof, for a first look, into out/trial
 #   make client proves and builds sn_client, a client for a person at a terminal
 #   make look   proves and builds jr_look, which shows what is in a journal
+#   make mend   proves and builds jr_mend, which cuts zeros from the end of a journal
 #   make install PREFIX=/usr/local
 #               installs the programs that are built, man pages, a systemd unit and examples; DESTDIR is honoured; make uninstall
 #   make deb    packs the programs that are proved and built, man pages, the unit and examples as a Debian package, into out
@@ -22,7 +23,7 @@
 
 PREFIX ?= /usr/local
 DESTDIR ?=
-PROGRAMS = sngw sn_client gw_sim jr_look
+PROGRAMS = sngw sn_client gw_sim jr_look jr_mend
 UNITS = $(DESTDIR)$(PREFIX)/lib/systemd/system
 SHARE = $(DESTDIR)$(PREFIX)/share
 
@@ -31,7 +32,7 @@ SOURCES := $(shell find crates.txt crates -path '*/out' -prune -o \( -name '*.rt
 
 TRIALS = $(PROGRAMS:%=out/trial/%)
 
-.PHONY: run prove test refusals edits bench trust daemon field trial client look install deb uninstall clean
+.PHONY: run prove test refusals edits bench trust daemon field trial client look mend install deb uninstall clean
 
 run:
 	@sh examples/show.sh
@@ -104,6 +105,12 @@ crates/jr_look/out/jr_look: $(SOURCES)
 look: crates/jr_look/out/jr_look
 	@echo "crates/jr_look/out/jr_look is built"
 
+crates/jr_mend/out/jr_mend: $(SOURCES)
+	$(call build,jr_mend,some ten minutes)
+
+mend: crates/jr_mend/out/jr_mend
+	@echo "crates/jr_mend/out/jr_mend is built"
+
 install:
 	@sh tools/install.sh "$(DESTDIR)" "$(PREFIX)"
 
@@ -112,7 +119,7 @@ deb:
 
 uninstall:
 	for name in $(PROGRAMS); do rm -f "$(DESTDIR)$(PREFIX)/bin/$$name"; done
-	for page in man8/sngw.8 man8/jr_look.8 man1/sn_client.1 man1/gw_sim.1; do rm -f "$(SHARE)/man/$$page"; done
+	for page in man8/sngw.8 man8/jr_look.8 man8/jr_mend.8 man1/sn_client.1 man1/gw_sim.1; do rm -f "$(SHARE)/man/$$page"; done
 	rm -f "$(UNITS)/nimhazel@.service"
 	for name in one two three; do rm -f "$(SHARE)/doc/nimhazel/field/$$name.toml"; done
 

@@ -21,7 +21,7 @@ clean() {
 # Ends the script if a program is not there as it was proved, with all of them in one line.
 need_programs() {
     lacks=
-    for name in sngw sn_client gw_sim jr_look; do
+    for name in sngw sn_client gw_sim jr_look jr_mend; do
         if [ ! -x "crates/$name/out/$name" ]; then
             lacks="$lacks; $name is missing ('make $(target "$name")' proves and builds it)"
         elif ! is_current "crates/$name/out/$name"; then
@@ -53,7 +53,7 @@ commit() {
 # The packages of the libraries that the programs load, with the oldest version of the C library
 # that has every symbol that they use.
 depends() {
-    for name in sngw sn_client gw_sim jr_look; do ldd -v "$root/usr/bin/$name"; done >"$work/libraries"
+    for name in sngw sn_client gw_sim jr_look jr_mend; do ldd -v "$root/usr/bin/$name"; done >"$work/libraries"
     libc=$(sed -n 's/.*(GLIBC_\([0-9.]*\)).*/\1/p' "$work/libraries" | sort -V | tail -n 1)
     list="libc6 (>= $libc)"
     if grep -q 'libgcc_s\.so' "$work/libraries"; then list="$list, libgcc-s1"; fi

@@ -12,7 +12,7 @@ prefix=$2
 
 installed=0
 old=0
-for name in sngw sn_client gw_sim jr_look; do
+for name in sngw sn_client gw_sim jr_look jr_mend; do
     program=crates/$name/out/$name
     if is_current "$program"; then
         install -D -m 755 "$program" "$root/bin/$name"
@@ -28,7 +28,7 @@ done
 python3 tools/man.py "$root/share/man"
 echo "installed $root/share/man"
 mkdir -p "$root/lib/systemd/system"
-sed "s|/usr/local/bin/|$prefix/bin/|" examples/nimhazel@.service >"$root/lib/systemd/system/nimhazel@.service"
+sed "s|/usr/local/bin/|$prefix/bin/|g" examples/nimhazel@.service >"$root/lib/systemd/system/nimhazel@.service"
 chmod 644 "$root/lib/systemd/system/nimhazel@.service"
 echo "installed $root/lib/systemd/system/nimhazel@.service"
 for name in one two three; do

@@ -18,6 +18,7 @@ target() {
     sn_client) echo client ;;
     gw_sim) echo prove ;;
     jr_look) echo look ;;
+    jr_mend) echo mend ;;
     esac
 }
 

@@ -758,8 +758,8 @@ def read_back(gateway: Gateway, place: int, sent: list, acknowledged: set) -> in
     return len(got)
 
 
-def kill_again_and_again(gateway: Gateway, kills: int, chance: random.Random, compacts: bool = False) -> str:
-    """A compacted journal has fewer records than there were publications; the messages tell all the same what is missing."""
+def kill_again_and_again(gateway: Gateway, kills: int, chance: random.Random) -> str:
+    """A journal that a start compacted has fewer records than there were publications; the messages tell all the same what is missing."""
     gateway.start()
     sent, acknowledged, counted, slowest = {}, {}, 0, 0.0
     with Client(b"publisher", gateway) as publisher:
@@ -778,11 +778,8 @@ def kill_again_and_again(gateway: Gateway, kills: int, chance: random.Random, co
             acknowledged[place] |= held
             counted += len(more)
             began = time.monotonic()
-            records, _ = gateway.start()
+            gateway.start()
             slowest = max(slowest, time.monotonic() - began)
-            total = sum(map(len, acknowledged.values()))
-            expect(compacts or records >= total,
-                   f"behind kill {turn + 1} {records} records were read, and {total} publications were acknowledged")
     got = sum(read_back(gateway, place, sent[place], acknowledged[place]) for place in sent)
     total = sum(map(len, acknowledged.values()))
     return f"{counted} sent, {total} acknowledged, {got} got, none of these missing; the slowest start took {slowest:.2f} seconds"
@@ -962,25 +959,28 @@ def turn_shifts(gateway: Gateway, probe: Client, count: int) -> None:
 
 
 def shrinks(gateway: Gateway, messages: int) -> str:
-    """What was delivered and acknowledged leaves the journal."""
+    """The journal is written anew once it has grown by more than 1 MiB, and by a start. What was delivered and acknowledged leaves it."""
     gateway.start()
     with Client(b"shrinks", gateway) as sleeper, Client(b"publisher", gateway) as publisher:
         sleeper.connect()
         sleeper.ask(subscribe(b"sk", 1, 0x22), b"\x08\x13")
         sleeper.sleep()
         publisher.connect(clean=True)
-        sent = [b"%06d" % message * 40 for message in range(messages)]
+        sent = [b"%06d" % message * 600 for message in range(messages)]
         for message, body in enumerate(sent):
             puback(publisher, b"sk", body, message + 1)
         full = max(map(len, gateway.slots()))
         expect(full > sum(map(len, sent)), f"the journal had {full} octets with {messages} messages that waited")
+        grown = max(generations(gateway))
+        expect(2 <= grown <= 4, f"the journal's generation is {grown} after {messages} messages")
         got = publisher.sends_once(sleeper.wake(60))
         expect(got == sent, f"the sleeper got {len(got)} messages of {messages}")
         turn_shifts(gateway, publisher, 2)
-        left = sum(map(len, gateway.slots()))
-        expect(left * 4 < full, f"the journal had {full} octets, and both files still have {left}")
+        gateway.kill()
+        gateway.start()
         newest = max(generations(gateway))
-        expect(newest > messages // 64, f"the journal's generation is {newest}")
+        left = min(len(slot) for slot in gateway.slots() if slot[5:13] == newest.to_bytes(8, "big"))
+        expect(newest > grown and left * 4 < full, f"generation {newest} with {left} octets of {full}")
         gateway.kill()
         records, clients = gateway.start()
         expect(clients == 2 and records < 80, f"{records} records and {clients} clients were read")
@@ -1091,8 +1091,8 @@ def part_compact(account: Account, program: str, folder: str, options) -> None:
         account.check("the journal shrinks behind its shifts", lambda: shrinks(gateway, 400))
     kills = max(1, options.kills // 4)
     with Gateway(program, folder, 2, steps="16") as gateway:
-        account.check(f"{kills} kills amid publications, with a compaction behind every 16 calls",
-                      lambda: kill_again_and_again(gateway, kills, random.Random(options.seed), True))
+        account.check(f"{kills} kills amid publications, in shifts of 16 calls",
+                      lambda: kill_again_and_again(gateway, kills, random.Random(options.seed)))
     place = os.path.join(folder, "in-its-shift")
     os.mkdir(place)
     first, second = ring(program, place, 2)

@@ -48,7 +48,7 @@ fi
 mkdir -p "$root/var/lib/dpkg/info" "$root/var/lib/dpkg/updates" "$root/var/lib/dpkg/triggers"
 : >"$root/var/lib/dpkg/status"
 in_root --install "$package"
-for name in sngw sn_client gw_sim jr_look; do
+for name in sngw sn_client gw_sim jr_look jr_mend; do
     cmp -s "crates/$name/out/$name" "$root/usr/bin/$name" || stop "FAILED: $name is not the proved program"
 done
 (cd "$root" && md5sum --quiet -c var/lib/dpkg/info/nimhazel.md5sums) || stop "FAILED: the sums differ"

@@ -179,7 +179,8 @@ class Gateway:
                 stdin=subprocess.DEVNULL, stdout=out, stderr=err, cwd=self.folder, preexec_fn=with_the_starter(0, self.room))
 
     def start(self, shifts: int = 1_000_000, seconds: float = 0) -> tuple:
-        """Starts the process, waits for its first line and for an answer, and gives the records and clients that it read."""
+        """Starts the process, waits for its first line and for an answer, and gives the records and clients that it read. It is not asked often: what
+        is asked while it listens to its peers waits in its socket."""
         seconds = seconds or Gateway.within
         if not os.path.exists(self.settings):
             self.write()
@@ -187,7 +188,7 @@ class Gateway:
         found = until(self.opening, seconds, f"gateway {self.number} printed no line 'gateway G records K clients C'")
         expect(int(found[1]) == self.number, f"gateway {self.number} called itself {found[1]}")
         with Client(b"starter", self) as starter:
-            starter.ask(search(), frame(0x02, bytes([self.number])), seconds, 0.05)
+            starter.ask(search(), frame(0x02, bytes([self.number])), seconds, 0.3)
         return int(found[2]), int(found[3])
 
     def opening(self):

@@ -16,7 +16,7 @@ The parts, all where none is named:
   lines   two gateways of one number, a contradiction and a ninth peer are told by a line of standard error each
   numbers of two gateways that dial the one is linked that the settings name, and a line tells of the other
   asks    a peer that asks each half second for all that is there is answered four times in 35 seconds at most
-  bound   a peer that tells the same megabyte 64 times ends three shifts at least: none keeps more for links than 16 MiB and one call
+  bound   a peer that tells the same megabyte 256 times ends three shifts at least: none keeps more than 64 MiB and one call
   memory  memory is refused for an answer of some 90 MB: that link is closed, clients are served, and once there is memory all is answered
 
 All but the first goes on at 127.0.0.1, at ports that the system gives, in a folder that is gone afterwards. Status 0 only where nothing failed.
@@ -367,9 +367,9 @@ def bound(program: str, folder: str) -> str:
         gateway.start()
         before = gateway.memory()
         with socket.create_connection((HOST, gateway.link), 5) as link:
-            link.settimeout(60)
+            link.settimeout(120)
             link.sendall(HELLO)
-            for _ in range(64):
+            for _ in range(256):
                 link.sendall(delta)
             time.sleep(2)
             said = f"{len(gateway.shifts())} shifts were closed, and VmRSS grew by {(gateway.memory() - before) // 1024} MiB"

@@ -267,7 +267,7 @@ fn hear<T: Wait, R: Replica, D: Disk + Drop, S: Drop>(
     requires { is_of_link (arc_value step) ≡ true }
     ensures { Adds is_of_link pass result.0 }
 {
-    let news = match news_of(rt, &step, relay) {
+    let news = match news_of(rt, link, &step, relay) {
         Ok(news) => news,
         Err(end) => return (pass, Err(end)),
     };
@@ -302,8 +302,18 @@ fn octets_of(step: &Step) -> usize {
     }
 }
 
-/// A share of what comes, where it brings anything that is new here.
-fn news_of<T: Wait>(rt: &T, step: &Arc<Step>, relay: &Relay) -> Result<Option<Arc<Step>>, End> {
+/// A share of what comes, where it brings anything that is new here. The link is lost where that is
+/// what this gateway must have made itself, and it was just started.
+fn news_of<T: Wait, S: Drop>(
+    rt: &T,
+    link: &Link<S>,
+    step: &Arc<Step>,
+    relay: &Relay,
+) -> Result<Option<Arc<Step>>, End> {
+    relay.note_heard(rt, link.place, step);
+    if relay.finds_lost(rt, link.other.unwrap_or(0), step) {
+        return Err(End::Lost);
+    }
     if !relay.is_news(rt, step) {
         return Ok(None);
     }

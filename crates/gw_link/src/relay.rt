@@ -2,7 +2,9 @@
 
 use crate::calling::End;
 use crate::trouble::{Report, Tally, Trouble, count_one, report_of};
-use gw_relay::{Name, brings_news, brings_unnoted, may_answer, may_link, name_of, replaces};
+use gw_relay::{
+    Name, brings_news, brings_unnoted, is_lost, may_answer, may_link, name_of, replaces,
+};
 use gw_shift::gw_node::{Out, Step};
 use octets::NoMemory;
 use rep_digest::{ClientEntry, Digest};
@@ -31,6 +33,8 @@ struct Place {
     is_accepted: bool,
     /// A later connection said the same number.
     is_over: bool,
+    /// The other end has asked for what it lacks.
+    has_asked: bool,
     /// The number of the next delta that is to be handed on over the link.
     at: u64,
 }
@@ -73,6 +77,12 @@ struct Board {
     octets: usize,
     answers: Vec<Answered>,
     tallies: Vec<Tally>,
+    /// How many messages were heard.
+    heard: u64,
+    /// The number of this gateway, while it is looked for what it made and lost; else 0.
+    own: u8,
+    /// The gateway that told such an operation.
+    found_by: Option<u8>,
 }
 
 /// What all links of a gateway share: what is handed on from one to the others, who is linked, when
@@ -100,6 +110,9 @@ impl Relay {
                 octets: 0,
                 answers: Vec::new(alloc),
                 tallies: Vec::new(alloc),
+                heard: 0,
+                own: 0,
+                found_by: None,
             }),
         }
     }
@@ -133,6 +146,7 @@ impl Relay {
             other,
             is_accepted,
             is_over: false,
+            has_asked: false,
             at,
         };
         if board.places.push(place).is_err() {
@@ -268,6 +282,54 @@ impl Relay {
         report_of(board.tallies.as_mut_slice(), second)
     }
 
+    /// From now on the gateway of this number is told by no other what it must have made itself, or
+    /// that is found; with 0 it is not looked for.
+    pub fn look_for_lost<T: Wait>(&self, rt: &T, own: u8) {
+        self.board.lock(rt).own = own;
+    }
+
+    /// The gateway that told what this one must have made itself, and has lost.
+    pub fn found_by<T: Wait>(&self, rt: &T) -> Option<u8> {
+        self.board.lock(rt).found_by
+    }
+
+    /// How many messages were heard, and how many of the peers that were dialled have asked for what
+    /// they lack.
+    pub fn heard<T: Wait>(&self, rt: &T) -> (u64, u64) {
+        let board = self.board.lock(rt);
+        let mut asked = 0u64;
+        for place in board.places.as_slice() {
+            if place.has_asked && !place.is_accepted {
+                asked = asked.saturating_add(1);
+            }
+        }
+        (board.heard, asked)
+    }
+
+    /// A message was heard over the link of this place.
+    pub(crate) fn note_heard<T: Wait>(&self, rt: &T, id: Option<u64>, step: &Step) {
+        let mut board = self.board.lock(rt);
+        board.heard = board.heard.saturating_add(1);
+        if matches!(step, Step::Answer { .. }) {
+            for place in board.places.as_mut_slice() {
+                if Some(place.id) == id {
+                    place.has_asked = true;
+                }
+            }
+        }
+    }
+
+    /// Whether a delta, which this gateway told, has what the one of `look_for_lost` must have made
+    /// itself, and has lost.
+    pub(crate) fn finds_lost<T: Wait>(&self, rt: &T, giver: u8, step: &Step) -> bool {
+        let mut board = self.board.lock(rt);
+        if board.own == 0 || !tells_lost(&board, step) {
+            return false;
+        }
+        board.found_by = Some(giver);
+        true
+    }
+
     /// Whether a digest of a gateway may be answered in this second.
     pub(crate) fn may_answer<T: Wait>(&self, rt: &T, number: u8, second: u64) -> bool {
         let board = self.board.lock(rt);
@@ -284,6 +346,26 @@ impl Relay {
         let mut board = self.board.lock(rt);
         board.answers.retain(|answer| answer.number != number);
         let _ = board.answers.push(Answered { number, second });
+    }
+}
+
+/// Whether a delta has what this gateway must have made itself, and has lost. Before its digest was
+/// worked out that is not known.
+fn tells_lost(board: &Board, step: &Step) -> bool {
+    let Step::Take { delta } = step else {
+        return false;
+    };
+    let Some(out) = board.known.as_ref() else {
+        return false;
+    };
+    match out.digest.as_ref() {
+        None => false,
+        Some(digest) => delta.ops().iter().any(|op| is_lost(
+            digest,
+            board.notes.as_slice(),
+            board.own,
+            op,
+        )),
     }
 }
 

@@ -26,8 +26,7 @@ pub struct Stage {
     steps: u64,
     /// How often one was asked for.
     claims: AtomicU64,
-    /// How many octets of answers to other gateways, of digests and of what these told its history
-    /// keeps.
+    /// How many octets of datagrams, answers, digests and deltas its history keeps.
     kept: AtomicU64,
 }
 
@@ -58,9 +57,9 @@ impl Stage {
         self.claims.load(Ordering::SeqCst) >= self.steps
     }
 
-    /// The history keeps such an answer, digest or delta of so many octets. Where it keeps more of
+    /// The history keeps a datagram, answer, digest or delta of so many octets. Where it keeps more of
     /// them than it should, the shift is to end.
-    pub(crate) fn keep<T: Wait>(&self, rt: &T, octets: usize) {
+    pub fn keep<T: Wait>(&self, rt: &T, octets: usize) {
         let before = self.kept.fetch_add(octets as u64, Ordering::SeqCst);
         if is_much(before.saturating_add(octets as u64)) {
             self.close(rt);

@@ -1,7 +1,9 @@
 pub mod Numbers
 pub mod Addresses
 pub mod Keys
+pub mod Patterns
 pub mod Reading
 pub mod Beginning
 pub mod Tending
+pub mod Growing
 pub mod inner

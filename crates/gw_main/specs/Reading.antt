@@ -13,6 +13,7 @@ use Rattle.gw_main.specs.declared.fault.SettingsFault.TheVariants as faults
 use Rattle.gw_main.specs.declared.options.Settings.{Settings}
 use Rattle.gw_main.specs.Addresses.{address_of}
 use Rattle.gw_main.specs.Keys.{name_of}
+use Rattle.gw_main.specs.Patterns.{is_pattern}
 
 -- ---- values
 
@@ -68,6 +69,14 @@ entry_item found = option_and_then entry_from (as_table found)
 abbrev pub number_item : Data → Option ℕ
 number_item found = number_in 1 255 None (Some found)
 
+-- a text that is a pattern of client ids
+abbrev pub pattern_from : List ℕ → Option (List ℕ)
+pattern_from text = if is_pattern text then Some text else None
+
+-- an item that is such a text
+abbrev pub pattern_item : Data → Option (List ℕ)
+pattern_item found = option_and_then pattern_from (as_str found)
+
 -- entries none of whose ids is reserved or occurs twice
 abbrev pub table_from : Entries → Option Entries
 table_from entries = if is_table entries then Some entries else None
@@ -122,6 +131,14 @@ predefined_in members = option_and_then table_from (list_in entry_item (at keys.
 abbrev pub numbers_in : Members → Option (List ℕ)
 numbers_in members = list_in number_item (at keys.Numbers members)
 
+-- the patterns of client ids that are let in; none if it is not said
+abbrev pub clients_in : Members → Option (List (List ℕ))
+clients_in members = list_in pattern_item (at keys.Clients members)
+
+-- how many new client ids come in within a minute; 0, for any number, if it is not said
+abbrev pub newcomers_in : Members → Option ℕ
+newcomers_in members = number_in 0 65535 (Some 0) (at keys.Newcomers members)
+
 -- ---- the whole
 
 -- the settings hold what the document says of each key, or the key's default
@@ -137,6 +154,8 @@ pub record Says (members : Members) (settings : Settings) : Type 0 where
   pub peers : peers_in members ≡ Some settings.peers.items
   pub predefined : predefined_in members ≡ Some settings.predefined
   pub numbers : numbers_in members ≡ Some settings.numbers.items
+  pub clients : clients_in members ≡ Some settings.clients.items
+  pub newcomers : newcomers_in members ≡ Some settings.newcomers
 
 -- the key, if nothing was read, else what is found after it
 abbrev pub or_else : {A : Type 0} → Option A → Key → Option Key → Option Key
@@ -157,7 +176,9 @@ first_bad members =
     (or_else (field_in members) keys.Field
     (or_else (peers_in members) keys.Peers
     (or_else (predefined_in members) keys.Predefined
-    (or_else (numbers_in members) keys.Numbers None))))))))))
+    (or_else (numbers_in members) keys.Numbers
+    (or_else (clients_in members) keys.Clients
+    (or_else (newcomers_in members) keys.Newcomers None))))))))))))
 
 -- the text is a document that says these settings
 abbrev pub IsRead : List ℕ → Settings → Type 0

@@ -12,7 +12,7 @@ use Rattle.gw_node.specs.Calls.{CompactCall}
 use Rattle.gw_node.specs.Opening.{ReopenCall}
 use Rattle.gw_node.specs.Taking.{on_disk, HasTaken}
 use Rattle.gw_main.specs.declared.tending.Tended.{Tended}
-use Rattle.gw_main.specs.declared.tending.Tended.TheVariants.{Kept, Reopened}
+use Rattle.gw_main.specs.declared.tending.Tended.TheVariants.{Kept, Reopened, Unwritten}
 
 -- the journal is rewritten; or it stays as it is, because its generation is the last there is, or
 -- memory ran out
@@ -33,20 +33,26 @@ OpensAnew old new = (out : Out) × ReopenCall old (Ok out) new
 -- A gateway that goes on is compacted. If the disk fails in that, the gateway is opened again.
 abbrev pub EndsAs : {D : Type 0} {G : Ghosts D} → State G → Tended → State G → Type 0
 EndsAs old Kept new = CompactsIfMay old new
-EndsAs {G = G} old Reopened new = (failed : State G) × CompactsNot old failed × OpensAnew failed new
+EndsAs old Reopened new = ⊥
+EndsAs {G = G} old Unwritten new = (failed : State G) × CompactsNot old failed × OpensAnew failed new
 
 -- and that is refused
 abbrev pub EndsRefused : {D : Type 0} {G : Ghosts D} → State G → Refusal → State G → Type 0
 EndsRefused {G = G} old refusal new = (failed : State G) × CompactsNot old failed
     × ReopenCall failed (Err refusal) new
 
+-- a gateway that is halted is opened again, and then ends so
+abbrev pub EndsOpened : {D : Type 0} {G : Ghosts D} → State G → Tended → State G → Type 0
+EndsOpened {G = G} old tended new =
+    (is_halted old ≡ true)
+    × ((opened : State G) × OpensAnew old opened × EndsAs opened tended new)
+
 -- A gateway that goes on is compacted. One that is halted is opened again first.
 abbrev pub IsTended : {D : Type 0} {G : Ghosts D} → State G → Tended → State G → Type 0
 IsTended old Kept new = (is_halted old ≡ false) × EndsAs old Kept new
-IsTended {G = G} old Reopened new =
-    ((is_halted old ≡ false) × EndsAs old Reopened new)
-    ⊎ ((is_halted old ≡ true)
-    × ((opened : State G) × OpensAnew old opened × ((tended : Tended) × EndsAs opened tended new)))
+IsTended old Reopened new = EndsOpened old Kept new
+IsTended old Unwritten new =
+    ((is_halted old ≡ false) × EndsAs old Unwritten new) ⊎ EndsOpened old Unwritten new
 
 -- it could not be opened again, before the compaction or after it
 abbrev pub IsGivenUp : {D : Type 0} {G : Ghosts D} → State G → Refusal → State G → Type 0

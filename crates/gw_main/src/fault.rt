@@ -46,6 +46,14 @@ pub enum Key {
     /// all may.
     #[error("numbers")]
     Numbers,
+    /// The client ids that are let in: texts in which `?` stands for any octet and `*`, at the end,
+    /// for any rest; or else none are named, and all are.
+    #[error("clients")]
+    Clients,
+    /// How many client ids that are new come in within a minute: 1 to 65,535; 0, or else, for any
+    /// number.
+    #[error("newcomers")]
+    Newcomers,
 }
 
 impl Key {
@@ -65,6 +73,8 @@ impl Key {
             Key::Peers => "peers",
             Key::Predefined => "predefined",
             Key::Numbers => "numbers",
+            Key::Clients => "clients",
+            Key::Newcomers => "newcomers",
         }
     }
 }

@@ -10,7 +10,8 @@ ghost use Rattle.gw_main.specs.declared.fault.Key.TheVariants as keys;
 
 use super::fault::{Key, SettingsFault};
 use super::keys::{address_item, found, number_in};
-use octets::NoMemory;
+use super::patterns::is_pattern;
+use octets::{NoMemory, Octets};
 use sn_local::Addr;
 use sn_topic::{Predefined, TopicFault, TopicName};
 use std::alloc::Global;
@@ -100,6 +101,69 @@ pub(crate) fn numbers_at(alloc: Global, table: &Table) -> Result<Vec<u8>, Settin
         Some(value) => match value.as_array() {
             None => Err(SettingsFault::Key(Key::Numbers)),
             Some(items) => numbers(alloc, items.as_slice(), Key::Numbers),
+        },
+    }
+}
+
+/// A text as a pattern of client ids, where it is one.
+fn pattern_from(alloc: Global, text: &[u8]) -> Result<Option<Octets>, NoMemory>
+    ensures { IfOk result (λ pattern. pattern ≡ spec.pattern_from text.now) }
+{
+    if !is_pattern(text) {
+        return Ok(None);
+    }
+    match Octets::from_slice(alloc, text) {
+        Ok(pattern) => Ok(Some(pattern)),
+        Err(fault) => Err(fault),
+    }
+}
+
+/// The pattern that a value writes.
+fn pattern_item(alloc: Global, value: &Value) -> Result<Option<Octets>, NoMemory>
+    ensures { IfOk result (λ pattern. pattern ≡ spec.pattern_item (view value.now)) }
+{
+    match value.as_str() {
+        None => Ok(None),
+        Some(text) => pattern_from(alloc, text.as_bytes()),
+    }
+}
+
+/// The patterns of a list.
+#[tactic(auto, using(crate::proofs::Items::goes_on, crate::proofs::Items::stops, crate::proofs::Items::begins, crate::proofs::Items::ends))]
+fn patterns(alloc: Global, items: &[Value]) -> Result<Vec<Octets>, SettingsFault>
+    ensures ok { IfOk result
+        (λ all. each spec.pattern_item (items_view items.now) ≡ Some all.items) }
+    ensures err { IfErr result (IsBadAt (each spec.pattern_item (items_view items.now))
+        keys.Clients) }
+{
+    let mut all = Vec::new(alloc);
+    let mut left = items;
+    'items: while let Some((item, rest)) = left.split_first() {
+        match pattern_item(alloc, item) {
+            Err(_) => return Err(SettingsFault::Memory),
+            Ok(None) => return Err(SettingsFault::Key(Key::Clients)),
+            Ok(Some(one)) => {
+                if all.reserve(1).is_err() {
+                    return Err(SettingsFault::Memory);
+                }
+                all.push_reserved(one);
+            }
+        }
+        left = rest;
+    }
+    Ok(all)
+}
+
+/// The patterns of the client ids that are let in; none where the key is not there.
+pub(crate) fn clients_at(alloc: Global, table: &Table) -> Result<Vec<Octets>, SettingsFault>
+    ensures ok { IfOk result (λ all. spec.clients_in (table_view table.now) ≡ Some all.items) }
+    ensures err { IfErr result (IsBadAt (spec.clients_in (table_view table.now)) keys.Clients) }
+{
+    match found(table, Key::Clients.name()) {
+        None => Ok(Vec::new(alloc)),
+        Some(value) => match value.as_array() {
+            None => Err(SettingsFault::Key(Key::Clients)),
+            Some(items) => patterns(alloc, items.as_slice()),
         },
     }
 }

@@ -1,5 +1,6 @@
 //! What the settings hold.
 
+use octets::Octets;
 use sn_local::Addr;
 use sn_topic::Predefined;
 
@@ -28,4 +29,8 @@ pub struct Settings {
     pub predefined: Predefined,
     /// The gateways that may be linked: all, where none is named.
     pub numbers: Vec<u8>,
+    /// The patterns of the client ids that are let in: all, where none is named.
+    pub clients: Vec<Octets>,
+    /// How many new client ids come in within a minute; 0 for any number.
+    pub newcomers: u16,
 }

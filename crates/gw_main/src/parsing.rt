@@ -7,7 +7,7 @@ ghost use Rattle.gw_main.specs.inner.Reading.{IsBad};
 
 use super::fault::{Key, SettingsFault};
 use super::keys::{address_at, number_at, text_at};
-use super::lists::{addresses_at, numbers_at, predefined_at};
+use super::lists::{addresses_at, clients_at, numbers_at, predefined_at};
 use super::options::Settings;
 use gw_shift::MAX_STEPS;
 use std::alloc::Global;
@@ -50,6 +50,8 @@ fn settings_of(alloc: Global, table: &Table) -> Result<Settings, SettingsFault>
     let peers = addresses_at(alloc, table, Key::Peers)?;
     let predefined = predefined_at(alloc, table)?;
     let numbers = numbers_at(alloc, table)?;
+    let clients = clients_at(alloc, table)?;
+    let newcomers = number_at(table, Key::Newcomers, 0, 65_535, Some(0))?;
     Ok(Settings {
         gateway: gateway as u8,
         listen,
@@ -62,5 +64,7 @@ fn settings_of(alloc: Global, table: &Table) -> Result<Settings, SettingsFault>
         peers,
         predefined,
         numbers,
+        clients,
+        newcomers: newcomers as u16,
     })
 }

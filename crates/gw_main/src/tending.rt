@@ -18,14 +18,18 @@ use std::alloc::Global;
 pub enum Tended {
     /// It goes on as it was. Its journal may be a shorter one.
     Kept,
-    /// It was opened anew from its journal, and knows no bindings, dialogs and timers.
+    /// It was halted, and was opened anew from its journal. It knows no bindings, dialogs and timers.
+    /// Its journal may be a shorter one.
     Reopened,
+    /// The disk failed when the journal was written anew. The gateway was opened anew from what the
+    /// disk holds, as above.
+    Unwritten,
 }
 
 /// Tends a gateway between two shifts. One that is halted is opened anew from its journal. Then the
 /// journal is written anew without what no longer counts; where its generation is the last there
 /// is, or memory ran out, it stays as it is, and where the disk failed in that, the gateway is
-/// opened anew from what the disk holds.
+/// opened anew from what the disk holds. What is said tells these cases apart.
 ///
 /// A gateway that was tended is not halted. The fault is that of an opening, want of memory too,
 /// and the gateway is halted then. On an honest disk it has still taken all that it had taken.
@@ -45,7 +49,9 @@ pub fn tend<R: Replica, D: Disk + Drop>(
     }
     open_anew(alloc, node)?;
     match compact(alloc, node) {
-        Ok(_) => Ok(Tended::Reopened),
+        Ok(Tended::Kept) => Ok(Tended::Reopened),
+        Ok(Tended::Unwritten) => Ok(Tended::Unwritten),
+        Ok(Tended::Reopened) => unreachable!(),
         Err(fault) => Err(fault),
     }
 }
@@ -84,7 +90,7 @@ fn compact<R: Replica, D: Disk + Drop>(
 {
     match node.compact(alloc) {
         Err(NodeFault::Disk { .. }) => match open_anew(alloc, node) {
-            Ok(()) => Ok(Tended::Reopened),
+            Ok(()) => Ok(Tended::Unwritten),
             Err(fault) => Err(fault),
         },
         Ok(_) | Err(_) => Ok(Tended::Kept),

@@ -1,5 +1,5 @@
 -- What is known of operations: what a digest covers, and what was noted since.
-use Rattle.std.specs.Prelude.{ℕ, ◌==◌, Bool, ◌&&◌, ◌||◌, nat_le, List}
+use Rattle.std.specs.Prelude.{ℕ, ◌==◌, Bool, ◌&&◌, ◌||◌, not, nat_le, List}
 use Rattle.std.specs.List.{list_any}
 use Rattle.rep_op.specs.declared.op.Op.{Op}
 use Rattle.rep_op.specs.declared.op.Op.TheVariants.{Session as OfSession, Put as OfPut, Ack}
@@ -74,3 +74,32 @@ is_noted notes op = list_any (is_of op) notes
 -- whether an operation is known: a digest covers it, or it was noted since
 abbrev pub is_known : List ClientEntry → List Name → Op → Bool
 is_known digest notes op = is_covered digest op || is_noted notes op
+
+-- whether a range goes up to this number, at least
+abbrev pub goes_to : ℕ → ℕ × ℕ → Bool
+goes_to last range = nat_le last range.1
+
+-- whether what is said of an origin has a message of it from this number on
+abbrev pub origin_reaches : ℕ → ℕ → OriginEntry → Bool
+origin_reaches origin last said =
+    (said.origin == origin)
+    && (list_any (goes_to last) said.waiting || list_any (goes_to last) said.acknowledged)
+
+-- whether an entry is of the client, and has a message of the origin from this number on
+abbrev pub entry_reaches : List ℕ → ℕ → ℕ → ClientEntry → Bool
+entry_reaches c origin last entry =
+    same_client entry.client c && list_any (origin_reaches origin last) entry.origins
+
+-- whether a digest has a message of an origin, for a client, from this number on
+abbrev pub reaches : List ℕ → ℕ → ℕ → List ClientEntry → Bool
+reaches c origin last digest = list_any (entry_reaches c origin last) digest
+
+-- Whether an operation can only come from the gateway, and its digest does not have it: its own
+-- change or message is not known; or a message of it is acknowledged that is above all it knows.
+abbrev pub is_lost : List ClientEntry → List Name → ℕ → Op → Bool
+is_lost digest notes gateway (OfSession c stamp counter change) =
+    (stamp.gateway == gateway) && not (is_known digest notes (OfSession c stamp counter change))
+is_lost digest notes gateway (OfPut c put) =
+    (put.origin == gateway) && not (is_known digest notes (OfPut c put))
+is_lost digest notes gateway (Ack c origin first last) =
+    (origin == gateway) && not (reaches c origin last digest)

@@ -1,6 +1,6 @@
 -- How long is waited for something, and between two things that cost.
-use Rattle.std.specs.Prelude.{ℕ, ◌+◌, ◌-◌, ◌==◌, Bool, ◌&&◌, if◌then◌else◌, nat_le, nat_lt, Option, Some, None}
-use Rattle.gw_relay.specs.declared.pausing.TheConstants.{ANSWER_PAUSE, QUIET_TIME, GONE_TIME, LONGEST_PAUSE, LINE_PAUSE}
+use Rattle.std.specs.Prelude.{ℕ, ◌+◌, ◌-◌, ◌==◌, Bool, ◌&&◌, ◌||◌, if◌then◌else◌, nat_le, nat_lt, Option, Some, None}
+use Rattle.gw_relay.specs.declared.pausing.TheConstants.{ANSWER_PAUSE, QUIET_TIME, GONE_TIME, LONGEST_PAUSE, LINE_PAUSE, LONGEST_LISTENING, QUIET_MOMENT}
 
 -- whether a digest may be answered in a second, after one that was answered before
 abbrev pub may_answer : ℕ → ℕ → Bool
@@ -30,3 +30,9 @@ replaces is_accepted number older_is_accepted older =
 abbrev pub is_to_tell : ℕ → ℕ → Option ℕ → ℕ → Bool
 is_to_tell count told None second = nat_lt told count
 is_to_tell count told (Some last) second = nat_lt told count && nat_le LINE_PAUSE (second - last)
+
+-- whether a gateway that was started may serve: each peer has asked, and it is quiet; or it has
+-- listened long enough
+abbrev pub may_serve : ℕ → ℕ → ℕ → ℕ → Bool
+may_serve peers asked quiet listened =
+    nat_le LONGEST_LISTENING listened || (nat_le peers asked && nat_le QUIET_MOMENT quiet)

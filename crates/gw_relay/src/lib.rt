@@ -4,12 +4,13 @@
 //! where that was new here, so that a field works which is connected and not linked in every pair.
 //!
 //! - `name`: the name of an operation, without what it says (`Name`).
-//! - `news`: whether a delta has an operation that is not known yet (`brings_news`).
+//! - `news`: whether a delta has an operation that is not known yet (`brings_news`), or one that its
+//!   own gateway has lost (`is_lost`).
 //! - `going`: to which link it goes on (`goes_on`), and who may be linked (`may_link`).
 //! - `pausing`: how long is waited: for an answer to a digest (`may_answer`), for a word
-//!   (`is_quiet`, `is_gone`), for a dial (`next_pause`), for a line (`is_to_tell`); and which link
-//!   ends another (`replaces`).
-//! - `sizes`: how an answer is cut (`fits`), and how much is kept for links (`is_much`).
+//!   (`is_quiet`, `is_gone`), for a dial (`next_pause`), for a line (`is_to_tell`), before a
+//!   start serves (`may_serve`); and which link ends another (`replaces`).
+//! - `sizes`: how an answer is cut (`fits`), and how much a shift keeps (`is_much`).
 //! - `laws`: in a connected field whose links stay up a delta reaches every gateway.
 //!
 //! The definitions are in `specs/`: `News` (what is known of operations), `Going` (to whom a delta
@@ -27,9 +28,9 @@ mod sizes;
 pub use going::{goes_on, may_link};
 pub use laws::reaches_all;
 pub use name::{Name, name_of};
-pub use news::{brings_news, brings_unnoted, is_covered, is_known, is_noted};
+pub use news::{brings_news, brings_unnoted, is_covered, is_known, is_lost, is_noted};
 pub use pausing::{
-    ANSWER_PAUSE, GONE_TIME, LINE_PAUSE, LONGEST_PAUSE, QUIET_TIME, is_gone, is_quiet, is_to_tell,
-    may_answer, next_pause, replaces,
+    ANSWER_PAUSE, GONE_TIME, LINE_PAUSE, LONGEST_LISTENING, LONGEST_PAUSE, QUIET_MOMENT,
+    QUIET_TIME, is_gone, is_quiet, is_to_tell, may_answer, may_serve, next_pause, replaces,
 };
 pub use sizes::{MOST_KEPT, PIECE, fits, is_much};

@@ -141,6 +141,66 @@ fn holds(range: (u64, u64), first: u64, last: u64) -> bool
     range.0 <= first && last <= range.1
 }
 
+/// Whether an operation can only come from the gateway of this number, whose digest does not have
+/// it: a change that it made or a message that it put is not known, or one is acknowledged that is
+/// above all that it knows. So its journal is not the newest one, or its number was used before.
+pub fn is_lost(digest: &Digest, notes: &[Name], gateway: u8, op: &Op) -> bool
+    ensures { result ≡ spec.is_lost digest.now notes.now gateway op.now }
+{
+    match op {
+        Op::Session { stamp, .. } => stamp.gateway == gateway && !is_known(digest, notes, op),
+        Op::Put { put, .. } => put.origin == gateway && !is_known(digest, notes, op),
+        Op::Ack {
+            client,
+            origin,
+            first: _,
+            last,
+        } => *origin == gateway && !reaches(digest, client, *origin, *last),
+    }
+}
+
+/// Whether a digest has a message of an origin, for a client, from this number on.
+fn reaches(digest: &Digest, client: &ClientId, origin: u8, last: u64) -> bool
+    ensures { result ≡ spec.reaches client.now origin last digest.now }
+{
+    digest.entries().iter().any(|entry| entry.client == *client
+        && entry_reaches(entry, origin, last))
+}
+
+/// Whether an entry has a message of an origin from this number on.
+fn entry_reaches(entry: &ClientEntry, origin: u8, last: u64) -> bool
+    ensures { result ≡ list_any (spec.origin_reaches origin last) entry.now.origins }
+{
+    entry
+        .origins
+        .as_slice()
+        .iter()
+        .any(|said| origin_reaches(said, origin, last))
+}
+
+/// Whether what is said of an origin has a message of it from this number on.
+fn origin_reaches(said: &OriginEntry, origin: u8, last: u64) -> bool
+    ensures { result ≡ spec.origin_reaches origin last said.now }
+{
+    said.origin == origin
+        && (range_reaches(said.waiting.as_slice(), last)
+            || range_reaches(said.acknowledged.as_slice(), last))
+}
+
+/// Whether one of the ranges goes up to this number, at least.
+fn range_reaches(ranges: &[(u64, u64)], last: u64) -> bool
+    ensures { result ≡ list_any (spec.goes_to last) ranges.now }
+{
+    ranges.iter().any(|range| goes_to(*range, last))
+}
+
+/// Whether a range goes up to this number, at least.
+fn goes_to(range: (u64, u64), last: u64) -> bool
+    ensures { result ≡ spec.goes_to last range }
+{
+    last <= range.1
+}
+
 /// Whether an operation was noted.
 pub fn is_noted(notes: &[Name], op: &Op) -> bool
     ensures { result ≡ spec.is_noted notes.now op.now }

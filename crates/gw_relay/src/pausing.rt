@@ -18,6 +18,21 @@ pub const LONGEST_PAUSE: u64 = 60;
 /// How many seconds lie between two lines of one trouble.
 pub const LINE_PAUSE: u64 = 60;
 
+/// How many milliseconds a gateway listens at most after its start, before it serves.
+pub const LONGEST_LISTENING: u64 = 5_000;
+
+/// How many milliseconds nothing comes over links before all is heard that was there.
+pub const QUIET_MOMENT: u64 = 300;
+
+/// Whether a gateway that was started may serve, which dials so many peers. So many of them have
+/// asked for what they lack, nothing was heard for so many milliseconds, and it has listened for so
+/// many: each peer was heard, and all that came of it; or it has listened long enough.
+pub fn may_serve(peers: u64, asked: u64, quiet: u64, listened: u64) -> bool
+    ensures { result ≡ spec.may_serve peers asked quiet listened }
+{
+    listened >= LONGEST_LISTENING || (asked >= peers && quiet >= QUIET_MOMENT)
+}
+
 /// Whether a digest of a gateway may be answered in a second, after one that was answered before.
 pub fn may_answer(last: u64, second: u64) -> bool
     ensures { result ≡ spec.may_answer last second }

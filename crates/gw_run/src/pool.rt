@@ -1,6 +1,8 @@
 //! What outlives a shift: the links of a gateway, and when its clock last ticked.
 
+use crate::listening::Listening;
 use gw_link::{Link, Origin, Relay};
+use gw_wire::FieldClock;
 use std::alloc::Global;
 use std::sync::atomic::{AtomicU64, Ordering};
 use std::sync::{Mutex, Wait};
@@ -29,6 +31,10 @@ pub struct Pool<S: Drop> {
     links: Mutex<Links<S>>,
     /// What the links share.
     pub relay: Relay,
+    /// The clock by which the gateway counts: no time passes while it stands still.
+    pub clock: FieldClock,
+    /// Whether the gateway listens, and does not serve yet.
+    pub listening: Listening,
     ticked: AtomicU64,
 }
 
@@ -56,6 +62,8 @@ impl<S: Drop> Pool<S> {
                 accepted: 0,
             }),
             relay: Relay::new(alloc, allowed),
+            clock: FieldClock::new(),
+            listening: Listening::new(),
             ticked: AtomicU64::new(0),
         })
     }
@@ -65,14 +73,7 @@ impl<S: Drop> Pool<S> {
         self.ticked.swap(second, Ordering::SeqCst) != second
     }
 
-    /// Whether the clock has ticked before, and not for more than so many seconds.
-    pub(crate) fn is_late(&self, second: u64, seconds: u64) -> bool {
-        let ticked = self.ticked.load(Ordering::SeqCst);
-        ticked != 0 && second > ticked.saturating_add(seconds)
-    }
-
-    /// The clock has not done in this second what it had to: it may tick once more. That it ticked
-    /// before is not forgotten.
+    /// The clock has not done in this second what it had to: it may tick once more.
     pub(crate) fn tick_again(&self, second: u64) {
         self.ticked
             .store(second.saturating_sub(1), Ordering::SeqCst);

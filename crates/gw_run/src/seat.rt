@@ -17,7 +17,7 @@ use std::time::Clock;
 const LARGEST_PIECE: usize = 65_536;
 
 /// How many milliseconds an empty seat waits before it looks for a link again.
-const A_LOOK: u64 = 20;
+const A_LOOK: u64 = 200;
 
 /// A seat for links.
 #[derive(Drop)]

@@ -7,7 +7,7 @@ use crate::pool::Pool;
 use gw_link::{End, Phase, Stage, call, dropped, is_halted};
 use gw_shift::gw_node::{Out, Step};
 use gw_shift::{Pass, Shift};
-use gw_wire::{Post, moment};
+use gw_wire::{FieldClock, Post};
 use jr_disk::Disk;
 use rep_model::Replica;
 use std::alloc::Global;
@@ -20,9 +20,9 @@ pub const MOST_TICKS: u64 = 1_024;
 /// How many milliseconds pass before the clock is looked at again.
 const A_LOOK: u64 = 100;
 
-/// How many seconds pass between two ticks at most, where nothing stood still: the clock is looked
-/// at several times in each.
-const A_BREATH: u64 = 1;
+/// How many milliseconds pass after the gateway stood still, before it ticks: what clients sent
+/// meanwhile is read first.
+const A_REST: u64 = 1_000;
 
 /// Ticks in each second while the shift is serving: until a tick gives nothing, and no oftener than
 /// `MOST_TICKS`. What a tick has to send is sent at once. A second in which it has ticked in an
@@ -62,7 +62,9 @@ pub fn tick_all<T: Wait + Clock, R: Replica, D: Disk + Drop, P: Post, S: Drop>(
     unreachable!()
 }
 
-/// Ticks where the clock has not ticked in this second.
+/// Ticks where the clock has not ticked in this second. If the machine, a sync or a shift's end held
+/// the gateway up for seconds, it reads first what clients have sent meanwhile. Before it serves it
+/// does not tick.
 #[tactic(auto, using(crate::proofs::Clock::clock_none))]
 fn tick_in_turn<T: Wait + Clock, R: Replica, D: Disk + Drop, P: Post, S: Drop>(
     rt: &T,
@@ -75,28 +77,22 @@ fn tick_in_turn<T: Wait + Clock, R: Replica, D: Disk + Drop, P: Post, S: Drop>(
 ) -> (Pass, Option<End>)
     ensures { AddsOfClock pass result.1 result.0 }
 {
-    let_in_first(rt, stage, pool);
-    let second = moment(rt);
-    if !pool.may_tick(second) {
+    let Some(second) = pool.clock.look(rt) else {
+        stage.wait(rt, Phase::Serving, A_REST);
+        return (pass, None);
+    };
+    if pool.listening.is_on() || !pool.may_tick(second) {
         return (pass, None);
     }
-    let (pass, end) = tick_out(rt, alloc, shift, pass, stage, post);
+    let (pass, end) = tick_out(rt, alloc, shift, pass, stage, post, &pool.clock);
     if end == Some(End::Full) {
         pool.tick_again(second);
     }
     (pass, end)
 }
 
-/// Waits for a moment where the machine, or the gateway at a shift's end, stood still for seconds.
-/// What clients have sent meanwhile is read first: else a client would be taken for lost whose
-/// message is there.
-fn let_in_first<T: Wait + Clock, S: Drop>(rt: &T, stage: &Stage, pool: &Pool<S>) {
-    if pool.is_late(moment(rt), A_BREATH) {
-        stage.wait(rt, Phase::Serving, A_LOOK);
-    }
-}
-
-/// Ticks until a tick gives nothing.
+/// Ticks until a tick gives nothing. If the gateway stood still between two ticks, the round is over:
+/// the next one takes clients for lost only by what was read since.
 #[tactic(auto, using(crate::proofs::Clock::clock_later, crate::proofs::Clock::clock_none))]
 fn tick_out<T: Wait + Clock, R: Replica, D: Disk + Drop, P: Post>(
     rt: &T,
@@ -105,12 +101,16 @@ fn tick_out<T: Wait + Clock, R: Replica, D: Disk + Drop, P: Post>(
     pass: Pass,
     stage: &Stage,
     post: &P,
+    clock: &FieldClock,
 ) -> (Pass, Option<End>)
     ensures { AddsOfClock pass result.1 result.0 }
 {
     let mut pass = pass;
     for _ in 0..MOST_TICKS {
-        let (after, ticked) = tick_once(rt, alloc, shift, pass, stage, post);
+        let Some(second) = clock.look(rt) else {
+            return (pass, None);
+        };
+        let (after, ticked) = tick_once(rt, alloc, shift, pass, stage, post, second);
         pass = after;
         match ticked {
             Ok(true) => {}
@@ -121,20 +121,21 @@ fn tick_out<T: Wait + Clock, R: Replica, D: Disk + Drop, P: Post>(
     (pass, None)
 }
 
-/// Ticks once, and sends what that gave. Says whether it gave anything. Where the gateway is
-/// halted, the next call opens it anew.
-fn tick_once<T: Wait + Clock, R: Replica, D: Disk + Drop, P: Post>(
+/// Ticks once, in this second, and sends what that gave. Says whether it gave anything. Where the
+/// gateway is halted, the next call opens it anew.
+fn tick_once<T: Wait, R: Replica, D: Disk + Drop, P: Post>(
     rt: &T,
     alloc: Global,
     shift: &Shift<R, D>,
     pass: Pass,
     stage: &Stage,
     post: &P,
+    second: u64,
 ) -> (Pass, Result<bool, End>)
     ensures { MatchResult result.1 (λ gave. AddsOfClock pass None result.0)
         (λ end. AddsOfClock pass (Some end) result.0) }
 {
-    let Ok(step) = Arc::new(alloc, Step::Tick { now: moment(rt) }) else {
+    let Ok(step) = Arc::new(alloc, Step::Tick { now: second }) else {
         return (pass, Err(End::Memory));
     };
     let (pass, answered) = call(rt, alloc, shift, pass, step, stage);

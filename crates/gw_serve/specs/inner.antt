@@ -1,4 +1,5 @@
 -- What proofs stand on and no public clause cites.
 pub mod Handling
 pub mod Queue
+pub mod Room
 pub mod Work

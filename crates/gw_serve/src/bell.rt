@@ -19,10 +19,14 @@
 //! - A worker whose look has ended takes its word back itself where the count is the same: no ring
 //!   has come, so the word is its own.
 //!
+//! The bell also counts what was taken from the queue, by which the reader knows whether there is
+//! room for more. A worker counts after it has taken: there is never less room than that says.
+//!
 //! Beside the bell stands the turn of the workers: who has it takes a number and makes its call, so
 //! that the calls are made in the order of the numbers. A worker that took a number and then waited
 //! for the gateway would be overtaken there by one with a later number.
 
+use crate::queue::has_room;
 use std::hint::spin_loop;
 use std::sync::atomic::{AtomicU64, Ordering};
 use std::sync::{Condvar, Mutex, MutexGuard, Wait};
@@ -47,6 +51,8 @@ pub struct Bell {
     rung: Condvar,
     /// Who has it takes a number and makes its call.
     turn: Mutex<()>,
+    /// How many datagrams were taken from the queue.
+    taken: AtomicU64,
 }
 
 /// What was heard at one moment.
@@ -69,7 +75,19 @@ impl Bell {
             count: AtomicU64::new(0),
             rung: Condvar::new(),
             turn: Mutex::new(()),
+            taken: AtomicU64::new(0),
         }
+    }
+
+    /// A datagram was taken from the queue.
+    pub(crate) fn note_taken(&self) {
+        self.taken.fetch_add(1, Ordering::SeqCst);
+    }
+
+    /// Whether the queue has room, into which so many datagrams were put. Any thread may ask; only
+    /// for the one that puts them it stays so.
+    pub(crate) fn has_room(&self, put: u64) -> bool {
+        has_room(put, self.taken.load(Ordering::SeqCst))
     }
 
     /// Waits for the turn to take a number and make its call. It is over when what comes back is

@@ -1,10 +1,11 @@
 //! Datagrams become calls of a shift: one reader, and a worker for each pass.
 //!
-//! The reader numbers what comes and puts it into a queue of 64; a datagram that finds the queue
-//! full is dropped without a number. One worker at a time takes a number and makes its call under
-//! the shift's lock, so that the calls come in the order of the numbers; it sends the replies
-//! after that, while another worker's call goes on. At the end each number is accounted for: it
-//! became a call, or it was left. How many there are the counts of the wire say.
+//! The reader numbers what comes and puts it into a queue of 64, and reads nothing while that is
+//! full. A datagram that finds it full all the same is dropped without a number. One worker at a
+//! time takes a number and makes its call under the shift's lock, so that the calls come in the
+//! order of the numbers; it sends the replies after that, while another worker's call goes on. At
+//! the end each number is accounted for: it became a call, or it was left. How many there are the
+//! counts of the wire say.
 //!
 //! - `serving`: the whole (`serve`), and what it hands back (`Served`, `ServeFault`).
 //! - `reader`: datagrams are numbered and put into the queue.

@@ -2,12 +2,24 @@
 
 ghost use Rattle.std.specs.Prelude.{◌≡◌, ◌^◌, ◌-◌, ◌+◌, [], ◌∷◌, ◌++◌, length};
 ghost use Rattle.gw_serve.specs.Count.{weigh};
+ghost use Rattle.gw_serve.specs.inner.Room as spec;
 ghost use Rattle.gw_serve.specs.inner.Queue.{hand, numbers, whole, Balanced};
 
 use crossbeam_channel::protocol::{Join, Lesson, Outcome, Protocol, Split};
 use crossbeam_channel::{Pass, RuledReceiver, RuledSender};
 use sn_local::Addr;
 use std::collections::LinkedList;
+
+/// How many datagrams the queue holds.
+pub const CAPACITY: usize = 64;
+
+/// Whether a queue has room into which so many datagrams were put, if at least so many of them were
+/// taken.
+pub fn has_room(put: u64, taken: u64) -> bool
+    ensures { result ≡ spec.has_room put taken }
+{
+    put.saturating_sub(taken) < CAPACITY as u64
+}
 
 /// A numbered datagram.
 #[derive(Debug, Drop)]

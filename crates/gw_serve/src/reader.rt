@@ -1,4 +1,5 @@
-//! The one reader: it numbers what comes and puts it into the queue.
+//! The one reader: it numbers what comes and puts it into the queue. While that is full it reads
+//! nothing: what comes waits in the socket.
 
 ghost use Rattle.std.specs.Prelude.{◌≡◌, ◌≢◌, ◌<◌, ◌≤◌, ◌+◌, [], Some, None, IfOk, IfErr, IfSome};
 ghost use Rattle.crossbeam_channel.specs.Claims.{view, IsSeatAt};
@@ -15,6 +16,10 @@ use gw_wire::Wire;
 use std::alloc::Global;
 use std::sync::Wait;
 use std::sync::atomic::{AtomicBool, Ordering};
+
+/// How often the reader waits a moment for room, before it reads on: then what it reads is dropped
+/// if there still is none.
+const MOST_RESTS: u32 = 10_000;
 
 /// How the reading ended.
 #[derive(Drop)]
@@ -56,6 +61,7 @@ pub fn read_all<R: Wait, W: Wire>(
         if stop.load(Ordering::SeqCst) {
             break;
         }
+        await_room(wire, bell, count);
         match take_in(alloc, wire, buffer, count + 1) {
             Err(cause) => {
                 fault = Some(cause);
@@ -74,6 +80,21 @@ pub fn read_all<R: Wait, W: Wire>(
     }
     bell.close(rt);
     Reading { count, fault }
+}
+
+/// Waits until the queue has room, into which so many datagrams were put. It gives up after some
+/// ten seconds.
+fn await_room<W: Wire>(wire: &mut W, bell: &Bell, put: u64)
+    ensures failures { W.failures wire.new ≡ W.failures wire.old }
+    ensures datagrams { (W.arrivals wire.new ≡ W.arrivals wire.old)
+        × (W.drops wire.new ≡ W.drops wire.old) }
+{
+    for _ in 0..MOST_RESTS {
+        if bell.has_room(put) {
+            return;
+        }
+        wire.rest();
+    }
 }
 
 /// What comes, under a number.

@@ -12,7 +12,7 @@ ghost use Rattle.gw_serve.specs.declared.worker.Cause.TheVariants as causes;
 ghost use Rattle.gw_serve.specs.declared.worker.Trouble.TheVariants as troubles;
 
 use crate::bell::Bell;
-use crate::queue::{Cut, Datagram, Drains, Fair, Hand, Receiver, Sender, Ticket};
+use crate::queue::{CAPACITY, Cut, Datagram, Drains, Fair, Hand, Receiver, Sender, Ticket};
 use crate::reader::{Reading, read_all};
 use crate::worker::{Cause, Seat, Taken, Trouble, work};
 use crossbeam_channel::bounded_with;
@@ -25,9 +25,6 @@ use std::sync::Wait;
 use std::sync::atomic::AtomicBool;
 use std::thread;
 use std::thread::Threads;
-
-/// How many datagrams the queue holds.
-pub const CAPACITY: usize = 64;
 
 /// The largest datagram, and more.
 pub const LARGEST: usize = 65_536;

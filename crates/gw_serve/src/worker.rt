@@ -148,6 +148,7 @@ fn take_all<T: Wait, R: Replica, D: Disk + Drop, P: Post, G: Gate>(
         let turn = bell.take_turn(rt);
         match receiver.try_recv_as::<Takes, T>(rt, &mut ticket) {
             Ok(datagram) => {
+                bell.note_taken();
                 let number = datagram.number;
                 let (after, handled) = handle(rt, alloc, shift, post, gate, pass, datagram, turn);
                 pass = after;

@@ -1,3 +1,4 @@
 pub mod Addresses
+pub mod Clock
 pub mod Arrivals
 pub mod inner

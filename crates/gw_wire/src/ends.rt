@@ -57,6 +57,12 @@ pub trait Wire {
         ensures failures { failures self.new ≡ failures self.old }
         ensures dropped { (arrivals self.new ≡ arrivals self.old)
             × (drops self.new ≡ drops self.old + 1) };
+
+    /// Waits a moment, and reads nothing: as many datagrams wait as there is room for.
+    fn rest(&mut self)
+        ensures failures { failures self.new ≡ failures self.old }
+        ensures rested { (arrivals self.new ≡ arrivals self.old)
+            × (drops self.new ≡ drops self.old) };
 }
 
 /// Where replies go. Threads share it.

@@ -4,14 +4,17 @@ ghost use Rattle.std.specs.Prelude.{◌≡◌, ◌≤◌, ◌+◌, length, IfOk,
 ghost use Rattle.gw_wire.specs.Addresses.{IsAddress};
 ghost use Rattle.gw_wire.specs.inner.Addresses as spec;
 
+use super::clock::FieldClock;
 use super::ends::{Arrival, Post, Tally, Unsent, Wire, WireFault};
 use jr_disk::Failures;
+use libc::net::{SO_RCVBUF, SOL_SOCKET, setsockopt};
 use mio::net::UdpSocket;
 use mio::{Events, Interest, Poll, Token};
 use sn_local::Addr;
 use std::alloc::Global;
 use std::io::ErrorKind;
 use std::net::{Ipv4Addr, Net, SocketAddr, SocketAddrV4};
+use std::os::fd::AsRawFd;
 use std::sync::atomic::{AtomicBool, Ordering};
 use std::time::{Clock, Duration};
 use std::{io, thread};
@@ -19,6 +22,13 @@ use std::{io, thread};
 /// How many milliseconds a receive waits for a datagram. As long a shift that has had all its calls
 /// may go on.
 const A_WHILE: u64 = 10;
+
+/// How many milliseconds a reader rests that has no room for more.
+const A_REST: u64 = 1;
+
+/// How many octets the system is asked to keep of datagrams that were not read yet. It keeps less
+/// if its own limit (`net.core.rmem_max`) is less.
+const UNREAD_OCTETS: i32 = 8_388_608;
 
 /// How often a datagram is offered to the system while that has no room for it: some tens of
 /// milliseconds in all. Where it has none in all that time, those behind are offered once each
@@ -40,8 +50,8 @@ pub struct Socket {
 
 /// The reader's side of a socket.
 #[derive(Drop)]
-pub struct Ears<'a, C: Clock> {
-    clock: &'a C,
+pub struct Ears<'a> {
+    clock: &'a FieldClock,
     socket: &'a UdpSocket,
     poll: &'a mut Poll,
     events: &'a mut Events,
@@ -85,6 +95,7 @@ impl Socket {
         ensures { IfOk result (λ made. made.failures.count ≡ 0) }
     {
         let mut socket = UdpSocket::bind(net, address(addr))?;
+        ask_for_room(&socket);
         let poll = Poll::new(net)?;
         let events = Events::with_capacity(alloc, 4)?;
         poll.registry()
@@ -100,8 +111,9 @@ impl Socket {
         })
     }
 
-    /// The two sides. Those who read count from here on.
-    pub fn sides<'a, C: Clock>(&'a mut self, clock: &'a C) -> (Ears<'a, C>, Mouth<'a>)
+    /// The two sides, of which one gives each datagram the second of this clock. Those who read
+    /// count from here on.
+    pub fn sides<'a>(&'a mut self, clock: &'a FieldClock) -> (Ears<'a>, Mouth<'a>)
         ensures failures { result.0.failures.count ≡ 0 }
         ensures datagrams { (result.0.arrivals.count ≡ 0) × (result.0.drops.count ≡ 0) }
     {
@@ -126,7 +138,16 @@ impl Socket {
     }
 }
 
-impl<'a, C: Clock> Ears<'a, C> {
+/// Asks the system to keep more of what was not read yet than it does unasked. Nothing depends on
+/// its answer.
+fn ask_for_room(socket: &UdpSocket) {
+    let mut octets = [0u8; 16];
+    octets[..4].copy_from_slice(&UNREAD_OCTETS.to_ne_bytes());
+    // SAFETY: the option is one whose value is four octets without a pointer, and they are there.
+    let _ = unsafe { setsockopt(socket.as_raw_fd(), SOL_SOCKET, SO_RCVBUF, &octets, 4) };
+}
+
+impl<'a> Ears<'a> {
     /// A datagram that is there, or nothing. A sender that has no IPv4 address is nothing.
     fn look(&self, buffer: &mut [u8]) -> io::Result<Option<(usize, Addr)>> {
         match self.socket.recv_from(buffer) {
@@ -172,7 +193,7 @@ impl<'a, C: Clock> Ears<'a, C> {
         if size > room {
             return None;
         }
-        let moment = moment(self.clock);
+        let moment = self.clock.second();
         Some(Arrival { from, size, moment })
     }
 }
@@ -187,7 +208,7 @@ pub fn moment<C: Clock>(clock: &C) -> u64 {
     }
 }
 
-impl<'a, C: Clock> Wire for Ears<'a, C> {
+impl<'a> Wire for Ears<'a> {
     ghost failures = { λ w. w.failures.count };
 
     ghost arrivals = { λ w. w.arrivals.count };
@@ -213,6 +234,12 @@ impl<'a, C: Clock> Wire for Ears<'a, C> {
 
     fn unheard(&mut self) {
         self.drops = Tally::next(&self.drops);
+    }
+
+    fn rest(&mut self) {
+        let _ = self
+            .poll
+            .poll(self.events, Some(Duration::from_millis(A_REST)));
     }
 }
 

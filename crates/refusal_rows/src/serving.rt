@@ -62,6 +62,10 @@ impl Wire for Brief {
     fn unheard(&mut self) {
         self.drops = Tally::next(&self.drops);
     }
+
+    fn rest(&mut self) {
+        thread::yield_now();
+    }
 }
 
 /// A datagram, put into the front of a buffer. Nothing where it is too long.

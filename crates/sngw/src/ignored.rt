@@ -8,7 +8,7 @@ use std::io::Write;
 use toml::{Table, Value};
 
 /// The keys that mean something.
-const KEYS: [Key; 11] = [
+const KEYS: [Key; 13] = [
     Key::Gateway,
     Key::Listen,
     Key::Link,
@@ -20,6 +20,8 @@ const KEYS: [Key; 11] = [
     Key::Peers,
     Key::Predefined,
     Key::Numbers,
+    Key::Clients,
+    Key::Newcomers,
 ];
 
 /// Tells which keys of the settings in a file are ignored. Where memory runs out, or the lines

@@ -2,12 +2,16 @@
 
 ghost use Rattle.std.specs.Prelude.{◌≡◌, ◌≤◌, length, true, IfSome};
 
-use gw_wire::{Arrival, Ears, Socket};
+use crate::admission::Admission;
+use crate::posting::Fence;
+use gw_wire::{Arrival, Ears, FieldClock, Socket};
 use std::alloc::Global;
-use std::time::Clock;
 
 /// How many octets a datagram has at most.
 const LARGEST: usize = 65_536;
+
+/// How many datagrams are dropped at once, at most.
+const MOST_DROPPED: u32 = 65_536;
 
 /// Where datagrams come from: the socket, and before it the one that came too late for its shift.
 #[derive(Drop)]
@@ -16,6 +20,23 @@ pub struct Inlet {
     pub socket: Socket,
     /// What came too late.
     pub late: Late,
+    /// How often DISCONNECT was said.
+    pub fence: Fence,
+    /// Which clients are let in.
+    pub admission: Admission,
+}
+
+impl Inlet {
+    /// Drops what has come so far.
+    pub(crate) fn drop_all(&mut self, clock: &FieldClock) {
+        self.late.arrival = None;
+        let (ears, _) = self.socket.sides(clock);
+        for _ in 0..MOST_DROPPED {
+            if ears.waiting(self.late.bytes.as_mut_slice()).is_none() {
+                return;
+            }
+        }
+    }
 }
 
 /// A datagram that came when its shift had no call left for it: it is the first one of the next
@@ -44,7 +65,7 @@ impl Late {
     }
 
     /// Where none came late, one that is there already counts as such: a shift begins with it.
-    pub(crate) fn look<C: Clock>(&mut self, ears: &Ears<'_, C>) {
+    pub(crate) fn look(&mut self, ears: &Ears<'_>) {
         if self.arrival.is_none() {
             self.arrival = ears.waiting(self.bytes.as_mut_slice());
         }

@@ -15,15 +15,21 @@
 //! - `ignored`: keys of it that mean nothing where they stand.
 //! - `stop`: why the program ends early (`Stop`).
 //! - `running`: shifts one after the other.
+//! - `keeping`: when the journal is written anew, and when a gateway that cannot write tries again.
 //! - `doors`: how links are made: peers are dialled, others are accepted.
 //! - `working`: the threads of one shift.
 //! - `watched`: the wire, which ends with the shift.
 //! - `late`: a datagram that came when its shift had no call left for it.
+//! - `posting`: how replies go out.
+//! - `admission`: which clients are let in.
 #![tactic(auto)]
 
+mod admission;
 mod doors;
 mod ignored;
+mod keeping;
 mod late;
+mod posting;
 mod reading;
 mod running;
 mod stop;

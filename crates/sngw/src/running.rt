@@ -1,7 +1,10 @@
 //! Shifts one after the other.
 
+use crate::admission::Admission;
 use crate::doors::{Door, doors_of, keep_all};
+use crate::keeping::Keeper;
 use crate::late::{Inlet, Late};
+use crate::posting::Fence;
 use crate::stop::Stop;
 use crate::working::{Worked, work};
 use gw_link::{Phase, Stage};
@@ -9,16 +12,17 @@ use gw_main::options::Settings;
 use gw_main::{Tended, number_of, tend};
 use gw_node::Node;
 use gw_run::Pool;
-use gw_wire::{Socket, address};
+use gw_wire::{FieldClock, Socket, address};
 use jr_disk::Disk;
 use rep_model::Replica;
 use std::alloc::Global;
+use std::fs::{File, Files};
 use std::io::{Eprint, ErrorKind, Print};
 use std::net::{Net, TcpListener, TcpStream};
 use std::sync::{Mutex, Wait};
 use std::thread;
 use std::thread::Threads;
-use std::time::Clock;
+use std::time::{Clock, Duration};
 
 /// Works so many shifts. The sockets are open from before the first to after the last.
 pub(crate) fn run<T, R, D>(
@@ -29,7 +33,7 @@ pub(crate) fn run<T, R, D>(
     shifts: u64,
 ) -> Result<(), Stop>
 where
-    T: Threads + Wait + Sync + Clock + Print + Eprint,
+    T: Threads + Wait + Sync + Clock + Print + Eprint + Files<File = File>,
     T: Net<Listener = TcpListener, Stream = TcpStream>,
     R: Replica + Send,
     R::Staged: Send,
@@ -55,7 +59,18 @@ where
     let Some(late) = Late::none(alloc) else {
         return Err(Stop::Memory);
     };
-    let mut inlet = Inlet { socket, late };
+    let Some(fence) = Fence::new(alloc) else {
+        return Err(Stop::Memory);
+    };
+    let Some(admission) = Admission::of(alloc, settings) else {
+        return Err(Stop::Memory);
+    };
+    let mut inlet = Inlet {
+        socket,
+        late,
+        fence,
+        admission,
+    };
     let place = Mutex::new(Some(node));
     let over = Stage::new(0, 0);
     run_beside(
@@ -92,7 +107,7 @@ fn run_beside<T, R, D>(
     over: &Stage,
 ) -> Result<(), Stop>
 where
-    T: Threads + Wait + Sync + Clock + Print + Eprint,
+    T: Threads + Wait + Sync + Clock + Print + Eprint + Files<File = File>,
     T: Net<Listener = TcpListener, Stream = TcpStream>,
     R: Replica + Send,
     R::Staged: Send,
@@ -120,7 +135,7 @@ fn work_through<T, R, D>(
     over: &Stage,
 ) -> Result<(), Stop>
 where
-    T: Threads + Wait + Sync + Clock + Print,
+    T: Threads + Wait + Sync + Clock + Print + Eprint + Files<File = File>,
     R: Replica + Send,
     R::Staged: Send,
     D: Disk + Drop + Send,
@@ -131,9 +146,8 @@ where
 }
 
 /// The shifts, each with a line when it is over. Where the gateway was opened anew in a shift, that
-/// is told before its line. Behind it the gateway is tended, unless it goes on and nothing was put
-/// into its journal: that is as short as it was, and whoever sends what changes nothing does not
-/// wear the disk.
+/// is told before its line. After it the gateway is tended if it was halted, or its journal has
+/// grown. While its writes fail it is silent between its tries: clients look for another one.
 fn work_all<T, R, D>(
     rt: &T,
     alloc: Global,
@@ -144,29 +158,135 @@ fn work_all<T, R, D>(
     shifts: u64,
 ) -> Result<(), Stop>
 where
-    T: Threads + Wait + Sync + Clock + Print,
+    T: Threads + Wait + Sync + Clock + Print + Eprint + Files<File = File>,
     R: Replica + Send,
     R::Staged: Send,
     D: Disk + Drop + Send,
 {
+    let mut keeper = Keeper::of(settings.journal.as_str());
+    write_first(rt, alloc, place, inlet, pool, &mut keeper)?;
+    listen_first(rt, settings, pool);
     for number in 0..shifts {
         let Some(node) = place.lock(rt).take() else {
             return Ok(());
         };
-        let Worked {
-            mut node,
-            steps,
-            tended,
-            has_written,
-        } = work(rt, alloc, settings, node, inlet, pool, number)?;
-        begin_anew(rt, alloc, &node, pool, tended);
-        let _ = println!(rt; "shift {} steps {}", number + 1, steps);
-        if has_written || node.is_halted() {
-            tend_behind(rt, alloc, &mut node, pool)?;
+        know_clients(alloc, settings, &node, inlet);
+        let worked = work(rt, alloc, settings, node, inlet, pool, number)?;
+        if let Some(other) = pool.relay.found_by(rt) {
+            return Err(used(rt, settings.gateway, other));
         }
+        let steps = worked.steps;
+        begin_anew(rt, alloc, &worked.node, pool, worked.tended);
+        let _ = println!(rt; "shift {} steps {}", number + 1, steps);
+        let node = go_on(rt, alloc, worked, inlet, pool, &mut keeper)?;
         *place.lock(rt) = Some(node);
     }
     Ok(())
+}
+
+/// Tends a gateway after its shift, if it was halted, or its journal has grown. If its writes fail
+/// again, it is silent for some seconds.
+fn go_on<T, R, D>(
+    rt: &T,
+    alloc: Global,
+    worked: Worked<R, D>,
+    inlet: &mut Inlet,
+    pool: &Pool<TcpStream>,
+    keeper: &mut Keeper<'_>,
+) -> Result<Node<R, D>, Stop>
+where
+    T: Wait + Clock + Print + Files<File = File>,
+    R: Replica,
+    D: Disk + Drop,
+{
+    let Worked {
+        mut node,
+        steps: _,
+        tended,
+        has_written,
+        has_recorded,
+    } = worked;
+    let has_failed = tended == Tended::Reopened || node.is_halted();
+    if has_failed || (has_written && keeper.is_grown(rt, alloc)) {
+        tend_behind(rt, alloc, &mut node, pool, keeper)?;
+    }
+    let silence = keeper.silence_after(has_recorded, has_failed);
+    be_silent(rt, inlet, &pool.clock, silence);
+    Ok(node)
+}
+
+/// From now on the clients that the gateway knows are no newcomers. If memory runs out, some of
+/// them are taken for newcomers.
+fn know_clients<R: Replica, D: Disk + Drop>(
+    alloc: Global,
+    settings: &Settings,
+    node: &Node<R, D>,
+    inlet: &mut Inlet,
+) {
+    if settings.newcomers > 0 {
+        if let Ok(clients) = node.clients(alloc) {
+            inlet.admission.know(clients);
+        }
+    }
+}
+
+/// From now on the gateway listens to the peers that it dials, and serves once they were heard.
+fn listen_first<T: Wait + Clock>(rt: &T, settings: &Settings, pool: &Pool<TcpStream>) {
+    if !settings.peers.is_empty() {
+        pool.relay.look_for_lost(rt, settings.gateway);
+        pool.listening.begin(rt, settings.peers.len());
+    }
+}
+
+/// Says that another gateway has what this one must have made, and has not.
+fn used<T: Eprint>(rt: &T, own: u8, other: u8) -> Stop {
+    let _ = eprintln!(rt;
+        "link: gateway {other} has what gateway {own} made, and this journal does not: it is not the newest one, or the number was used before"
+    );
+    Stop::Number
+}
+
+/// Writes anew what was read at the start, before anything is answered for. What an earlier program
+/// left may have octets that its last sync did not keep, which the system would call kept: after
+/// this nothing rests on them. A gateway that cannot write tries again, and is silent until it can.
+fn write_first<T, R, D>(
+    rt: &T,
+    alloc: Global,
+    place: &Mutex<Option<Node<R, D>>>,
+    inlet: &mut Inlet,
+    pool: &Pool<TcpStream>,
+    keeper: &mut Keeper<'_>,
+) -> Result<(), Stop>
+where
+    T: Wait + Clock + Print + Files<File = File>,
+    R: Replica,
+    D: Disk + Drop,
+{
+    let Some(mut node) = place.lock(rt).take() else {
+        return Ok(());
+    };
+    if node.records() == 0 {
+        *place.lock(rt) = Some(node);
+        return Ok(());
+    }
+    for _ in rt.forever() {
+        if tend_behind(rt, alloc, &mut node, pool, keeper)? != Tended::Unwritten {
+            keeper.note_written();
+            *place.lock(rt) = Some(node);
+            return Ok(());
+        }
+        let silence = keeper.wait_longer();
+        be_silent(rt, inlet, &pool.clock, silence);
+    }
+    unreachable!()
+}
+
+/// Waits so many seconds. What has come meanwhile is dropped.
+fn be_silent<T: Clock>(rt: &T, inlet: &mut Inlet, clock: &FieldClock, seconds: u64) {
+    if seconds > 0 {
+        thread::sleep(rt, Duration::from_secs(seconds));
+        inlet.drop_all(clock);
+    }
 }
 
 /// Tends the gateway after a shift.
@@ -175,17 +295,20 @@ fn tend_behind<T, R, D, S>(
     alloc: Global,
     node: &mut Node<R, D>,
     pool: &Pool<S>,
-) -> Result<(), Stop>
+    keeper: &mut Keeper<'_>,
+) -> Result<Tended, Stop>
 where
-    T: Wait + Print,
+    T: Wait + Print + Files<File = File>,
     R: Replica,
     D: Disk + Drop,
     S: Drop,
 {
+    let before = keeper.lengths(rt, alloc);
     match tend(alloc, node) {
         Ok(tended) => {
             begin_anew(rt, alloc, node, pool, tended);
-            Ok(())
+            keeper.note_tended(rt, alloc, before, tended);
+            Ok(tended)
         }
         Err(fault) => Err(Stop::Reopening(number_of(&fault))),
     }
@@ -200,7 +323,7 @@ where
     D: Disk + Drop,
     S: Drop,
 {
-    if tended == Tended::Reopened {
+    if tended != Tended::Kept {
         pool.close_all(rt);
         tell(rt, alloc, node);
     }

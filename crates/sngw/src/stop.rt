@@ -21,6 +21,9 @@ pub enum Stop {
     /// A key is missing, or what stands there is not good.
     #[error("settings {0}")]
     Key(Key),
+    /// Another gateway has what this one must have made, and its journal does not have.
+    #[error("number")]
+    Number,
     /// The two files of the journal cannot be opened.
     #[error("journal J1")]
     Disk,
@@ -50,7 +53,7 @@ impl Stop {
         ensures { result ≡ status_of self }
     {
         match self {
-            Stop::Arguments | Stop::File | Stop::Text | Stop::Key(_) => 1,
+            Stop::Arguments | Stop::File | Stop::Text | Stop::Key(_) | Stop::Number => 1,
             Stop::Disk | Stop::NoMemory | Stop::Opening | Stop::Reopening(_) => 2,
             Stop::Socket => 3,
             Stop::Memory => 4,

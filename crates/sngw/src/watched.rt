@@ -2,25 +2,54 @@
 
 ghost use Rattle.std.specs.Prelude.{◌≡◌, ◌+◌};
 
+use crate::admission::Admission;
 use crate::late::Late;
 use gw_link::{Phase, Stage};
-use gw_wire::{Arrival, Tally, Wire, WireFault};
+use gw_run::Pool;
+use gw_wire::{Arrival, Post, Tally, Wire, WireFault};
 use jr_disk::Failures;
+use std::alloc::Global;
+use std::net::TcpStream;
 use std::sync::Wait;
+use std::time::Clock;
+
+/// How many milliseconds the reader rests that has no room for more.
+const A_REST: u64 = 1;
+
+/// How often the reader rests, and how many seconds its clock goes on meanwhile, before the shift
+/// is closed since nobody takes what it read.
+const MOST_RESTS: u32 = 4_000;
+
+/// The seconds of that.
+const A_LONG_TIME: u64 = 4;
+
+/// How many milliseconds pass before it is looked again whether the gateway listens.
+const A_LOOK: u64 = 10;
 
 /// A wire that fails when its shift is to close, and closes it when all its calls are claimed. What
 /// comes is a call's, which is claimed for it and given back where it is dropped; what comes when
 /// none is left is the first datagram of the next shift, and what comes after that waits in the
 /// socket.
 #[derive(Drop)]
-pub struct Watched<'a, T: Wait, W: Wire> {
+pub struct Watched<'a, T: Wait + Clock, W: Wire, P: Post> {
     rt: &'a T,
+    alloc: Global,
     wire: &'a mut W,
+    /// By which clients are answered that are not let in.
+    mouth: P,
     stage: &'a Stage,
     /// The datagram that came too late for its shift.
     late: &'a mut Late,
     /// Whether a call is claimed for it.
     is_claimed: bool,
+    /// What outlives the shift: whether the gateway listens first.
+    pool: &'a Pool<TcpStream>,
+    /// Which clients are let in.
+    admission: &'a mut Admission,
+    /// How often the reader rested since it last read.
+    rests: u32,
+    /// The second in which it first did.
+    rested: u64,
     /// How many receives have failed.
     pub failures: Failures,
     /// How many datagrams came.
@@ -29,24 +58,60 @@ pub struct Watched<'a, T: Wait, W: Wire> {
     pub drops: Tally,
 }
 
-impl<'a, T: Wait, W: Wire> Watched<'a, T, W> {
+impl<'a, T: Wait + Clock, W: Wire, P: Post> Watched<'a, T, W, P> {
     /// A wire that has not failed.
     pub(crate) fn new(
         rt: &'a T,
+        alloc: Global,
         wire: &'a mut W,
+        mouth: P,
         stage: &'a Stage,
         late: &'a mut Late,
         is_claimed: bool,
-    ) -> Watched<'a, T, W> {
+        pool: &'a Pool<TcpStream>,
+        admission: &'a mut Admission,
+    ) -> Watched<'a, T, W, P> {
         Watched {
             rt,
+            alloc,
             wire,
+            mouth,
             stage,
             late,
             is_claimed,
+            pool,
+            admission,
+            rests: 0,
+            rested: 0,
             failures: Failures::none(),
             arrivals: Tally::none(),
             drops: Tally::none(),
+        }
+    }
+
+    /// Whether the gateway listens to its peers, and reads no datagram yet. If one of them tells
+    /// what it must have made itself, and has lost, the shift is to close.
+    fn listens(&self) -> bool {
+        if self.pool.relay.found_by(self.rt).is_some() {
+            self.stage.close(self.rt);
+        }
+        self.pool.listening.look(self.rt, &self.pool.relay)
+    }
+
+    /// Whether a datagram is a CONNECT of a client that is not let in. If so, that is answered.
+    fn turns_away(&mut self, arrival: &Arrival, datagram: &[u8]) -> bool
+        ensures failures { self.new.failures ≡ self.old.failures }
+        ensures datagrams { (self.new.arrivals ≡ self.old.arrivals)
+            × (self.new.drops ≡ self.old.drops) }
+    {
+        let second = arrival.moment;
+        let refusal = self.admission.refusal(self.alloc, second, datagram);
+        match refusal {
+            None => false,
+            Some(code) => {
+                let _ = self.mouth.send(arrival.from, &[3, 5, code]);
+                true
+            }
         }
     }
 
@@ -64,7 +129,7 @@ impl<'a, T: Wait, W: Wire> Watched<'a, T, W> {
     }
 }
 
-impl<'a, T: Wait, W: Wire> Wire for Watched<'a, T, W> {
+impl<'a, T: Wait + Clock, W: Wire, P: Post> Wire for Watched<'a, T, W, P> {
     ghost failures = { λ w. w.failures.count };
 
     ghost arrivals = { λ w. w.arrivals.count };
@@ -72,10 +137,16 @@ impl<'a, T: Wait, W: Wire> Wire for Watched<'a, T, W> {
     ghost drops = { λ w. w.drops.count };
 
     fn recv(&mut self, buffer: &mut [u8]) -> Result<Option<Arrival>, WireFault> {
-        if self.late.is_there() && self.has_call() {
+        self.rests = 0;
+        let is_listening = self.pool.listening.is_on() && self.listens();
+        if !is_listening && self.late.is_there() && self.has_call() {
             let Some(arrival) = self.late.give(buffer) else {
                 return Ok(None);
             };
+            if self.turns_away(&arrival, &buffer[..arrival.size]) {
+                self.stage.give_back();
+                return Ok(None);
+            }
             self.arrivals = Tally::next(&self.arrivals);
             return Ok(Some(arrival));
         }
@@ -86,10 +157,18 @@ impl<'a, T: Wait, W: Wire> Wire for Watched<'a, T, W> {
             self.failures = Failures::next(&self.failures);
             return Err(WireFault);
         }
+        if is_listening {
+            self.stage.wait(self.rt, Phase::Serving, A_LOOK);
+            return Ok(None);
+        }
         match self.wire.recv(buffer) {
             Ok(None) => Ok(None),
             Ok(Some(arrival)) => {
+                if self.turns_away(&arrival, &buffer[..arrival.size]) {
+                    return Ok(None);
+                }
                 if self.stage.claim() {
+                    self.stage.keep(self.rt, arrival.size);
                     self.arrivals = Tally::next(&self.arrivals);
                     return Ok(Some(arrival));
                 }
@@ -108,5 +187,19 @@ impl<'a, T: Wait, W: Wire> Wire for Watched<'a, T, W> {
     fn unheard(&mut self) {
         self.drops = Tally::next(&self.drops);
         self.stage.give_back();
+    }
+
+    /// If nothing was taken for seconds, though the clock's own calls were made, the system has
+    /// refused the threads that take datagrams: the next shift asks for new ones.
+    fn rest(&mut self) {
+        let second = self.pool.clock.second();
+        if self.rests == 0 {
+            self.rested = second;
+        }
+        self.rests = self.rests.saturating_add(1);
+        if self.rests > MOST_RESTS && second > self.rested.saturating_add(A_LONG_TIME) {
+            self.stage.close(self.rt);
+        }
+        self.stage.wait(self.rt, Phase::Serving, A_REST);
     }
 }

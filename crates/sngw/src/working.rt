@@ -4,6 +4,7 @@ ghost use Rattle.std.specs.Prelude.{◌<◌, ◌≤◌};
 ghost use Rattle.gw_shift.specs.declared.shift.TheConstants.{MAX_STEPS};
 
 use crate::late::Inlet;
+use crate::posting::Outlet;
 use crate::stop::Stop;
 use crate::watched::Watched;
 use gw_link::{End, Phase, Stage};
@@ -13,7 +14,7 @@ use gw_node::{Node, Step};
 use gw_run::{MOST_ACCEPTED, Pool, Seat, sit, tick_all};
 use gw_serve::{Cause, serve};
 use gw_shift::{Closed, Entry, MAX_STEPS, Pass, Shift};
-use gw_wire::{Mouth, OpenGate, Wire};
+use gw_wire::{FieldClock, OpenGate, Post, Wire};
 use jr_disk::Disk;
 use rep_model::Replica;
 use std::alloc::Global;
@@ -45,6 +46,8 @@ pub struct Worked<R: Replica, D: Disk> {
     pub tended: Tended,
     /// Whether one of them put something into the journal.
     pub has_written: bool,
+    /// Whether one of them put there what this gateway made.
+    pub has_recorded: bool,
 }
 
 /// Works the shift of this number, and the gateway comes back. A datagram that came late, or is
@@ -75,7 +78,9 @@ where
     let Some(mut crew) = crew_of(alloc, passes, workers) else {
         return Err(Stop::Memory);
     };
-    let is_claimed = (steps > 1 || number % 2 == 0) && has_first(rt, inlet);
+    let is_claimed = !pool.listening.is_on()
+        && (steps > 1 || number % 2 == 0)
+        && has_first(inlet, &pool.clock);
     let stage = Stage::new(steps, u64::from(is_claimed));
     pool.begin_shift(rt);
     work_all(
@@ -85,8 +90,8 @@ where
 }
 
 /// Whether a datagram came late, or is there already.
-fn has_first<T: Clock>(rt: &T, inlet: &mut Inlet) -> bool {
-    let (ears, _) = inlet.socket.sides(rt);
+fn has_first(inlet: &mut Inlet, clock: &FieldClock) -> bool {
+    let (ears, _) = inlet.socket.sides(clock);
     inlet.late.look(&ears);
     inlet.late.is_there()
 }
@@ -210,9 +215,16 @@ where
     R::Staged: Send,
     D: Disk + Drop + Send,
 {
-    let Inlet { socket, late } = inlet;
-    let (mut ears, mouth) = socket.sides(rt);
-    let mut watched = Watched::new(rt, &mut ears, stage, late, is_claimed);
+    let Inlet {
+        socket,
+        late,
+        fence,
+        admission,
+    } = inlet;
+    let (mut ears, mouth) = socket.sides(&pool.clock);
+    let mut watched = Watched::new(
+        rt, alloc, &mut ears, mouth, stage, late, is_claimed, pool, admission,
+    );
     serve_beside(
         rt,
         alloc,
@@ -220,21 +232,21 @@ where
         passes,
         seats,
         &mut watched,
-        &mouth,
+        &Outlet::new(rt, &mouth, stage, fence, &pool.clock),
         pool,
         stage,
     )
 }
 
 /// The same at the two sides of the socket.
-fn serve_beside<T, R, D, W>(
+fn serve_beside<T, R, D, W, P>(
     rt: &T,
     alloc: Global,
     shift: &Shift<R, D>,
     passes: &mut Vec<Pass>,
     seats: &mut [Option<Seat>],
     wire: &mut W,
-    mouth: &Mouth<'_>,
+    post: &P,
     pool: &Pool<TcpStream>,
     stage: &Stage,
 ) -> Result<(), Stop>
@@ -244,10 +256,11 @@ where
     R::Staged: Send,
     D: Disk + Drop + Send,
     W: Wire,
+    P: Post + Sync,
 {
-    let mut ticking = || tick_at(rt, alloc, shift, seats, stage, mouth, pool);
+    let mut ticking = || tick_at(rt, alloc, shift, seats, stage, post, pool);
     let mut serving = || -> Result<(), Stop> {
-        let served = serve_all(rt, alloc, shift, passes, wire, mouth, stage);
+        let served = serve_all(rt, alloc, shift, passes, wire, post, stage);
         stage.close(rt);
         served
     };
@@ -256,36 +269,37 @@ where
 }
 
 /// Ticks at the seat.
-fn tick_at<T, R, D>(
+fn tick_at<T, R, D, P>(
     rt: &T,
     alloc: Global,
     shift: &Shift<R, D>,
     seats: &mut [Option<Seat>],
     stage: &Stage,
-    mouth: &Mouth<'_>,
+    post: &P,
     pool: &Pool<TcpStream>,
 )
 where
     T: Wait + Clock,
     R: Replica,
     D: Disk + Drop,
+    P: Post,
 {
     for slot in seats {
         if let Some(seat) = slot.take() {
-            let (pass, end) = tick_all(rt, alloc, shift, seat.pass, stage, mouth, pool);
+            let (pass, end) = tick_all(rt, alloc, shift, seat.pass, stage, post, pool);
             *slot = Some(Seat { pass, end });
         }
     }
 }
 
 /// Serves datagrams until the shift has had all its calls, or is to close.
-fn serve_all<T, R, D, W>(
+fn serve_all<T, R, D, W, P>(
     rt: &T,
     alloc: Global,
     shift: &Shift<R, D>,
     passes: &mut Vec<Pass>,
     wire: &mut W,
-    mouth: &Mouth<'_>,
+    post: &P,
     stage: &Stage,
 ) -> Result<(), Stop>
 where
@@ -294,12 +308,13 @@ where
     R::Staged: Send,
     D: Disk + Drop + Send,
     W: Wire,
+    P: Post + Sync,
 {
     let given = std::mem::replace(passes, Vec::new(alloc));
     if given.is_empty() {
         return Ok(());
     }
-    match serve(rt, alloc, shift, given, wire, mouth, &OpenGate, u64::MAX) {
+    match serve(rt, alloc, shift, given, wire, post, &OpenGate, u64::MAX) {
         Ok(served) => {
             *passes = served.passes;
             Ok(())
@@ -335,11 +350,13 @@ where
         Ok(Closed { node, history }) => {
             let steps = history.len();
             let has_written = has_written(history.as_slice());
+            let has_recorded = has_recorded(history.as_slice());
             Ok(Worked {
                 node,
                 steps,
                 tended,
                 has_written,
+                has_recorded,
             })
         }
         Err(_) => Err(Stop::History),
@@ -351,6 +368,18 @@ fn has_written(history: &[Entry]) -> bool {
     for call in history {
         if let Ok(out) = &call.answer {
             if out.made.is_some() || matches!(*call.step, Step::Take { .. } | Step::Reopen) {
+                return true;
+            }
+        }
+    }
+    false
+}
+
+/// Whether one of the calls put into the journal what the gateway made: then it can write.
+fn has_recorded(history: &[Entry]) -> bool {
+    for call in history {
+        if let Ok(out) = &call.answer {
+            if out.made.is_some() {
                 return true;
             }
         }

@@ -4,7 +4,7 @@ use crate::printing::shown;
 use crate::serving::{Outcome, Shared, serve_all};
 use crate::stop::Stop;
 use gw_shift::{Pass, Shift};
-use gw_wire::{OpenGate, Post, Socket, Wire, address};
+use gw_wire::{FieldClock, OpenGate, Post, Socket, Wire, address};
 use jr_disk::Disk;
 use mio::net::UdpSocket;
 use rep_model::Replica;
@@ -78,7 +78,9 @@ fn asked<T: Threads + Wait + Sync + Clock>(
     asker: &Asker,
     questions: &Questions<'_>,
 ) -> (Option<Vec<u8>>, Outcome) {
-    let (mut ears, mouth) = socket.sides(rt);
+    let clock = FieldClock::new();
+    let _ = clock.look(rt);
+    let (mut ears, mouth) = socket.sides(&clock);
     side_by_side(
         rt, alloc, shift, passes, &mut ears, &mouth, asker, questions,
     )

@@ -3,7 +3,8 @@
 //! Standard input holds rows, each after a line `== NAME`; empty lines and those that begin with
 //! `#` are skipped. The program prints each name, and below it what the lines of the row give; of a
 //! line that is none of these, `no such line` and the line. Numbers are decimal, octets are
-//! hexadecimal digits in one word.
+//! hexadecimal digits in one word. If memory runs out, also in a disk or in what notes down a row,
+//! the program prints no row: it says so on standard error.
 //!
 //! Settings, and a gateway that is opened as they say:
 //!

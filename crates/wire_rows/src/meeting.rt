@@ -123,15 +123,61 @@ pub(crate) fn meet<T: Wait + Clock>(
         text.push_str(aside.as_str())?;
         join(rt, alloc, &mut second, &mut third, &inner, &outer)?;
     }
+    let played = happen_all(rt, alloc, text, &mut first, &mut second, &mut third, deeds);
+    let are_spared = are_spared(&mut first, &mut second, &mut third);
+    let said_all = !near.is_short() && !far.is_short() && !inner.is_short() && !outer.is_short();
+    if said_all && are_spared {
+        played
+    } else {
+        Err(Stop::Memory)
+    }
+}
+
+/// All that happens, in its order.
+fn happen_all<'a, T: Wait + Clock>(
+    rt: &'a T,
+    alloc: Global,
+    text: &mut String,
+    first: &mut Side<'a, T>,
+    second: &mut Side<'a, T>,
+    third: &mut Side<'a, T>,
+    deeds: &[Deed],
+) -> Result<(), Stop> {
     for deed in deeds {
         match deed.gateway {
-            1 => happen(rt, alloc, text, &mut first, &deed.act)?,
-            2 => happen(rt, alloc, text, &mut second, &deed.act)?,
-            3 => happen(rt, alloc, text, &mut third, &deed.act)?,
+            1 => happen(rt, alloc, text, first, &deed.act)?,
+            2 => happen(rt, alloc, text, second, &deed.act)?,
+            3 => happen(rt, alloc, text, third, &deed.act)?,
             _ => return Err(Stop::Line),
         }
     }
     Ok(())
+}
+
+/// Whether no memory was refused in the disks of the gateways, whose shifts end.
+fn are_spared<'a, T: Wait>(
+    first: &mut Side<'a, T>,
+    second: &mut Side<'a, T>,
+    third: &mut Side<'a, T>,
+) -> bool {
+    let is_first_spared = is_spared(first);
+    let is_second_spared = is_spared(second);
+    let is_third_spared = is_spared(third);
+    is_first_spared && is_second_spared && is_third_spared
+}
+
+/// Whether no memory was refused in the disk of a gateway, whose shift ends.
+fn is_spared<'a, T: Wait>(side: &mut Side<'a, T>) -> bool {
+    match side.open.take() {
+        Some(opened) => end_spared(opened),
+        None => true,
+    }
+}
+
+/// Ends a shift: whether no memory was refused in the disk of its gateway.
+fn end_spared(opened: OpenShift) -> bool {
+    let OpenShift { shift, .. } = opened;
+    !shift.end().node.starved()
 }
 
 /// A gateway of this number on an empty disk, without a link.
@@ -140,8 +186,9 @@ fn side_of<'a, T: Wait>(alloc: Global, text: &mut String, number: u8) -> Result<
     writeln!(toml, "gateway = {number}")?;
     toml.push_str("listen = \"127.0.0.1:1\"\nlink = \"127.0.0.1:2\"\njournal = \"j\"\n")?;
     let begun = begin_on(alloc, text, toml.as_str(), MemoryDisk::new(alloc))?;
+    // Nothing else refuses on an empty disk in memory.
     let Some(node) = begun else {
-        return Err(Stop::Line);
+        return Err(Stop::Memory);
     };
     let Some(pool) = Pool::new(alloc, 1, &[]) else {
         return Err(Stop::Memory);
@@ -282,6 +329,7 @@ fn print_asked(
     write!(text, "{number} was asked")?;
     match answered {
         Ok(answer) => print_answer(alloc, text, &answer)?,
+        Err(End::Memory) => return Err(Stop::Memory),
         Err(end) => write!(text, ": {end}")?,
     }
     Ok(text.push('\n')?)
@@ -315,10 +363,12 @@ fn talk_over<'a, T: Wait + Clock>(
     phase: Phase,
 ) -> Result<End, Stop> {
     let mut piece = Vec::from_elem(alloc, 0u8, 65_536)?;
-    let (Some(opened), Some(mut link)) = (side.open.take(), tie.link.take()) else {
+    let Some(mut link) = tie.link.take() else {
         return Err(Stop::Line);
     };
-    let OpenShift { shift, pass, seat } = opened;
+    let Some(OpenShift { shift, pass, seat }) = side.open.take() else {
+        return Err(Stop::Line);
+    };
     let stage = &tie.place.stage;
     stage.go_to(rt, phase);
     let (seat, end) = talk(
@@ -341,10 +391,11 @@ fn talk_over<'a, T: Wait + Clock>(
     Ok(end)
 }
 
-/// Why a link has stopped to talk.
+/// Why a link has stopped to talk, unless memory ran out.
 fn print_end(text: &mut String, number: u8, end: End) -> Result<(), Stop> {
     match end {
         End::Full => Ok(()),
+        End::Memory => Err(Stop::Memory),
         end => Ok(writeln!(text, "{number} ends: {end}")?),
     }
 }
@@ -409,12 +460,17 @@ fn sit_down<'a, T: Wait + Clock>(
     side: &mut Side<'a, T>,
 ) -> Result<(), Stop> {
     let mut tie = take_first(side)?;
-    let (Some(opened), Some(link)) = (side.open.take(), tie.link.take()) else {
+    let Some(link) = tie.link.take() else {
         return Err(Stop::Line);
     };
-    let OpenShift { shift, pass, seat } = opened;
     let origin = link.origin;
     side.pool.open(rt, link);
+    if is_closed(rt, &side.pool, origin) {
+        return Err(Stop::Memory);
+    }
+    let Some(OpenShift { shift, pass, seat }) = side.open.take() else {
+        return Err(Stop::Line);
+    };
     let stage = &tie.place.stage;
     stage.go_to(rt, Phase::Serving);
     let seat = Seat {
@@ -431,6 +487,14 @@ fn sit_down<'a, T: Wait + Clock>(
     side.pool.close_all(rt);
     print_room(rt, text, side.number, &side.pool, origin)?;
     put_last(side, tie)
+}
+
+/// Whether a link that was dialled is closed: a pool closes one that it has no memory for.
+fn is_closed<T: Wait, S: Drop>(rt: &T, pool: &Pool<S>, origin: Origin) -> bool {
+    match origin {
+        Origin::Dialled(_) => pool.may_open(rt, origin),
+        Origin::Accepted => false,
+    }
 }
 
 /// Whether a gateway's link is open still.

@@ -3,7 +3,7 @@
 use crate::printing::print_answer;
 use crate::serving::Gateway;
 use crate::stop::Stop;
-use file_disk::FileDisk;
+use file_disk::{FileDisk, FileDiskFault};
 use gw_main::options::Settings;
 use gw_main::{SettingsFault, begin, settings};
 use gw_node::{Answer, Node};
@@ -13,6 +13,16 @@ use rep_plain::Plain;
 use sn_local::Addr;
 use std::alloc::{AllocError, Global};
 use std::fs::{File, Files};
+use std::io::ErrorKind;
+
+/// Room for all that an opening prints: its lines then take no memory.
+const ROOM: usize = 128;
+
+/// What an opening prints if its disk failed.
+const NO_DISK: &[u8] = b"sngw: journal J1\n";
+
+/// What an opening prints if memory ran out.
+const NO_MEMORY: &[u8] = b"sngw: journal J4\n";
 
 /// The settings of a text, or nothing where they are refused, which is printed.
 fn read(alloc: Global, text: &mut String, toml: &str) -> Result<Option<Settings>, Stop> {
@@ -83,7 +93,7 @@ fn print_addresses(text: &mut String, word: &str, all: &[Addr]) -> Result<(), Al
     Ok(())
 }
 
-/// `begin`: opens a gateway on a disk in memory.
+/// `begin`: opens a gateway on a disk in memory. No row arranges that its opening fails.
 pub(crate) fn begin_on(
     alloc: Global,
     text: &mut String,
@@ -91,23 +101,25 @@ pub(crate) fn begin_on(
     disk: MemoryDisk,
 ) -> Result<Option<Gateway>, Stop> {
     match read(alloc, text, toml)? {
-        Some(read) => begun(alloc, text, &read, disk),
+        Some(read) => begun(alloc, text, &read, disk, NO_DISK),
         None => Ok(None),
     }
 }
 
-/// A gateway as the settings say, with what is printed of it.
+/// A gateway as the settings say, with what is printed of it. The program ends if memory ran out,
+/// or if what is printed says so of this disk.
 fn begun<D: Disk + Drop>(
     alloc: Global,
     text: &mut String,
     read: &Settings,
     disk: D,
+    short: &[u8],
 ) -> Result<Option<Node<Plain, D>>, Stop> {
-    let mut out = Vec::new(alloc);
-    let mut err = Vec::new(alloc);
+    let mut out = Vec::with_capacity(alloc, ROOM)?;
+    let mut err = Vec::with_capacity(alloc, ROOM)?;
     let node = begin::<Plain, D, Vec<u8>, Vec<u8>>(alloc, read, disk, &mut out, &mut err);
-    print_octets(text, out)?;
-    print_octets(text, err)?;
+    print_octets(text, out, short)?;
+    print_octets(text, err, short)?;
     started(text, node)
 }
 
@@ -125,8 +137,11 @@ fn started<D: Disk + Drop>(
     }
 }
 
-/// Text that was printed.
-fn print_octets(text: &mut String, octets: Vec<u8>) -> Result<(), Stop> {
+/// Text that was printed, unless it says that memory ran out.
+fn print_octets(text: &mut String, octets: Vec<u8>, short: &[u8]) -> Result<(), Stop> {
+    if octets.as_slice() == NO_MEMORY || octets.as_slice() == short {
+        return Err(Stop::Memory);
+    }
     match String::from_utf8(octets) {
         Ok(printed) => Ok(text.push_str(printed.as_str())?),
         Err(_) => Err(Stop::Line),
@@ -158,7 +173,16 @@ fn files_of<T: Files<File = File>>(
 ) -> Result<(), Stop> {
     match FileDisk::at(rt, alloc, read.journal.as_str()) {
         Ok(disk) => asked(alloc, text, read, disk, bytes),
-        Err(fault) => Ok(writeln!(text, "{fault}")?),
+        Err(fault) => print_fault(text, &fault),
+    }
+}
+
+/// Why there is no disk of two files, unless memory ran out.
+fn print_fault(text: &mut String, fault: &FileDiskFault) -> Result<(), Stop> {
+    match fault {
+        FileDiskFault::Memory => Err(Stop::Memory),
+        FileDiskFault::Files(ErrorKind::OutOfMemory) => Err(Stop::Memory),
+        fault => Ok(writeln!(text, "{fault}")?),
     }
 }
 
@@ -170,7 +194,7 @@ fn asked<D: Disk + Drop>(
     disk: D,
     bytes: &[u8],
 ) -> Result<(), Stop> {
-    let Some(mut node) = begun(alloc, text, read, disk)? else {
+    let Some(mut node) = begun(alloc, text, read, disk, NO_MEMORY)? else {
         return Ok(());
     };
     let answer = node.frame(alloc, Addr { host: 7, port: 1 }, bytes, 0);

@@ -1,5 +1,6 @@
 //! Where replies go, and who is told of them: each thing is noted.
 
+use crate::stop::Stop;
 use gw_wire::{Gate, Post, Unsent};
 use octets::Octets;
 use sn_local::Addr;
@@ -47,6 +48,8 @@ pub(crate) struct Outside<'a, T: Wait> {
     fails: bool,
     hold: Option<Hold>,
     is_out: AtomicBool,
+    /// Memory ran out, so that a note is missing.
+    is_short: AtomicBool,
     notes: Mutex<Vec<Note>>,
 }
 
@@ -59,18 +62,24 @@ impl<'a, T: Wait> Outside<'a, T> {
             fails,
             hold,
             is_out: AtomicBool::new(false),
+            is_short: AtomicBool::new(false),
             notes: Mutex::new(Vec::new(alloc)),
         }
     }
 
-    /// What they were asked, in this order.
-    pub(crate) fn into_notes(self) -> Vec<Note> {
-        self.notes.into_inner()
+    /// What they were asked, in this order, unless memory ran out.
+    pub(crate) fn into_notes(self) -> Result<Vec<Note>, Stop> {
+        if self.is_short.load(Ordering::SeqCst) {
+            return Err(Stop::Memory);
+        }
+        Ok(self.notes.into_inner())
     }
 
-    /// Notes something. Where memory runs out the note is missing.
+    /// Notes something.
     fn note(&self, note: Note) {
-        let _ = self.notes.lock(self.rt).push(note);
+        if self.notes.lock(self.rt).push(note).is_err() {
+            self.is_short.store(true, Ordering::SeqCst);
+        }
     }
 
     /// Waits until the others are out. Says whether they are.
@@ -91,6 +100,7 @@ impl<'a, T: Wait> Post for Outside<'a, T> {
             return Err(Unsent);
         }
         let Ok(bytes) = Octets::from_slice(self.alloc, bytes) else {
+            self.is_short.store(true, Ordering::SeqCst);
             return Err(Unsent);
         };
         self.note(Note::Sent { to, bytes });

@@ -5,7 +5,7 @@ use std::alloc::{AllocError, Global};
 use std::collections::VecDeque;
 use std::io::{self, ErrorKind, Read, Write};
 use std::mem;
-use std::sync::atomic::{AtomicU64, Ordering};
+use std::sync::atomic::{AtomicBool, AtomicU64, Ordering};
 use std::sync::{Mutex, Wait};
 
 /// One end of a link: how far its shift is, what has come to it, and what it has said.
@@ -20,6 +20,8 @@ pub(crate) struct Place {
     idle: AtomicU64,
     /// How many octets its stream takes at once. At 0 it takes no more.
     takes: AtomicU64,
+    /// Memory ran out when something was said.
+    is_short: AtomicBool,
 }
 
 impl Place {
@@ -31,6 +33,7 @@ impl Place {
             said: Mutex::new(Vec::new(alloc)),
             idle: AtomicU64::new(0),
             takes: AtomicU64::new(65_536),
+            is_short: AtomicBool::new(false),
         }
     }
 
@@ -42,6 +45,11 @@ impl Place {
     /// The stream takes so many octets at once.
     pub(crate) fn set_takes(&self, count: u64) {
         self.takes.store(count, Ordering::SeqCst);
+    }
+
+    /// Whether memory ran out when something was said.
+    pub(crate) fn is_short(&self) -> bool {
+        self.is_short.load(Ordering::SeqCst)
     }
 
     /// What it has said and nobody was told, in whose place is this.
@@ -117,7 +125,10 @@ impl<'a, T: Wait> Write for Pipe<'a, T> {
         let size = buf.len().min(most);
         match self.say(&buf[..size]) {
             Ok(()) => Ok(size),
-            Err(_) => Err(io::Error::from(ErrorKind::Other)),
+            Err(_) => {
+                self.here.is_short.store(true, Ordering::SeqCst);
+                Err(io::Error::from(ErrorKind::Other))
+            }
         }
     }
 

@@ -5,7 +5,7 @@ use crate::serving::{Gateway, Outcome, Over};
 use crate::stop::Stop;
 use crate::wire::Coming;
 use gw_node::{Answer, NodeFault, Step};
-use gw_serve::Taken;
+use gw_serve::{Cause, Taken};
 use gw_shift::Entry;
 use sn_local::{Addr, Send as Sending};
 use std::alloc::{AllocError, Global};
@@ -18,11 +18,12 @@ pub(crate) fn shown(alloc: Global, octets: &[u8]) -> Result<String, AllocError> 
     }
 }
 
-/// How serving ended, and with how many passes.
+/// How serving ended, and with how many passes, unless memory ran out.
 pub(crate) fn print_outcome(text: &mut String, outcome: &Outcome) -> Result<(), AllocError> {
     let passes = outcome.passes.len();
     match outcome.cause {
         None => writeln!(text, "served, passes {passes}"),
+        Some(Cause::Memory) => Err(AllocError),
         Some(cause) => writeln!(text, "{cause}, passes {passes}"),
     }
 }
@@ -122,7 +123,7 @@ fn print_step(alloc: Global, text: &mut String, step: &Step) -> Result<(), Alloc
     }
 }
 
-/// What was answered.
+/// What was answered, unless memory ran out.
 pub(crate) fn print_answer(
     alloc: Global,
     text: &mut String,
@@ -130,6 +131,7 @@ pub(crate) fn print_answer(
 ) -> Result<(), AllocError> {
     match answer {
         Ok(out) => print_sends(alloc, text, out.sends.as_slice()),
+        Err(NodeFault::Memory) => Err(AllocError),
         Err(fault) => {
             let why = fault_word(fault);
             write!(text, ", refused {why}")
@@ -213,8 +215,12 @@ fn print_note(
     }
 }
 
-/// Whether the shift was closed, with how many calls, and which clients the gateway knows.
+/// Whether the shift was closed, with how many calls, and which clients the gateway knows. Ends the
+/// program if memory was refused in the disk, which then did not fail as arranged.
 pub(crate) fn print_over(alloc: Global, text: &mut String, over: &Over) -> Result<(), Stop> {
+    if over.node.starved() {
+        return Err(Stop::Memory);
+    }
     let calls = over.history.len();
     match &over.fault {
         None => write!(text, "closed, calls {calls}, clients")?,

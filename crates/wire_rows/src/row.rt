@@ -14,6 +14,7 @@ use gw_wire::{Gate, Post};
 use jr_journal::MemoryDisk;
 use std::alloc::{AllocError, Global};
 use std::fs::{File, Files, remove_file};
+use std::io::ErrorKind;
 use std::mem;
 use std::net::Net;
 use std::sync::Wait;
@@ -107,6 +108,7 @@ fn play_files<T: Files<File = File>>(
 fn lose<T: Files<File = File>>(rt: &T, name: &str) -> Result<(), Stop> {
     match remove_file(rt, name) {
         Ok(()) => Ok(()),
+        Err(error) if error.kind() == ErrorKind::OutOfMemory => Err(Stop::Memory),
         Err(_) => Err(Stop::Line),
     }
 }
@@ -258,7 +260,7 @@ fn serve_noted<T: Threads + Wait + Sync>(
 ) -> Result<Outcome, Stop> {
     let outside = Outside::new(rt, alloc, plan.fails, plan.hold);
     let outcome = serve_told(rt, alloc, shift, passes, plan, &outside);
-    let notes = outside.into_notes();
+    let notes = outside.into_notes()?;
     print_served(
         alloc,
         text,

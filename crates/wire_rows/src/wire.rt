@@ -79,6 +79,10 @@ impl<'a> Wire for Told<'a> {
     fn unheard(&mut self) {
         self.drops = Tally::next(&self.drops);
     }
+
+    fn rest(&mut self) {
+        thread::yield_now();
+    }
 }
 
 /// A datagram, put into the front of a buffer. Nothing where it is too long.

@@ -1,5 +1,5 @@
 use Rattle.std.proofs.lemmas.Result.{err_from_is_err_and}
-use Rattle.gw_main.proofs.Firsts.{bad_gateway, bad_listen, bad_link, bad_journal, bad_workers, bad_steps, bad_advertise, bad_field, bad_peers, bad_predefined, bad_numbers}
+use Rattle.gw_main.proofs.Firsts.{bad_gateway, bad_listen, bad_link, bad_journal, bad_workers, bad_steps, bad_advertise, bad_field, bad_peers, bad_predefined, bad_numbers, bad_clients, bad_newcomers}
 use Rattle.toml.specs.View.{table_view}
 use Rattle.gw_main.proofs.parsing.settings_of.Goals as goal
 
@@ -57,3 +57,13 @@ pub returns-in_err-numbers-clause-err : goal.returns-in_err-numbers-clause-err
 returns-in_err-numbers-clause-err c =
     let p = err_from_is_err_and c.from_residual-in_err-numbers.result c.from_residual-in_err-numbers.ensures.1 in
     rw (p.1, p.2) (bad_numbers (table_view c.args.table.now) _ _ _ _ _ _ _ _ _ _ c.in_err-numbers.field-0.0 c.in_ok-gateway.ensures.ok c.in_ok-listen.ensures.ok c.in_ok-link.ensures.ok c.in_ok-journal.ensures.ok c.in_ok-workers.ensures.ok c.in_ok-steps.ensures.ok c.in_ok-advertise.ensures.ok c.in_ok-field.ensures.ok c.in_ok-peers.ensures.ok c.in_ok-predefined.ensures.ok c.in_err-numbers.ensures.err)
+
+pub returns-in_err-clients-clause-err : goal.returns-in_err-clients-clause-err
+returns-in_err-clients-clause-err c =
+    let p = err_from_is_err_and c.from_residual-in_err-clients.result c.from_residual-in_err-clients.ensures.1 in
+    rw (p.1, p.2) (bad_clients (table_view c.args.table.now) _ _ _ _ _ _ _ _ _ _ _ c.in_err-clients.field-0.0 c.in_ok-gateway.ensures.ok c.in_ok-listen.ensures.ok c.in_ok-link.ensures.ok c.in_ok-journal.ensures.ok c.in_ok-workers.ensures.ok c.in_ok-steps.ensures.ok c.in_ok-advertise.ensures.ok c.in_ok-field.ensures.ok c.in_ok-peers.ensures.ok c.in_ok-predefined.ensures.ok c.in_ok-numbers.ensures.ok c.in_err-clients.ensures.err)
+
+pub returns-in_err-newcomers-clause-err : goal.returns-in_err-newcomers-clause-err
+returns-in_err-newcomers-clause-err c =
+    let p = err_from_is_err_and c.from_residual-in_err-newcomers.result c.from_residual-in_err-newcomers.ensures.1 in
+    rw (p.1, p.2) (bad_newcomers (table_view c.args.table.now) _ _ _ _ _ _ _ _ _ _ _ _ c.in_err-newcomers.field-0.0 c.in_ok-gateway.ensures.ok c.in_ok-listen.ensures.ok c.in_ok-link.ensures.ok c.in_ok-journal.ensures.ok c.in_ok-workers.ensures.ok c.in_ok-steps.ensures.ok c.in_ok-advertise.ensures.ok c.in_ok-field.ensures.ok c.in_ok-peers.ensures.ok c.in_ok-predefined.ensures.ok c.in_ok-numbers.ensures.ok c.in_ok-clients.ensures.ok c.in_err-newcomers.ensures.err)

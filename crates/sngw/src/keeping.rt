@@ -1,0 +1,114 @@
+//! The journal between shifts: when it is written anew, and when a gateway that cannot write tries
+//! again.
+
+use gw_main::{Tended, base_of, is_grown, next_try};
+use std::alloc::Global;
+use std::fs::{File, Files, metadata};
+
+/// What is known of a journal between shifts.
+#[derive(Drop)]
+pub struct Keeper<'a> {
+    /// The path of the journal.
+    path: &'a str,
+    /// How many octets it had after it was last written anew.
+    base: u64,
+    /// How many octets both files had then.
+    both: u64,
+    /// Whether no record went out since a write failed.
+    has_failed: bool,
+    /// How many seconds the gateway waited for its last try.
+    waited: u64,
+}
+
+impl<'a> Keeper<'a> {
+    /// The journal at a path, of which nothing is known yet.
+    pub(crate) fn of(path: &'a str) -> Keeper<'a> {
+        Keeper {
+            path,
+            base: 0,
+            both: 0,
+            has_failed: false,
+            waited: 0,
+        }
+    }
+
+    /// The lengths of both files, in octets. Nothing if the system does not tell them.
+    pub(crate) fn lengths<R: Files<File = File>>(
+        &self,
+        rt: &R,
+        alloc: Global,
+    ) -> Option<(u64, u64)> {
+        let first = length_of(rt, alloc, self.path, 0)?;
+        let second = length_of(rt, alloc, self.path, 1)?;
+        Some((first, second))
+    }
+
+    /// Whether it has grown enough to be written anew. If the system does not tell, it has.
+    pub(crate) fn is_grown<R: Files<File = File>>(&self, rt: &R, alloc: Global) -> bool {
+        match self.lengths(rt, alloc) {
+            None => true,
+            Some((first, second)) => {
+                let both = first.saturating_add(second);
+                is_grown(self.base, both.saturating_sub(self.both))
+            }
+        }
+    }
+
+    /// The gateway was tended, before which the files had these lengths. A journal that could not
+    /// be written anew counts as if it had been: it has to grow as much again before the next try.
+    pub(crate) fn note_tended<R: Files<File = File>>(
+        &mut self,
+        rt: &R,
+        alloc: Global,
+        before: Option<(u64, u64)>,
+        tended: Tended,
+    ) {
+        let Some(after) = self.lengths(rt, alloc) else {
+            return;
+        };
+        self.both = after.0.saturating_add(after.1);
+        self.base = match before {
+            Some(before) if tended != Tended::Unwritten => base_of(before, after),
+            _ => after.0.max(after.1),
+        };
+    }
+
+    /// A shift is over. Says for how many seconds the gateway is to be silent: if writes failed in
+    /// it, and had failed before it with no record between.
+    pub(crate) fn silence_after(&mut self, has_recorded: bool, has_failed: bool) -> u64 {
+        if has_recorded {
+            self.has_failed = false;
+            self.waited = 0;
+        }
+        if !has_failed {
+            return 0;
+        }
+        if !self.has_failed {
+            self.has_failed = true;
+            return 0;
+        }
+        self.wait_longer()
+    }
+
+    /// How many seconds the gateway is to be silent before its next try.
+    pub(crate) fn wait_longer(&mut self) -> u64 {
+        self.has_failed = true;
+        self.waited = next_try(self.waited);
+        self.waited
+    }
+
+    /// The gateway can write.
+    pub(crate) fn note_written(&mut self) {
+        self.has_failed = false;
+        self.waited = 0;
+    }
+}
+
+/// The length of a file of a journal, in octets.
+fn length_of<R: Files<File = File>>(rt: &R, alloc: Global, path: &str, slot: u8) -> Option<u64> {
+    let name = format!(in alloc; "{path}.{slot}").ok()?;
+    match metadata(rt, name.as_str()) {
+        Ok(found) => Some(found.len()),
+        Err(_) => None,
+    }
+}

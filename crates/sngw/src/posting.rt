@@ -1,0 +1,127 @@
+//! How replies go out: what is sent counts among what the shift keeps, and two gateways do not turn
+//! each other away without end.
+
+ghost use Rattle.std.specs.Prelude.{◌≡◌, ◌<◌, ◌≤◌, ◌+◌, ◌*◌, ◌%◌};
+ghost use Rattle.sngw.specs.inner.Posting as spec;
+
+use gw_link::Stage;
+use gw_wire::{FieldClock, Post, Unsent};
+use sn_local::Addr;
+use std::alloc::Global;
+use std::sync::{Mutex, Wait};
+
+/// How many groups of addresses are counted apart.
+const GROUPS: usize = 4_096;
+
+/// How many seconds are counted together.
+const A_WHILE: u64 = 8;
+
+/// How often DISCONNECT is said to one group in that time, at most.
+const MOST_SAID: u8 = 32;
+
+#[derive(Drop)]
+struct Said {
+    /// Which stretch of seconds is counted.
+    stretch: u64,
+    /// How often DISCONNECT was said to each group in it.
+    counts: Vec<u8>,
+}
+
+/// Counts how often DISCONNECT is said. A gateway answers DISCONNECT of a stranger by DISCONNECT.
+/// So one forged datagram, from the address of another gateway, would be answered without end.
+#[derive(Drop)]
+pub struct Fence {
+    said: Mutex<Said>,
+}
+
+impl Fence {
+    /// Nothing was said. `None` where memory ran out.
+    pub(crate) fn new(alloc: Global) -> Option<Fence> {
+        match Vec::from_elem(alloc, 0u8, GROUPS) {
+            Ok(counts) => Some(Fence {
+                said: Mutex::new(Said { stretch: 0, counts }),
+            }),
+            Err(_) => None,
+        }
+    }
+
+    /// Whether DISCONNECT may be said to an address in this second. If so, it counts as said.
+    fn may_say<T: Wait>(&self, rt: &T, second: u64, to: Addr) -> bool {
+        let mut said = self.said.lock(rt);
+        if said.stretch != second / A_WHILE {
+            said.stretch = second / A_WHILE;
+            clear(said.counts.as_mut_slice());
+        }
+        match said.counts.get_mut(group_of(to)) {
+            None => true,
+            Some(count) => {
+                if *count >= MOST_SAID {
+                    return false;
+                }
+                *count += 1;
+                true
+            }
+        }
+    }
+}
+
+/// Sets each count to 0.
+fn clear(counts: &mut [u8]) {
+    for count in counts {
+        *count = 0;
+    }
+}
+
+/// The group of an address.
+fn group_of(to: Addr) -> usize
+    ensures { result ≡ spec.group_of to }
+{
+    (to.host as usize % 65_536 * 31 + to.port as usize) % GROUPS
+}
+
+/// Whether a datagram is a DISCONNECT without a duration, which a gateway says.
+fn is_disconnect(bytes: &[u8]) -> bool
+    ensures { result ≡ spec.is_disconnect bytes.now }
+{
+    bytes.len() == 2 && bytes[0] == 2 && bytes[1] == 0x18
+}
+
+/// The post of a shift.
+#[derive(Drop)]
+pub struct Outlet<'a, T: Wait, P: Post> {
+    rt: &'a T,
+    post: &'a P,
+    stage: &'a Stage,
+    fence: &'a Fence,
+    clock: &'a FieldClock,
+}
+
+impl<'a, T: Wait, P: Post> Outlet<'a, T, P> {
+    /// A post of this shift, which sends by another one.
+    pub(crate) fn new(
+        rt: &'a T,
+        post: &'a P,
+        stage: &'a Stage,
+        fence: &'a Fence,
+        clock: &'a FieldClock,
+    ) -> Outlet<'a, T, P> {
+        Outlet {
+            rt,
+            post,
+            stage,
+            fence,
+            clock,
+        }
+    }
+}
+
+impl<'a, T: Wait, P: Post> Post for Outlet<'a, T, P> {
+    /// What it sends is in an answer, which the shift's history keeps.
+    fn send(&self, to: Addr, bytes: &[u8]) -> Result<(), Unsent> {
+        if is_disconnect(bytes) && !self.fence.may_say(self.rt, self.clock.second(), to) {
+            return Err(Unsent);
+        }
+        self.stage.keep(self.rt, bytes.len());
+        self.post.send(to, bytes)
+    }
+}
