@@ -293,8 +293,8 @@ impl Relay {
         self.board.lock(rt).found_by
     }
 
-    /// How many messages were heard, and how many of the peers that were dialled have asked for what
-    /// they lack.
+    /// How many messages were heard, and how many of the peers that were dialled have asked for
+    /// what they lack.
     pub fn heard<T: Wait>(&self, rt: &T) -> (u64, u64) {
         let board = self.board.lock(rt);
         let mut asked = 0u64;

@@ -57,7 +57,7 @@ impl Stage {
         self.claims.load(Ordering::SeqCst) >= self.steps
     }
 
-    /// The history keeps a datagram, answer, digest or delta of so many octets. Where it keeps more of
+    /// The history keeps a datagram, answer, digest or delta of so many octets. If it keeps more of
     /// them than it should, the shift is to end.
     pub fn keep<T: Wait>(&self, rt: &T, octets: usize) {
         let before = self.kept.fetch_add(octets as u64, Ordering::SeqCst);

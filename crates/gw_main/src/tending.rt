@@ -18,8 +18,8 @@ use std::alloc::Global;
 pub enum Tended {
     /// It goes on as it was. Its journal may be a shorter one.
     Kept,
-    /// It was halted, and was opened anew from its journal. It knows no bindings, dialogs and timers.
-    /// Its journal may be a shorter one.
+    /// It was halted, and was opened anew from its journal. It knows no bindings, dialogs and
+    /// timers. Its journal may be a shorter one.
     Reopened,
     /// The disk failed when the journal was written anew. The gateway was opened anew from what the
     /// disk holds, as above.

@@ -6,9 +6,9 @@ ghost use Rattle.gw_relay.specs.Sizes as spec;
 /// How many octets a piece of an answer has at most, if it has more than one operation.
 pub const PIECE: usize = 65_536;
 
-/// How many octets a shift's history may keep of datagrams, of answers, of digests and of what other
-/// gateways told, before the shift is to end. Whoever sends large datagrams, and a peer that asks for
-/// the same again and again, take no more memory.
+/// How many octets a shift's history may keep of datagrams, of answers, of digests and of what
+/// other gateways told, before the shift is to end. Whoever sends large datagrams, and a peer that
+/// asks for the same again and again, take no more memory.
 pub const MOST_KEPT: u64 = 67_108_864;
 
 /// Whether operations, so many, that are spelled in so many octets make one piece of an answer.

@@ -62,9 +62,9 @@ pub fn tick_all<T: Wait + Clock, R: Replica, D: Disk + Drop, P: Post, S: Drop>(
     unreachable!()
 }
 
-/// Ticks where the clock has not ticked in this second. If the machine, a sync or a shift's end held
-/// the gateway up for seconds, it reads first what clients have sent meanwhile. Before it serves it
-/// does not tick.
+/// Ticks where the clock has not ticked in this second. If the machine, a sync or a shift's end
+/// held the gateway up for seconds, it reads first what clients have sent meanwhile. Before it
+/// serves it does not tick.
 #[tactic(auto, using(crate::proofs::Clock::clock_none))]
 fn tick_in_turn<T: Wait + Clock, R: Replica, D: Disk + Drop, P: Post, S: Drop>(
     rt: &T,
@@ -91,8 +91,8 @@ fn tick_in_turn<T: Wait + Clock, R: Replica, D: Disk + Drop, P: Post, S: Drop>(
     (pass, end)
 }
 
-/// Ticks until a tick gives nothing. If the gateway stood still between two ticks, the round is over:
-/// the next one takes clients for lost only by what was read since.
+/// Ticks until a tick gives nothing. If the gateway stood still between two ticks, the round is
+/// over: the next one takes clients for lost only by what was read since.
 #[tactic(auto, using(crate::proofs::Clock::clock_later, crate::proofs::Clock::clock_none))]
 fn tick_out<T: Wait + Clock, R: Replica, D: Disk + Drop, P: Post>(
     rt: &T,

@@ -58,7 +58,8 @@ pub struct ServeFault<'a, R: Replica, D: Disk> {
 ///
 /// One thread reads; there is a worker for each pass. Each datagram that finds room in the queue
 /// gets the next number, from 1 on; one that finds the queue full is dropped without a number.
-/// Replies are sent after the lock is given back, also those of a gateway whose disk has just failed.
+/// Replies are sent after the lock is given back, also those of a gateway whose disk has just
+/// failed.
 ///
 /// Each number is handed back once, in `taken` or in `left`. There are as many numbers as datagrams
 /// came over the wire, less those that it was told were dropped. The passes hold what they held and

@@ -74,7 +74,8 @@ pub(crate) fn risen(alloc: Global, seats: Vec<Option<Pass>>) -> Result<Vec<Pass>
     Ok(passes)
 }
 
-/// The pass makes a call, and comes back; and how many answers that brought, none if it was refused.
+/// The pass makes a call, and comes back; and how many answers that brought, none if it was
+/// refused.
 fn returned<W: Wait, R: Replica, D: Disk + Drop>(
     rt: &W,
     alloc: Global,
