@@ -253,8 +253,28 @@ fn alone(end: End) -> End
     }
 }
 
-/// Hears one message. A delta that brings what is new here is handed on.
+/// Hears one message.
 fn hear<T: Wait, R: Replica, D: Disk + Drop, S: Drop>(
+    rt: &T,
+    alloc: Global,
+    shift: &Shift<R, D>,
+    pass: Pass,
+    link: &mut Link<S>,
+    step: Arc<Step>,
+    stage: &Stage,
+    relay: &Relay,
+) -> (Pass, Result<(), End>)
+    requires { is_of_link (arc_value step) ≡ true }
+    ensures { Adds is_of_link pass result.0 }
+{
+    relay.note_heard(rt, link.place, &step);
+    let (pass, heard) = work_on(rt, alloc, shift, pass, link, step, stage, relay);
+    relay.note_worked(rt);
+    (pass, heard)
+}
+
+/// Works on a message. A delta that brings what is new here is handed on.
+fn work_on<T: Wait, R: Replica, D: Disk + Drop, S: Drop>(
     rt: &T,
     alloc: Global,
     shift: &Shift<R, D>,
@@ -310,8 +330,7 @@ fn news_of<T: Wait, S: Drop>(
     step: &Arc<Step>,
     relay: &Relay,
 ) -> Result<Option<Arc<Step>>, End> {
-    relay.note_heard(rt, link.place, step);
-    if relay.finds_lost(rt, link.other.unwrap_or(0), step) {
+    if relay.note_lost(rt, link.other.unwrap_or(0), step) {
         return Err(End::Lost);
     }
     if !relay.is_news(rt, step) {

@@ -79,6 +79,8 @@ struct Board {
     tallies: Vec<Tally>,
     /// How many messages were heard.
     heard: u64,
+    /// How many of them are worked on.
+    working: u64,
     /// The number of this gateway, while it is looked for what it made and lost; else 0.
     own: u8,
     /// The gateway that told such an operation.
@@ -111,6 +113,7 @@ impl Relay {
                 answers: Vec::new(alloc),
                 tallies: Vec::new(alloc),
                 heard: 0,
+                working: 0,
                 own: 0,
                 found_by: None,
             }),
@@ -282,8 +285,8 @@ impl Relay {
         report_of(board.tallies.as_mut_slice(), second)
     }
 
-    /// From now on the gateway of this number is told by no other what it must have made itself, or
-    /// that is found; with 0 it is not looked for.
+    /// From now on it is noted if another gateway tells what the one of this number must have made,
+    /// and has lost. With 0 that is not noted any more.
     pub fn look_for_lost<T: Wait>(&self, rt: &T, own: u8) {
         self.board.lock(rt).own = own;
     }
@@ -293,9 +296,9 @@ impl Relay {
         self.board.lock(rt).found_by
     }
 
-    /// How many messages were heard, and how many of the peers that were dialled have asked for
-    /// what they lack.
-    pub fn heard<T: Wait>(&self, rt: &T) -> (u64, u64) {
+    /// How many messages were heard, how many of the peers that were dialled have asked for what
+    /// they lack, and whether a message is worked on now.
+    pub fn heard<T: Wait>(&self, rt: &T) -> (u64, u64, bool) {
         let board = self.board.lock(rt);
         let mut asked = 0u64;
         for place in board.places.as_slice() {
@@ -303,13 +306,14 @@ impl Relay {
                 asked = asked.saturating_add(1);
             }
         }
-        (board.heard, asked)
+        (board.heard, asked, board.working > 0)
     }
 
-    /// A message was heard over the link of this place.
+    /// A message was heard over the link of this place, and is worked on.
     pub(crate) fn note_heard<T: Wait>(&self, rt: &T, id: Option<u64>, step: &Step) {
         let mut board = self.board.lock(rt);
         board.heard = board.heard.saturating_add(1);
+        board.working = board.working.saturating_add(1);
         if matches!(step, Step::Answer { .. }) {
             for place in board.places.as_mut_slice() {
                 if Some(place.id) == id {
@@ -319,9 +323,15 @@ impl Relay {
         }
     }
 
-    /// Whether a delta, which this gateway told, has what the one of `look_for_lost` must have made
-    /// itself, and has lost.
-    pub(crate) fn finds_lost<T: Wait>(&self, rt: &T, giver: u8, step: &Step) -> bool {
+    /// A message was worked on.
+    pub(crate) fn note_worked<T: Wait>(&self, rt: &T) {
+        let mut board = self.board.lock(rt);
+        board.working = board.working.saturating_sub(1);
+    }
+
+    /// Notes whether a delta, which a gateway told, has what the one of `look_for_lost` must have
+    /// made, and has lost. Says whether it has.
+    pub(crate) fn note_lost<T: Wait>(&self, rt: &T, giver: u8, step: &Step) -> bool {
         let mut board = self.board.lock(rt);
         if board.own == 0 || !tells_lost(&board, step) {
             return false;

@@ -12,15 +12,17 @@ use Rattle.gw_node.specs.Calls.{CompactCall}
 use Rattle.gw_node.specs.Opening.{ReopenCall}
 use Rattle.gw_node.specs.Taking.{on_disk, HasTaken}
 use Rattle.gw_main.specs.declared.tending.Tended.{Tended}
-use Rattle.gw_main.specs.declared.tending.Tended.TheVariants.{Kept, Reopened, Unwritten}
+use Rattle.gw_main.specs.declared.tending.Tended.TheVariants.{Kept, Starved, Reopened, Unwritten}
 
--- the journal is rewritten; or it stays as it is, because its generation is the last there is, or
--- memory ran out
+-- the journal is rewritten; or it stays as it is, because its generation is the last there is
 abbrev pub CompactsIfMay : {D : Type 0} {G : Ghosts D} → State G → State G → Type 0
 CompactsIfMay old new =
     ((out : Out) × CompactCall old (Ok out) new)
-    ⊎ (CompactCall old (Err (refusals.Journal journal.Foreign)) new
-    ⊎ CompactCall old (Err refusals.Memory) new)
+    ⊎ CompactCall old (Err (refusals.Journal journal.Foreign)) new
+
+-- it stays as it is, because memory ran out
+abbrev pub CompactsLater : {D : Type 0} {G : Ghosts D} → State G → State G → Type 0
+CompactsLater old new = CompactCall old (Err refusals.Memory) new
 
 -- the disk failed in that
 abbrev pub CompactsNot : {D : Type 0} {G : Ghosts D} → State G → State G → Type 0
@@ -33,6 +35,7 @@ OpensAnew old new = (out : Out) × ReopenCall old (Ok out) new
 -- A gateway that goes on is compacted. If the disk fails in that, the gateway is opened again.
 abbrev pub EndsAs : {D : Type 0} {G : Ghosts D} → State G → Tended → State G → Type 0
 EndsAs old Kept new = CompactsIfMay old new
+EndsAs old Starved new = CompactsLater old new
 EndsAs old Reopened new = ⊥
 EndsAs {G = G} old Unwritten new = (failed : State G) × CompactsNot old failed × OpensAnew failed new
 
@@ -50,7 +53,8 @@ EndsOpened {G = G} old tended new =
 -- A gateway that goes on is compacted. One that is halted is opened again first.
 abbrev pub IsTended : {D : Type 0} {G : Ghosts D} → State G → Tended → State G → Type 0
 IsTended old Kept new = (is_halted old ≡ false) × EndsAs old Kept new
-IsTended old Reopened new = EndsOpened old Kept new
+IsTended old Starved new = (is_halted old ≡ false) × EndsAs old Starved new
+IsTended old Reopened new = EndsOpened old Kept new ⊎ EndsOpened old Starved new
 IsTended old Unwritten new =
     ((is_halted old ≡ false) × EndsAs old Unwritten new) ⊎ EndsOpened old Unwritten new
 

@@ -19,9 +19,9 @@ pub fn is_grown(base: u64, growth: u64) -> bool
     growth > base && growth > LEAST_GROWTH
 }
 
-/// How many octets a journal has after it was written anew, from the lengths of its two files
-/// before and after that: those of the file that changed. If that does not tell one of them, those
-/// of the longer one.
+/// How many octets a journal has that was just written anew. Its two files had these lengths before
+/// and after that. It is the file whose length changed, or the longer one if both changed, or
+/// neither.
 pub fn base_of(before: (u64, u64), after: (u64, u64)) -> u64
     ensures { result ≡ spec.base_of before after }
 {

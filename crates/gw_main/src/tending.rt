@@ -16,8 +16,10 @@ use std::alloc::Global;
 /// What became of a gateway that was tended.
 #[derive(Clone, Copy, Debug, PartialEq, Eq)]
 pub enum Tended {
-    /// It goes on as it was. Its journal may be a shorter one.
+    /// It goes on as it was. Its journal was written anew, unless its generation is the last.
     Kept,
+    /// It goes on as it was, with its journal as it was: memory ran out.
+    Starved,
     /// It was halted, and was opened anew from its journal. It knows no bindings, dialogs and
     /// timers. Its journal may be a shorter one.
     Reopened,
@@ -27,9 +29,10 @@ pub enum Tended {
 }
 
 /// Tends a gateway between two shifts. One that is halted is opened anew from its journal. Then the
-/// journal is written anew without what no longer counts; where its generation is the last there
-/// is, or memory ran out, it stays as it is, and where the disk failed in that, the gateway is
-/// opened anew from what the disk holds. What is said tells these cases apart.
+/// journal is written anew without what no longer counts. It stays as it is if its generation is
+/// the last there is, or memory ran out. If the disk failed in that, the gateway is opened anew
+/// from what the disk holds. What is said tells these cases apart for a gateway that was not
+/// halted.
 ///
 /// A gateway that was tended is not halted. The fault is that of an opening, want of memory too,
 /// and the gateway is halted then. On an honest disk it has still taken all that it had taken.
@@ -50,6 +53,7 @@ pub fn tend<R: Replica, D: Disk + Drop>(
     open_anew(alloc, node)?;
     match compact(alloc, node) {
         Ok(Tended::Kept) => Ok(Tended::Reopened),
+        Ok(Tended::Starved) => Ok(Tended::Reopened),
         Ok(Tended::Unwritten) => Ok(Tended::Unwritten),
         Ok(Tended::Reopened) => unreachable!(),
         Err(fault) => Err(fault),
@@ -74,8 +78,8 @@ fn open_anew<R: Replica, D: Disk + Drop>(
     }
 }
 
-/// Writes the journal of a gateway anew that is not halted. Where the disk failed in that the
-/// gateway is opened anew.
+/// Writes the journal of a gateway anew that is not halted. If the disk failed in that the gateway
+/// is opened anew.
 fn compact<R: Replica, D: Disk + Drop>(
     alloc: Global,
     node: &mut Node<R, D>,
@@ -93,6 +97,7 @@ fn compact<R: Replica, D: Disk + Drop>(
             Ok(()) => Ok(Tended::Unwritten),
             Err(fault) => Err(fault),
         },
+        Err(NodeFault::Memory) => Ok(Tended::Starved),
         Ok(_) | Err(_) => Ok(Tended::Kept),
     }
 }

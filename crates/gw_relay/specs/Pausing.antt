@@ -1,6 +1,12 @@
 -- How long is waited for something, and between two things that cost.
-use Rattle.std.specs.Prelude.{ℕ, ◌+◌, ◌-◌, ◌==◌, Bool, ◌&&◌, ◌||◌, if◌then◌else◌, nat_le, nat_lt, Option, Some, None}
-use Rattle.gw_relay.specs.declared.pausing.TheConstants.{ANSWER_PAUSE, QUIET_TIME, GONE_TIME, LONGEST_PAUSE, LINE_PAUSE, LONGEST_LISTENING, QUIET_MOMENT}
+use Rattle.std.specs.Prelude.{ℕ, ◌+◌, ◌-◌, ◌==◌, Bool, false, ◌&&◌, ◌||◌, if◌then◌else◌, nat_le, nat_lt, Option, Some, None}
+use Rattle.gw_relay.specs.declared.pausing.TheConstants.{ANSWER_PAUSE, QUIET_TIME, GONE_TIME, LONGEST_PAUSE, LINE_PAUSE, LONGEST_LISTENING, QUIET_MOMENT, LONGEST_BACKLOG}
+
+-- whether no tick is made in a second, since what clients sent was not read to its end: the queue
+-- has been full since another one, and the longest wait for that is not over
+abbrev pub is_behind : Option ℕ → ℕ → Bool
+is_behind None second = false
+is_behind (Some since) second = nat_lt (second - since) LONGEST_BACKLOG
 
 -- whether a digest may be answered in a second, after one that was answered before
 abbrev pub may_answer : ℕ → ℕ → Bool

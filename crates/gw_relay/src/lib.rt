@@ -8,8 +8,9 @@
 //!   own gateway has lost (`is_lost`).
 //! - `going`: to which link it goes on (`goes_on`), and who may be linked (`may_link`).
 //! - `pausing`: how long is waited: for an answer to a digest (`may_answer`), for a word
-//!   (`is_quiet`, `is_gone`), for a dial (`next_pause`), for a line (`is_to_tell`), before a
-//!   start serves (`may_serve`); and which link ends another (`replaces`).
+//!   (`is_quiet`, `is_gone`), for a dial (`next_pause`), for a line (`is_to_tell`), before a start
+//!   serves (`may_serve`), for what clients have sent (`is_behind`); and which link ends another
+//!   (`replaces`).
 //! - `sizes`: how an answer is cut (`fits`), and how much a shift keeps (`is_much`).
 //! - `laws`: in a connected field whose links stay up a delta reaches every gateway.
 //!
@@ -30,7 +31,8 @@ pub use laws::reaches_all;
 pub use name::{Name, name_of};
 pub use news::{brings_news, brings_unnoted, is_covered, is_known, is_lost, is_noted};
 pub use pausing::{
-    ANSWER_PAUSE, GONE_TIME, LINE_PAUSE, LONGEST_LISTENING, LONGEST_PAUSE, QUIET_MOMENT,
-    QUIET_TIME, is_gone, is_quiet, is_to_tell, may_answer, may_serve, next_pause, replaces,
+    ANSWER_PAUSE, GONE_TIME, LINE_PAUSE, LONGEST_BACKLOG, LONGEST_LISTENING, LONGEST_PAUSE,
+    QUIET_MOMENT, QUIET_TIME, is_behind, is_gone, is_quiet, is_to_tell, may_answer, may_serve,
+    next_pause, replaces,
 };
 pub use sizes::{MOST_KEPT, PIECE, fits, is_much};

@@ -21,16 +21,32 @@ pub const LINE_PAUSE: u64 = 60;
 /// How many milliseconds a gateway listens at most after its start, before it serves.
 pub const LONGEST_LISTENING: u64 = 5_000;
 
-/// How many milliseconds nothing comes over links before all is heard that was there.
-pub const QUIET_MOMENT: u64 = 300;
+/// How many milliseconds nothing comes over links before all is taken to be heard that was there.
+pub const QUIET_MOMENT: u64 = 1_000;
+
+/// How many seconds the clock waits at most for a gateway that reads what clients have sent.
+pub const LONGEST_BACKLOG: u64 = 60;
 
 /// Whether a gateway that was started may serve, which dials so many peers. So many of them have
-/// asked for what they lack, nothing was heard for so many milliseconds, and it has listened for so
-/// many: each peer was heard, and all that came of it; or it has listened long enough.
+/// asked for what they lack, nothing has come and nothing was worked on for so many milliseconds,
+/// and it has listened for so many: each peer was heard and then a moment was quiet, or it has
+/// listened long enough.
 pub fn may_serve(peers: u64, asked: u64, quiet: u64, listened: u64) -> bool
     ensures { result ≡ spec.may_serve peers asked quiet listened }
 {
     listened >= LONGEST_LISTENING || (asked >= peers && quiet >= QUIET_MOMENT)
+}
+
+/// Whether no tick is made in a second, since the gateway has not read all that clients have sent.
+/// The queue was full in a second, and has not been empty since: `None` where it was. A tick would
+/// take clients for lost though they have spoken.
+pub fn is_behind(since: Option<u64>, second: u64) -> bool
+    ensures { result ≡ spec.is_behind since second }
+{
+    match since {
+        None => false,
+        Some(since) => second.saturating_sub(since) < LONGEST_BACKLOG,
+    }
 }
 
 /// Whether a digest of a gateway may be answered in a second, after one that was answered before.

@@ -17,7 +17,7 @@ pub struct Listening {
     began: AtomicU64,
     /// How many messages it had heard at the last look.
     heard: AtomicU64,
-    /// The millisecond in which a look found a new one.
+    /// The millisecond in which a look found a new one, or one that was worked on.
     last: AtomicU64,
 }
 
@@ -53,8 +53,8 @@ impl Listening {
             return false;
         }
         let now = millisecond(rt);
-        let (heard, asked) = relay.heard(rt);
-        if self.heard.swap(heard, Ordering::SeqCst) != heard {
+        let (heard, asked, is_working) = relay.heard(rt);
+        if self.heard.swap(heard, Ordering::SeqCst) != heard || is_working {
             self.last.store(now, Ordering::SeqCst);
         }
         let quiet = now.saturating_sub(self.last.load(Ordering::SeqCst));

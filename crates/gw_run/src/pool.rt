@@ -1,7 +1,8 @@
-//! What outlives a shift: the links of a gateway, and when its clock last ticked.
+//! What outlives a shift: the links of a gateway, and when its clock last ticked or has to wait.
 
 use crate::listening::Listening;
 use gw_link::{Link, Origin, Relay};
+use gw_relay::is_behind;
 use gw_wire::FieldClock;
 use std::alloc::Global;
 use std::sync::atomic::{AtomicU64, Ordering};
@@ -35,6 +36,9 @@ pub struct Pool<S: Drop> {
     pub clock: FieldClock,
     /// Whether the gateway listens, and does not serve yet.
     pub listening: Listening,
+    /// The second after that in which the reader's queue was full, if it has not read to the end
+    /// since; else 0.
+    backlog: AtomicU64,
     ticked: AtomicU64,
 }
 
@@ -64,8 +68,32 @@ impl<S: Drop> Pool<S> {
             relay: Relay::new(alloc, allowed),
             clock: FieldClock::new(),
             listening: Listening::new(),
+            backlog: AtomicU64::new(0),
             ticked: AtomicU64::new(0),
         })
+    }
+
+    /// The reader's queue is full.
+    pub fn note_full(&self) {
+        if self.backlog.load(Ordering::SeqCst) == 0 {
+            let next = self.clock.second().saturating_add(1);
+            self.backlog.store(next, Ordering::SeqCst);
+        }
+    }
+
+    /// The reader has read all that has come.
+    pub fn note_read(&self) {
+        if self.backlog.load(Ordering::SeqCst) != 0 {
+            self.backlog.store(0, Ordering::SeqCst);
+        }
+    }
+
+    /// Whether the clock waits in this second, since the reader has not read all that has come.
+    pub(crate) fn is_behind(&self, second: u64) -> bool {
+        match self.backlog.load(Ordering::SeqCst) {
+            0 => false,
+            next => is_behind(Some(next - 1), second),
+        }
     }
 
     /// Whether the clock has not ticked in this second. From now on it has.

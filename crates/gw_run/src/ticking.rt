@@ -22,7 +22,7 @@ const A_LOOK: u64 = 100;
 
 /// How many milliseconds pass after the gateway stood still, before it ticks: what clients sent
 /// meanwhile is read first.
-const A_REST: u64 = 1_000;
+const TIME_TO_READ: u64 = 1_000;
 
 /// Ticks in each second while the shift is serving: until a tick gives nothing, and no oftener than
 /// `MOST_TICKS`. What a tick has to send is sent at once. A second in which it has ticked in an
@@ -63,8 +63,8 @@ pub fn tick_all<T: Wait + Clock, R: Replica, D: Disk + Drop, P: Post, S: Drop>(
 }
 
 /// Ticks where the clock has not ticked in this second. If the machine, a sync or a shift's end
-/// held the gateway up for seconds, it reads first what clients have sent meanwhile. Before it
-/// serves it does not tick.
+/// held the gateway up for seconds, or more has come than it has read, it reads first what clients
+/// have sent meanwhile. Before it serves it does not tick.
 #[tactic(auto, using(crate::proofs::Clock::clock_none))]
 fn tick_in_turn<T: Wait + Clock, R: Replica, D: Disk + Drop, P: Post, S: Drop>(
     rt: &T,
@@ -78,10 +78,10 @@ fn tick_in_turn<T: Wait + Clock, R: Replica, D: Disk + Drop, P: Post, S: Drop>(
     ensures { AddsOfClock pass result.1 result.0 }
 {
     let Some(second) = pool.clock.look(rt) else {
-        stage.wait(rt, Phase::Serving, A_REST);
+        stage.wait(rt, Phase::Serving, TIME_TO_READ);
         return (pass, None);
     };
-    if pool.listening.is_on() || !pool.may_tick(second) {
+    if pool.listening.is_on() || pool.is_behind(second) || !pool.may_tick(second) {
         return (pass, None);
     }
     let (pass, end) = tick_out(rt, alloc, shift, pass, stage, post, &pool.clock);

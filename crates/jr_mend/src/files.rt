@@ -5,38 +5,66 @@ use crate::stop::Stop;
 use jr_disk::Slot;
 use std::alloc::Global;
 use std::fs::{File, Files, TryLockError};
-use std::io::{Read, Write};
+use std::io::{Read, Seek, SeekFrom, Write};
 
 /// The most octets that are read of a file, 1 GiB.
 const MAX_SLOT: u64 = 1_073_741_824;
 
-/// Both files, open, and what they hold.
+/// Both files, open.
+#[derive(Drop)]
+pub struct Both {
+    first: File,
+    second: File,
+}
+
+/// Both files, and what they hold.
 #[derive(Drop)]
 pub struct Pair {
     /// The octets of the first file.
     pub first: Vec<u8>,
     /// The octets of the second file.
     pub second: Vec<u8>,
-    first_file: File,
-    second_file: File,
+    both: Both,
 }
 
-/// Opens both files, which no other program may have as its journal, and reads them.
+/// Opens both files, which no other program may have as its journal.
 pub(crate) fn open_both<T: Files<File = File>>(
     rt: &T,
     alloc: Global,
     path: &str,
-) -> Result<Pair, Stop> {
-    let first_file = open_one(rt, alloc, path, 0)?;
-    let second_file = open_one(rt, alloc, path, 1)?;
-    let first = octets_of(alloc, &first_file)?;
-    let second = octets_of(alloc, &second_file)?;
+) -> Result<Both, Stop> {
+    let first = open_one(rt, alloc, path, 0)?;
+    let second = open_one(rt, alloc, path, 1)?;
+    Ok(Both { first, second })
+}
+
+/// Whether a file ends in zero. If none does there is nothing to cut, and nothing is read.
+pub(crate) fn end_in_zero(both: &Both) -> Result<bool, Stop> {
+    Ok(ends_in_zero(&both.first)? || ends_in_zero(&both.second)?)
+}
+
+/// Reads both files.
+pub(crate) fn read_both(alloc: Global, both: Both) -> Result<Pair, Stop> {
+    let first = octets_of(alloc, &both.first)?;
+    let second = octets_of(alloc, &both.second)?;
     Ok(Pair {
         first,
         second,
-        first_file,
-        second_file,
+        both,
     })
+}
+
+/// Whether the last octet of a file is 0. A file without octets has no end.
+fn ends_in_zero(file: &File) -> Result<bool, Stop> {
+    let mut place = file;
+    let mut octet = [1u8];
+    if place.seek(SeekFrom::End(-1)).is_err() {
+        return Ok(false);
+    }
+    if place.read_exact(&mut octet).is_err() || place.seek(SeekFrom::Start(0)).is_err() {
+        return Err(Stop::Read);
+    }
+    Ok(octet[0] == 0)
 }
 
 /// Opens a file, and locks it.
@@ -111,8 +139,8 @@ fn copy_one<T: Files<File = File>>(
 /// Cuts a file, for good. Says how many octets were cut.
 pub(crate) fn cut_file(pair: &Pair, cut: Cut) -> Result<usize, Stop> {
     let (file, length) = match cut.slot {
-        Slot::First => (&pair.first_file, pair.first.len()),
-        Slot::Second => (&pair.second_file, pair.second.len()),
+        Slot::First => (&pair.both.first, pair.first.len()),
+        Slot::Second => (&pair.both.second, pair.second.len()),
     };
     if file.set_len(cut.at as u64).is_err() || file.sync_all().is_err() {
         return Err(Stop::Write);

@@ -13,7 +13,7 @@ mod files;
 mod mending;
 mod stop;
 
-use crate::files::{Pair, copy_both, cut_file, open_both};
+use crate::files::{Pair, copy_both, cut_file, end_in_zero, open_both, read_both};
 use crate::mending::{Cut, find_cut, number_in};
 use crate::stop::Stop;
 use std::alloc::Global;
@@ -43,7 +43,11 @@ fn mend<T: Env + Files<File = File>, O: Write>(
     out: &mut O,
 ) -> Result<(), Stop> {
     let path = path_in(rt, alloc)?;
-    let pair = open_both(rt, alloc, path.as_str())?;
+    let both = open_both(rt, alloc, path.as_str())?;
+    if !end_in_zero(&both)? {
+        return Ok(());
+    }
+    let pair = read_both(alloc, both)?;
     let Some(gateway) = number_in(pair.first.as_slice(), pair.second.as_slice()) else {
         return Ok(());
     };

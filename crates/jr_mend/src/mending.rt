@@ -1,9 +1,9 @@
 //! What of a journal is to be cut.
 
-ghost use Rattle.std.specs.Prelude.{◌≡◌, ◌≤◌, ◌==◌, IfOk, IfSome, OnOk, None, true, take, drop, length};
+ghost use Rattle.std.specs.Prelude.{◌≡◌, ◌≢◌, ◌≤◌, ◌==◌, IfOk, IfErr, IfSome, OnOk, None, true, take, drop, length};
 ghost use Rattle.std.specs.List.{list_all};
 ghost use Rattle.jr_journal.specs.Faults.{fault_of};
-ghost use Rattle.jr_read.specs.Places.{slots_of, octets_in};
+ghost use Rattle.jr_read.specs.Places.{slots_of, octets_in, IsTold};
 ghost use Rattle.jr_mend.specs.Mending as spec;
 
 use jr_disk::Slot;
@@ -57,6 +57,8 @@ pub fn find_cut(
     first: &[u8],
     second: &[u8],
 ) -> Result<Option<Cut>, JournalFault>
+    ensures needed { IfOk result (λ found. IfSome found (λ cut.
+        fault_of gateway (slots_of first.now second.now) ≢ None)) }
     ensures zeros { IfOk result (λ found. IfSome found (λ cut.
         spec.are_zeros (drop cut.at (octets_in (slots_of first.now second.now) cut.slot))
         ≡ true)) }
@@ -64,6 +66,7 @@ pub fn find_cut(
         fault_of gateway (spec.without first.now second.now cut) ≡ None)) }
     ensures whole { IfOk result (λ found. found ≡ None
         → fault_of gateway (slots_of first.now second.now) ≡ None) }
+    ensures fault { IfErr result (IsTold (fault_of gateway (slots_of first.now second.now))) }
 {
     match read(alloc, gateway, first, second) {
         Ok(_) => Ok(None),
@@ -97,6 +100,7 @@ fn try_cut(
     ensures zeros { OnOk result (spec.are_zeros (drop cut.at
         (octets_in (slots_of first.now second.now) cut.slot)) ≡ true) }
     ensures mends { OnOk result (fault_of gateway (spec.without first.now second.now cut) ≡ None) }
+    ensures fault { IfErr result (λ refused. refused ≡ fault) }
 {
     let (octets, left, right) = match cut.slot {
         Slot::First => (first, front(first, cut.at), second),

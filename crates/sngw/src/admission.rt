@@ -1,25 +1,43 @@
-//! Which clients are let in.
+//! Which datagrams become calls: those that are frames, but for a CONNECT of a client that is not let
+//! in.
 
-ghost use Rattle.std.specs.Prelude.{◌≡◌, ◌<◌, ◌≤◌, length, IfSome};
+ghost use Rattle.std.specs.Prelude.{◌≡◌, ◌≢◌};
+ghost use Rattle.sn_frame.specs.declared.fault.FrameFault.{FrameFault};
+ghost use Rattle.sn_frame.specs.declared.fault.FrameFault.TheVariants as frame_faults;
+ghost use Rattle.sn_frame.specs.Faults.{IsFirstFault};
+ghost use Rattle.sngw.specs.declared.admission.Verdict.TheVariants as verdicts;
 ghost use Rattle.sngw.specs.inner.Admission as spec;
 
 use gw_main::lets_in;
 use gw_main::options::Settings;
 use octets::Octets;
 use rep_ops::ClientId;
+use sn_frame::{Frame, FrameFault, decode};
 use std::alloc::Global;
 
 /// The return code of CONNACK for a client that never comes in (MQTT-SN 1.2 section 5.3.10).
 const NOT_SUPPORTED: u8 = 3;
 
 /// The same for one that may come later.
-const CONGESTION: u8 = 1;
+pub(crate) const CONGESTION: u8 = 1;
 
 /// How many seconds newcomers are counted together.
 const A_MINUTE: u64 = 60;
 
-/// The kind of CONNECT.
-const CONNECT: u8 = 4;
+/// After how many seconds the list of those that are known is old: over links others may have
+/// become known.
+const A_WHILE: u64 = 10;
+
+/// What becomes of a datagram.
+#[derive(Clone, Copy, Debug, PartialEq, Eq)]
+pub enum Verdict {
+    /// It becomes a call.
+    Comes,
+    /// It is no frame, and is dropped.
+    Dropped,
+    /// It is a CONNECT of a client that is not let in, and is answered by this return code.
+    TurnedAway(u8),
+}
 
 /// Which client ids have come in. The ids are kept for the life of a field, so neither a sensor
 /// that has another id each day nor a stranger is to use them up.
@@ -31,6 +49,8 @@ pub struct Admission {
     newcomers: u16,
     /// Those that are known, while newcomers are counted.
     known: Vec<ClientId>,
+    /// The second in which they were looked up.
+    looked: u64,
     minute: u64,
     /// How many came in for the first time in that minute.
     count: u16,
@@ -47,43 +67,73 @@ impl Admission {
             patterns,
             newcomers: settings.newcomers,
             known: Vec::new(alloc),
+            looked: 0,
             minute: 0,
             count: 0,
         })
     }
 
-    /// From now on these are known.
-    pub(crate) fn know(&mut self, clients: Vec<ClientId>) {
+    /// In this second these are known.
+    pub(crate) fn know(&mut self, second: u64, clients: Vec<ClientId>) {
         self.known = clients;
+        self.looked = second;
     }
 
-    /// The return code by which a datagram is answered, in this second, that is a CONNECT of a
-    /// client which does not come in.
-    pub(crate) fn refusal(&mut self, alloc: Global, second: u64, datagram: &[u8]) -> Option<u8> {
-        let id = client_of(datagram)?;
+    /// Whether others may have become known since they were looked up.
+    pub(crate) fn is_old(&self, second: u64) -> bool {
+        second.saturating_sub(self.looked) >= A_WHILE
+    }
+
+    /// What becomes of a datagram that came in this second. What may be a frame is never dropped.
+    pub(crate) fn verdict(&mut self, alloc: Global, second: u64, datagram: &[u8]) -> Verdict
+        ensures { result ≡ verdicts.Dropped → (fault : FrameFault)
+            × ((fault ≢ frame_faults.Memory) × IsFirstFault datagram.now fault) }
+    {
+        match decode(alloc, datagram) {
+            Err(FrameFault::Memory) => Verdict::Comes,
+            Err(_) => Verdict::Dropped,
+            Ok(frame) => match self.refusal(alloc, second, &frame) {
+                None => Verdict::Comes,
+                Some(code) => Verdict::TurnedAway(code),
+            },
+        }
+    }
+
+    /// The return code by which a frame is answered that is a CONNECT of a client which is not let
+    /// in.
+    fn refusal(&mut self, alloc: Global, second: u64, frame: &Frame) -> Option<u8> {
+        let Frame::Connect { client, .. } = frame else {
+            return None;
+        };
+        let id = client.as_slice();
         if !lets_in(self.patterns.as_slice(), id) {
             return Some(NOT_SUPPORTED);
         }
-        if self.newcomers == 0 || self.is_known(id) {
+        if self.newcomers == 0 || self.is_known(id) || self.has_come(alloc, second, id) {
             return None;
         }
-        if self.minute != second / A_MINUTE {
-            self.minute = second / A_MINUTE;
-            self.count = 0;
-        }
-        if !may_come(self.count, self.newcomers) {
-            return Some(CONGESTION);
-        }
-        self.count = self.count.saturating_add(1);
-        if let Ok(id) = ClientId::new(alloc, id) {
-            let _ = self.known.push(id);
-        }
-        None
+        Some(CONGESTION)
     }
 
     /// Whether a client has come in before.
     fn is_known(&self, id: &[u8]) -> bool {
         self.known.iter().any(|known| known.bytes() == id)
+    }
+
+    /// Whether a newcomer comes in, in this second. If so, it is known.
+    fn has_come(&mut self, alloc: Global, second: u64, id: &[u8]) -> bool {
+        if self.minute != second / A_MINUTE {
+            self.minute = second / A_MINUTE;
+            self.count = 0;
+        }
+        if !may_come(self.count, self.newcomers) {
+            return false;
+        }
+        self.count = self.count.saturating_add(1);
+        if let Ok(id) = ClientId::new(alloc, id) {
+            let _ = self.known.push(id);
+        }
+        true
     }
 }
 
@@ -92,20 +142,4 @@ fn may_come(count: u16, most: u16) -> bool
     ensures { result ≡ spec.may_come count most }
 {
     count < most
-}
-
-/// The client id of a CONNECT, if a datagram is one: what is after length, kind, flags, protocol
-/// and duration (section 5.4.4), with the length in one octet or in three.
-fn client_of(datagram: &[u8]) -> Option<&[u8]>
-    ensures { IfSome result (λ id. length id.now < length datagram.now) }
-{
-    if datagram.len() > 6 && datagram[0] != 1 && datagram[1] == CONNECT {
-        let (_, id) = datagram.split_at(6);
-        return Some(id);
-    }
-    if datagram.len() > 8 && datagram[0] == 1 && datagram[3] == CONNECT {
-        let (_, id) = datagram.split_at(8);
-        return Some(id);
-    }
-    None
 }

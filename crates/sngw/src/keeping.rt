@@ -14,7 +14,7 @@ pub struct Keeper<'a> {
     base: u64,
     /// How many octets both files had then.
     both: u64,
-    /// Whether no record went out since a write failed.
+    /// Whether there was no shift, since a write failed, in which all records went out.
     has_failed: bool,
     /// How many seconds the gateway waited for its last try.
     waited: u64,
@@ -68,15 +68,15 @@ impl<'a> Keeper<'a> {
         };
         self.both = after.0.saturating_add(after.1);
         self.base = match before {
-            Some(before) if tended != Tended::Unwritten => base_of(before, after),
+            Some(before) if is_written(tended) => base_of(before, after),
             _ => after.0.max(after.1),
         };
     }
 
     /// A shift is over. Says for how many seconds the gateway is to be silent: if writes failed in
-    /// it, and had failed before it with no record between.
+    /// it, and had failed before it with no shift between in which all records went out.
     pub(crate) fn silence_after(&mut self, has_recorded: bool, has_failed: bool) -> u64 {
-        if has_recorded {
+        if has_recorded && !has_failed {
             self.has_failed = false;
             self.waited = 0;
         }
@@ -101,6 +101,14 @@ impl<'a> Keeper<'a> {
     pub(crate) fn note_written(&mut self) {
         self.has_failed = false;
         self.waited = 0;
+    }
+}
+
+/// Whether the journal of a gateway that was tended may have been written anew.
+pub(crate) fn is_written(tended: Tended) -> bool {
+    match tended {
+        Tended::Kept | Tended::Reopened => true,
+        Tended::Starved | Tended::Unwritten => false,
     }
 }
 

@@ -21,7 +21,7 @@
 //! - `watched`: the wire, which ends with the shift.
 //! - `late`: a datagram that came when its shift had no call left for it.
 //! - `posting`: how replies go out.
-//! - `admission`: which clients are let in.
+//! - `admission`: which datagrams become calls, and which clients are let in.
 #![tactic(auto)]
 
 mod admission;

@@ -2,7 +2,7 @@
 
 use crate::admission::Admission;
 use crate::doors::{Door, doors_of, keep_all};
-use crate::keeping::Keeper;
+use crate::keeping::{Keeper, is_written};
 use crate::late::{Inlet, Late};
 use crate::posting::Fence;
 use crate::stop::Stop;
@@ -56,21 +56,7 @@ where
     let Some(mut doors) = doors_of(alloc, settings) else {
         return Err(Stop::Memory);
     };
-    let Some(late) = Late::none(alloc) else {
-        return Err(Stop::Memory);
-    };
-    let Some(fence) = Fence::new(alloc) else {
-        return Err(Stop::Memory);
-    };
-    let Some(admission) = Admission::of(alloc, settings) else {
-        return Err(Stop::Memory);
-    };
-    let mut inlet = Inlet {
-        socket,
-        late,
-        fence,
-        admission,
-    };
+    let mut inlet = inlet_of(alloc, settings, socket)?;
     let place = Mutex::new(Some(node));
     let over = Stage::new(0, 0);
     run_beside(
@@ -85,6 +71,25 @@ where
         &pool,
         &over,
     )
+}
+
+/// Where datagrams come from, and go to.
+fn inlet_of(alloc: Global, settings: &Settings, socket: Socket) -> Result<Inlet, Stop> {
+    let Some(late) = Late::none(alloc) else {
+        return Err(Stop::Memory);
+    };
+    let Some(fence) = Fence::new(alloc) else {
+        return Err(Stop::Memory);
+    };
+    let Some(admission) = Admission::of(alloc, settings) else {
+        return Err(Stop::Memory);
+    };
+    Ok(Inlet {
+        socket,
+        late,
+        fence,
+        admission,
+    })
 }
 
 /// Says which address of the settings cannot be had, and why.
@@ -170,7 +175,7 @@ where
         let Some(node) = place.lock(rt).take() else {
             return Ok(());
         };
-        know_clients(alloc, settings, &node, inlet);
+        know_clients(alloc, settings, &node, inlet, pool.clock.second());
         let worked = work(rt, alloc, settings, node, inlet, pool, number)?;
         if let Some(other) = pool.relay.found_by(rt) {
             return Err(used(rt, settings.gateway, other));
@@ -222,10 +227,11 @@ fn know_clients<R: Replica, D: Disk + Drop>(
     settings: &Settings,
     node: &Node<R, D>,
     inlet: &mut Inlet,
+    second: u64,
 ) {
     if settings.newcomers > 0 {
         if let Ok(clients) = node.clients(alloc) {
-            inlet.admission.know(clients);
+            inlet.admission.know(second, clients);
         }
     }
 }
@@ -248,7 +254,8 @@ fn used<T: Eprint>(rt: &T, own: u8, other: u8) -> Stop {
 
 /// Writes anew what was read at the start, before anything is answered for. What an earlier program
 /// left may have octets that its last sync did not keep, which the system would call kept: after
-/// this nothing rests on them. A gateway that cannot write tries again, and is silent until it can.
+/// this nothing rests on them. A gateway that cannot write, or has no memory for that, says at each
+/// try how it stands, and is silent until it can.
 fn write_first<T, R, D>(
     rt: &T,
     alloc: Global,
@@ -270,10 +277,14 @@ where
         return Ok(());
     }
     for _ in rt.forever() {
-        if tend_behind(rt, alloc, &mut node, pool, keeper)? != Tended::Unwritten {
+        let tended = tend_behind(rt, alloc, &mut node, pool, keeper)?;
+        if is_written(tended) {
             keeper.note_written();
             *place.lock(rt) = Some(node);
             return Ok(());
+        }
+        if tended == Tended::Starved {
+            tell(rt, alloc, &node);
         }
         let silence = keeper.wait_longer();
         be_silent(rt, inlet, &pool.clock, silence);
@@ -323,7 +334,7 @@ where
     D: Disk + Drop,
     S: Drop,
 {
-    if tended != Tended::Kept {
+    if tended == Tended::Reopened || tended == Tended::Unwritten {
         pool.close_all(rt);
         tell(rt, alloc, node);
     }

@@ -2,7 +2,7 @@
 
 ghost use Rattle.std.specs.Prelude.{◌≡◌, ◌+◌};
 
-use crate::admission::Admission;
+use crate::admission::{Admission, CONGESTION, Verdict};
 use crate::late::Late;
 use gw_link::{Phase, Stage};
 use gw_run::Pool;
@@ -89,30 +89,45 @@ impl<'a, T: Wait + Clock, W: Wire, P: Post> Watched<'a, T, W, P> {
         }
     }
 
-    /// Whether the gateway listens to its peers, and reads no datagram yet. If one of them tells
-    /// what it must have made itself, and has lost, the shift is to close.
+    /// Whether the gateway listens to its peers, and reads no datagram yet. If one of them has told
+    /// what it must have made itself, and has lost, the shift is to close, and nothing is read.
     fn listens(&self) -> bool {
+        let is_on = self.pool.listening.look(self.rt, &self.pool.relay);
         if self.pool.relay.found_by(self.rt).is_some() {
             self.stage.close(self.rt);
+            return true;
         }
-        self.pool.listening.look(self.rt, &self.pool.relay)
+        is_on
     }
 
-    /// Whether a datagram is a CONNECT of a client that is not let in. If so, that is answered.
-    fn turns_away(&mut self, arrival: &Arrival, datagram: &[u8]) -> bool
+    /// Whether a datagram becomes no call. A CONNECT of a client that is not let in is answered. If
+    /// that client may be known meanwhile, the shift is to close, and the next one looks.
+    fn holds_back(&mut self, arrival: &Arrival, datagram: &[u8]) -> bool
         ensures failures { self.new.failures ≡ self.old.failures }
         ensures datagrams { (self.new.arrivals ≡ self.old.arrivals)
             × (self.new.drops ≡ self.old.drops) }
     {
         let second = arrival.moment;
-        let refusal = self.admission.refusal(self.alloc, second, datagram);
-        match refusal {
-            None => false,
-            Some(code) => {
+        let verdict = self.admission.verdict(self.alloc, second, datagram);
+        match verdict {
+            Verdict::Comes => false,
+            Verdict::Dropped => true,
+            Verdict::TurnedAway(code) => {
                 let _ = self.mouth.send(arrival.from, &[3, 5, code]);
+                if code == CONGESTION && self.admission.is_old(second) {
+                    self.stage.close(self.rt);
+                }
                 true
             }
         }
+    }
+
+    /// Whether the shift is over, which it is once all its calls are claimed.
+    fn is_over(&self) -> bool {
+        if self.stage.is_full() {
+            self.stage.close(self.rt);
+        }
+        self.stage.phase(self.rt) != Phase::Serving
     }
 
     /// Whether there is a call for the datagram that came late.
@@ -143,17 +158,14 @@ impl<'a, T: Wait + Clock, W: Wire, P: Post> Wire for Watched<'a, T, W, P> {
             let Some(arrival) = self.late.give(buffer) else {
                 return Ok(None);
             };
-            if self.turns_away(&arrival, &buffer[..arrival.size]) {
+            if self.holds_back(&arrival, &buffer[..arrival.size]) {
                 self.stage.give_back();
                 return Ok(None);
             }
             self.arrivals = Tally::next(&self.arrivals);
             return Ok(Some(arrival));
         }
-        if self.stage.is_full() {
-            self.stage.close(self.rt);
-        }
-        if self.stage.phase(self.rt) != Phase::Serving {
+        if self.is_over() {
             self.failures = Failures::next(&self.failures);
             return Err(WireFault);
         }
@@ -162,9 +174,12 @@ impl<'a, T: Wait + Clock, W: Wire, P: Post> Wire for Watched<'a, T, W, P> {
             return Ok(None);
         }
         match self.wire.recv(buffer) {
-            Ok(None) => Ok(None),
+            Ok(None) => {
+                self.pool.note_read();
+                Ok(None)
+            }
             Ok(Some(arrival)) => {
-                if self.turns_away(&arrival, &buffer[..arrival.size]) {
+                if self.holds_back(&arrival, &buffer[..arrival.size]) {
                     return Ok(None);
                 }
                 if self.stage.claim() {
@@ -195,6 +210,7 @@ impl<'a, T: Wait + Clock, W: Wire, P: Post> Wire for Watched<'a, T, W, P> {
         let second = self.pool.clock.second();
         if self.rests == 0 {
             self.rested = second;
+            self.pool.note_full();
         }
         self.rests = self.rests.saturating_add(1);
         if self.rests > MOST_RESTS && second > self.rested.saturating_add(A_LONG_TIME) {

@@ -23,6 +23,10 @@ returns-in-Err-Disk-clause-taken g c = λ honest.
     two_calls (state_of g.R.Replica.kept c.args.node.now) (state_of g.R.Replica.kept c.compact.new.self) (state_of g.R.Replica.kept c.open_anew.new.node)
     c.in-Err-Disk.ensures.taken c.in-Err.ensures.nothing
 
+pub returns-in-Err-Memory-clause-taken : goal.returns-in-Err-Memory-clause-taken
+returns-in-Err-Memory-clause-taken g c = λ honest.
+    one_call (state_of g.R.Replica.kept c.args.node.now) (state_of g.R.Replica.kept c.args.node.now) (state_of g.R.Replica.kept c.compact.new.self) c.in-Err-Memory.ensures.taken
+
 pub returns-clause-taken : goal.returns-clause-taken
 returns-clause-taken g c = λ honest.
     one_call (state_of g.R.Replica.kept c.args.node.now) (state_of g.R.Replica.kept c.args.node.now) (state_of g.R.Replica.kept c.compact.new.self) c.compact.ensures.taken

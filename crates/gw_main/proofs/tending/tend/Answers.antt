@@ -1,4 +1,4 @@
-use Rattle.std.proofs.Common.{sym, subst, inr}
+use Rattle.std.proofs.Common.{sym, subst, inl, inr}
 use Rattle.gw_node.specs.Parts.{state_of}
 use Rattle.gw_main.specs.Tending.{EndsAs}
 use Rattle.gw_main.specs.declared.tending.Tended.{Tended}
@@ -10,7 +10,15 @@ returns-in_err-open_anew-clause-taken g c = λ honest.
     one_call (state_of g.R.Replica.kept c.args.node.now) (state_of g.R.Replica.kept c.args.node.now) (state_of g.R.Replica.kept c.open_anew.new.node) c.in_err-open_anew.ensures.nothing
 
 pub returns-in-Ok-Kept-clause-tended : goal.returns-in-Ok-Kept-clause-tended
-returns-in-Ok-Kept-clause-tended g c = (sym c.if-not-is_halted.ensures, (state_of g.R.Replica.kept c.open_anew.new.node, c.in_ok-open_anew.ensures.ok, subst (λ (tended : Tended). EndsAs (state_of g.R.Replica.kept c.open_anew.new.node) tended (state_of g.R.Replica.kept c.compact-2.new.node)) c.in-Ok-Kept.field-0-is c.in-Ok-Kept.ensures.ends))
+returns-in-Ok-Kept-clause-tended g c = inl (sym c.if-not-is_halted.ensures, (state_of g.R.Replica.kept c.open_anew.new.node, c.in_ok-open_anew.ensures.ok, subst (λ (tended : Tended). EndsAs (state_of g.R.Replica.kept c.open_anew.new.node) tended (state_of g.R.Replica.kept c.compact-2.new.node)) c.in-Ok-Kept.field-0-is c.in-Ok-Kept.ensures.ends))
+
+pub returns-in-Ok-Starved-clause-tended : goal.returns-in-Ok-Starved-clause-tended
+returns-in-Ok-Starved-clause-tended g c = inr (sym c.if-not-is_halted.ensures, (state_of g.R.Replica.kept c.open_anew.new.node, c.in_ok-open_anew.ensures.ok, subst (λ (tended : Tended). EndsAs (state_of g.R.Replica.kept c.open_anew.new.node) tended (state_of g.R.Replica.kept c.compact-2.new.node)) c.in-Ok-Starved.field-0-is c.in-Ok-Starved.ensures.ends))
+
+pub returns-in-Ok-Starved-clause-taken : goal.returns-in-Ok-Starved-clause-taken
+returns-in-Ok-Starved-clause-taken g c = λ honest.
+    opened_then (state_of g.R.Replica.kept c.args.node.now) (state_of g.R.Replica.kept c.open_anew.new.node) (state_of g.R.Replica.kept c.compact-2.new.node)
+    honest c.in_ok-open_anew.ensures.again (c.in-Ok-Starved.ensures.taken honest)
 
 pub returns-in-Ok-Kept-clause-taken : goal.returns-in-Ok-Kept-clause-taken
 returns-in-Ok-Kept-clause-taken g c = λ honest.
