@@ -20,7 +20,7 @@ The parts, all where none is named, with the seconds that each takes on a quiet 
   blocks    35  the same openings, where each compaction makes room for one record
   room       5  a compaction without room turns clients away once, and then not for each shift; it needs root, for a small disk in memory
   garbage   10  5,000 datagrams that are no frames end no shift of 64 calls, and memory does not grow
-  bound     20  1,300 PUBLISH of 60,000 octets end a shift before its calls are used up, and memory stays below 160 MiB
+  bound     20  1,300 PUBLISH of 60,000 octets end a shift before its calls are used up, and memory stays below 256 MiB
   fence      8  a forged DISCONNECT between two gateways is answered some 64 times; it needs root
   ids        3  clients that no pattern of the settings is like, and one newcomer too many, are turned away and leave no trace
   learned   75  clients that came over a link are no newcomers a minute after a shift's begin
@@ -584,7 +584,7 @@ def bound(program: str, folder: str) -> str:
             until(gateway.shifts, 120, "no shift was closed by 78 MB of datagrams")
         steps = gateway.shifts()[0][1]
     said = f"a shift of {steps} calls, and RssAnon of {most} MiB at most"
-    expect(steps < 1300 and most < 160, said)
+    expect(steps < 1300 and most < 256, said)
     return said
 
 
