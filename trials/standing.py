@@ -103,7 +103,7 @@ def turn(gateway: Gateway) -> None:
             client.ask(search(), b"\x03\x02")
 
 
-def insist(client: Client, octets: bytes, wanted: bytes, seconds: float = 40) -> int:
+def insist(client: Client, octets: bytes, wanted: bytes, seconds: float = 120) -> int:
     """Sends until this answer comes, and connects again whenever the client was turned away. Gives how often that was."""
     end, away = time.monotonic() + seconds, 0
     while time.monotonic() < end:
@@ -398,13 +398,13 @@ def is_asleep(gateway: Gateway) -> bool:
 
 
 def short(program: str, folder: str) -> str:
-    """Memory is limited while the first line waits for a pipe that is full: after the opening, and before anything is written. Of the 40 MB of the base
+    """Memory is limited while the first line waits for a pipe that is full: after the opening, and before anything is written. Of the 32 MB of the base
     so much is refused, and the threads of a start get theirs."""
     with Gateway(program, folder, 1) as gateway:
         gateway.start()
-        for place in range(25):
+        for place in range(100):
             sleeps_at(gateway, b"s-%d" % place)
-        say(gateway, b"p-much", b"." * 4000, 400)
+        say(gateway, b"p-much", b"." * 4000, 80)
         gateway.kill()
         before, gateway.printing = newest(gateway), threading.Event()
         gateway.begin()
@@ -425,9 +425,9 @@ def short(program: str, folder: str) -> str:
         took, after = time.monotonic() - began, newest(gateway)
         with Client(b"s-0", gateway) as sleeper:
             got = len(sleeper.wake(120))
-    said = f"{heard} SEARCHGW were answered without memory, generations {before[0]}, {was[0]} and {after[0]}, {got} messages of 400, {took:.1f} seconds"
+    said = f"{heard} SEARCHGW were answered without memory, generations {before[0]}, {was[0]} and {after[0]}, {got} messages of 80, {took:.1f} seconds"
     expect(was[0] == before[0], "memory was not refused: " + said)
-    expect(heard == 0 and after[0] > before[0] and got == 400, said)
+    expect(heard == 0 and after[0] > before[0] and got == 80, said)
     return said
 
 
