@@ -104,11 +104,12 @@ def turn(gateway: Gateway) -> None:
 
 
 def insist(client: Client, octets: bytes, wanted: bytes, seconds: float = 120) -> int:
-    """Sends until this answer comes, and connects again whenever the client was turned away. Gives how often that was."""
+    """Sends until this answer comes, each ten seconds, as a message that comes twice counts twice. Connects again whenever the client was turned away, and
+    gives how often that was."""
     end, away = time.monotonic() + seconds, 0
     while time.monotonic() < end:
         client.send(octets)
-        answer = client.receive(1)
+        answer = client.receive(10)
         if answer == wanted:
             return away
         if answer == GONE:
@@ -424,7 +425,7 @@ def short(program: str, folder: str) -> str:
             asker.ask(search(), b"\x03\x02\x01", 60, 0.5)
         took, after = time.monotonic() - began, newest(gateway)
         with Client(b"s-0", gateway) as sleeper:
-            got = len(sleeper.wake(120))
+            got = len(sleeper.wake(300))
     said = f"{heard} SEARCHGW were answered without memory, generations {before[0]}, {was[0]} and {after[0]}, {got} messages of 80, {took:.1f} seconds"
     expect(was[0] == before[0], "memory was not refused: " + said)
     expect(heard == 0 and after[0] > before[0] and got == 80, said)
@@ -493,7 +494,7 @@ def room(program: str, folder: str) -> str:
     os.mkdir(disk)
     subprocess.run(["mount", "-t", "tmpfs", "-o", "size=1900k", "none", disk], check=True)
     try:
-        with Gateway(program, folder, 1, journal=f'"{disk}/journal"', steps="16") as gateway:
+        with Gateway(program, folder, 1, journal=f'"{disk}/journal"', steps="32") as gateway:
             gateway.journal = f"{disk}/journal"
             gateway.start()
             sleeps_at(gateway, b"s-room")
@@ -502,7 +503,7 @@ def room(program: str, folder: str) -> str:
                 away = sum(insist(publisher, publish(b"ow", b"." * 4000, place), published(b"ow", place)) for place in range(1, 401))
             openings, shifts = len(gateway.openings()) - 1, len(gateway.shifts())
             with Client(b"s-room", gateway) as sleeper:
-                got = len(sleeper.wake(120))
+                got = len(sleeper.wake(300))
     finally:
         subprocess.run(["umount", "-l", disk], check=True)
     said = f"{shifts} shifts, {openings} openings, turned away {away} times, {got} messages of 400"
@@ -845,6 +846,8 @@ def main() -> int:
     reader.add_argument("parts", nargs="*", choices=[*PARTS, []])
     asked = reader.parse_args()
     program, good = os.path.abspath(asked.program), True
+    # a CONNECT that was repeated and comes late would wake a sleeper
+    Client.again = 3.0
     for part in asked.parts or PARTS:
         with tempfile.TemporaryDirectory(prefix="standing-") as folder:
             try:
