@@ -419,17 +419,17 @@ def short(program: str, folder: str) -> str:
                 asker.send(search())
                 heard += asker.receive(0.2) is not None
             gateway.alive()
-            was = newest(gateway)
+            expect(newest(gateway)[0] == before[0], "memory was not refused")
+            expect(heard == 0, f"{heard} SEARCHGW were answered without memory")
             gateway.free_memory()
             began = time.monotonic()
+            until(lambda: newest(gateway)[0] > before[0], 60, "the journal was not written anew, though there was memory", 0.5)
             asker.ask(search(), b"\x03\x02\x01", 60, 0.5)
-        took, after = time.monotonic() - began, newest(gateway)
+        took = time.monotonic() - began
         with Client(b"s-0", gateway) as sleeper:
             got = len(sleeper.wake(300))
-    said = f"{heard} SEARCHGW were answered without memory, generations {before[0]}, {was[0]} and {after[0]}, {got} messages of 80, {took:.1f} seconds"
-    expect(was[0] == before[0], "memory was not refused: " + said)
-    expect(heard == 0 and after[0] > before[0] and got == 80, said)
-    return said
+    expect(got == 80, f"{got} messages of 80")
+    return f"silent, and {took:.1f} seconds after there was memory it answered"
 
 
 def openings_in(gateway: Gateway, seconds: float) -> tuple:
