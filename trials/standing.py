@@ -3,18 +3,18 @@
 
 Usage: trials/standing.py PROGRAM [PART..]
 
-The parts, all where none is named, with the seconds that each takes on a quiet machine with a proved build; an unproved one takes up to ten times as long:
+The parts, all where none is named, with about the seconds that each takes. An unproved build needs some minutes for `short`, `wear`, `bound` and `room`.
 
   herd      20  300 clients connect at once, and again while each sync takes 10 ms: at most 15 of each 300 are not answered within 30 seconds, though nobody sends twice
   stall     80  250 clients with a keep-alive of ten seconds ping each two; the program is stopped for 20 seconds: no will is told
   hang     150  the same with 60 clients, and one sync of a tick that takes 20 seconds; then with 10; then with 60 and one sync of a worker
   backlog   75  the same with 50 clients, while 250 others connect at once and each sync takes 100 ms: no will is told
-  listens   50  20 sleepers whose messages came to a peer wake right after a start: none is told that nothing waits; where the peer tells what it made in its shift,
+  listens   40  20 sleepers whose messages came to a peer wake right after a start: none is told that nothing waits; where the peer tells what it made in its shift,
                 where it answers a digest eleven seconds after its last answer, and where each sync of the gateway takes half a second
   alone      7  a gateway whose peer is away answers nobody after a start, and everybody within eight seconds
   wear      40  what is written for a change of some 30 octets, while 30,000 messages wait: at most 300 octets, at shifts of 4,096 calls and of 64, over shifts that end
   first      2  a start with records writes its journal anew before it answers
-  waits     15  a start on a full disk is silent, and serves once there is room
+  waits     10  a start on a full disk is silent, and serves once there is room
   short     30  a start whose first compaction is refused memory is silent, and writes its journal anew and serves once there is memory
   hole      40  on a full disk few SEARCHGW are answered, the journal is opened less than 16 times in 30 seconds, and once there is room clients are served within 40
   blocks    35  the same openings, where each compaction makes room for one record
@@ -26,7 +26,7 @@ The parts, all where none is named, with the seconds that each takes on a quiet 
   learned   75  clients that came over a link are no newcomers a minute after a shift's begin
   full      10  a field whose 1,024 ids are used up begins anew, by the steps of docs/OPERATE.md
   zeros      5  jr_mend cuts zeros that a power cut left, and nothing else; then a start goes on; it is left out if no jr_mend is built
-  begun     60  a gateway that lost its journal, or has an older one, ends with status 1 where a peer knows more of it; without that it serves; where the peer tells
+  begun     35  a gateway that lost its journal, or has an older one, ends with status 1 where a peer knows more of it; without that it serves; where the peer tells
                 what it made in its shift, and where it answers a digest
   unit       1  the unit says nothing that systemd does not know, and asserts the journal; it is left out if there is no systemd-analyze
 
