@@ -521,7 +521,7 @@ def written(gateway: Gateway) -> int:
 
 
 def wear(program: str, folder: str) -> str:
-    """At most 1,024 messages wait for a client: each of five sleepers gets a part of the changes."""
+    """At most 1,024 messages wait for a client: each of five sleepers gets a part of the changes. The start before them writes what the messages took."""
     said, fine = [], True
     for steps, changes in ((4096, 4500), (64, 400)):
         place = os.path.join(folder, str(steps))
@@ -533,6 +533,8 @@ def wear(program: str, folder: str) -> str:
             say(gateway, b"p-much", b"thirty-two octets of a message..", 300)
             for one in range(5):
                 sleeps_at(gateway, b"t-%d" % one, b"o%d" % one)
+            gateway.kill()
+            gateway.start()
             before, shifts = written(gateway), len(gateway.shifts())
             for one in range(5):
                 say(gateway, b"p-one", b"123", changes // 5, b"o%d" % one)
