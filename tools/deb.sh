@@ -113,8 +113,9 @@ Description: field of MQTT-SN 1.2 gateways for sensors that sleep and move
  and its waiting messages are there. The programs are built from a source
  whose promises about waiting messages are proved.
  .
- sngw is the gateway, sn_client a client for a terminal, jr_look shows the
- journal of a gateway, and gw_sim plays scripts at simulated gateways.
+ sngw is the gateway, sn_client a client for a terminal. jr_look shows the
+ journal of a gateway, and jr_mend cuts zeros that a power cut left there.
+ gw_sim plays scripts at simulated gateways.
 END
 }
 

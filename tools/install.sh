@@ -35,5 +35,5 @@ for name in one two three; do
     install -D -m 644 "examples/field/$name.toml" "$root/share/doc/nimhazel/field/$name.toml"
 done
 echo "installed $root/share/doc/nimhazel: settings to begin with"
-echo "$installed programs of 4 are installed"
+echo "$installed programs of 5 are installed"
 [ "$old" -eq 0 ] && [ "$installed" -gt 0 ]

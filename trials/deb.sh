@@ -64,7 +64,11 @@ settings=$root/usr/share/doc/nimhazel/examples/field/one.toml
     stop "FAILED: sngw"
 [ "$(cat "$work/said")" = "gateway 1 records 0 clients 0" ] || stop "FAILED: sngw: $(cat "$work/said")"
 (cd "$work" && "$root/usr/bin/jr_look" one >"$work/said") || stop "FAILED: jr_look"
-echo "ok: gw_sim, sn_client, sngw and jr_look run from there"
+(cd "$work" && "$root/usr/bin/jr_mend" one >"$work/said") || stop "FAILED: jr_mend"
+[ ! -s "$work/said" ] || stop "FAILED: jr_mend: $(cat "$work/said")"
+grep -q '^ExecStartPre=-/usr/bin/jr_mend ' "$root/usr/lib/systemd/system/nimhazel@.service" ||
+    stop "FAILED: the unit does not run jr_mend"
+echo "ok: all five programs run from there"
 
 in_root --purge nimhazel
 [ -z "$(left)" ] || stop "FAILED: the package left $(left | head -n 1)"

@@ -9,6 +9,7 @@ import resource
 import signal
 import socket
 import subprocess
+import threading
 import time
 
 HOST = "127.0.0.1"
@@ -146,6 +147,28 @@ def with_the_starter(limit: int = 0, room: int = 0):
     return begin
 
 
+def fill(sink: int) -> int:
+    """Fills a pipe, and gives how many octets that took."""
+    os.set_blocking(sink, False)
+    count = 0
+    try:
+        while True:
+            count += os.write(sink, b"\n" * 4096)
+    except BlockingIOError:
+        os.set_blocking(sink, True)
+    return count
+
+
+def copy_after(source: int, file, filler: int, event) -> None:
+    """Copies a pipe to a file, from an event on, without so many octets at its beginning."""
+    if event:
+        event.wait()
+    with open(source, "rb", buffering=0) as pipe, file:
+        while octets := pipe.read(65536):
+            file.write(octets[filler:])
+            filler = max(0, filler - len(octets))
+
+
 class Gateway:
     """A daemon with its settings, its journal and what it printed. All files lie in the folder."""
 
@@ -159,6 +182,7 @@ class Gateway:
         self.values = {"gateway": str(gateway), "listen": at_port(self.port), "link": at_port(self.link), "journal": f'"{self.journal}"'}
         self.values.update(more)
         self.process, self.starts, self.out, self.err, self.room = None, 0, "", "", 0
+        self.copies, self.printing = [], None
 
     @property
     def address(self) -> tuple:
@@ -169,14 +193,33 @@ class Gateway:
             text.write(settings_text(self.values))
 
     def begin(self, shifts: int = 1_000_000) -> None:
-        """Starts the process and waits for nothing."""
+        """Starts the process and waits for nothing. If its files may have so much room at most, it prints into pipes: a file would be full too.
+        With an event as `printing` its first line waits for that, and the process with it."""
         self.starts += 1
         self.out = os.path.join(self.folder, f"gateway-{self.number}.{self.starts}.out")
         self.err = os.path.join(self.folder, f"gateway-{self.number}.{self.starts}.err")
-        with open(self.out, "wb") as out, open(self.err, "wb") as err:
+        self.copies = []
+        with self.sink(self.out, self.room or self.printing, self.printing) as out, self.sink(self.err, self.room) as err:
             self.process = subprocess.Popen(
                 [self.program, "--config", self.settings, "--shifts", str(shifts)],
                 stdin=subprocess.DEVNULL, stdout=out, stderr=err, cwd=self.folder, preexec_fn=with_the_starter(0, self.room))
+
+    def sink(self, path: str, is_piped, event=None):
+        """Where the process prints: the file, or a pipe that is copied to it, from an event on; until then the pipe is full."""
+        file = open(path, "wb", buffering=0)
+        if not is_piped:
+            return file
+        source, sink = os.pipe()
+        filler = fill(sink) if event else 0
+        self.copies.append(threading.Thread(target=copy_after, args=(source, file, filler, event), daemon=True))
+        self.copies[-1].start()
+        return open(sink, "wb", buffering=0)
+
+    def drain(self) -> None:
+        """Waits for what a process that is over has printed."""
+        if self.process and self.process.poll() is not None:
+            for copy in self.copies:
+                copy.join(5)
 
     def start(self, shifts: int = 1_000_000, seconds: float = 0) -> tuple:
         """Starts the process, waits for its first line and for an answer, and gives the records and clients that it read. It is not asked often: what
@@ -197,11 +240,13 @@ class Gateway:
         return re.match(r"gateway (\d+) records (\d+) clients (\d+)\n", self.printed())
 
     def printed(self) -> str:
+        self.drain()
         with open(self.out, encoding="utf-8", errors="replace") as text:
             return text.read()
 
     def told(self) -> str:
         """What it told on standard error, but for the line that tells that its journal is begun."""
+        self.drain()
         with open(self.err, encoding="utf-8", errors="replace") as text:
             return BEGUN.sub("", text.read())
 

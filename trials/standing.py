@@ -3,26 +3,34 @@
 
 Usage: trials/standing.py PROGRAM [PART..]
 
-The parts, all where none is named:
+The parts, all where none is named, with about the seconds that each takes. An unproved build needs some minutes for `short`, `wear`, `bound` and `room`.
 
-  herd    300 clients connect at once, and again while each sync takes 10 ms: at most 15 of each 300 are not answered within 30 seconds, though nobody sends twice
-  stall   250 clients with a keep-alive of ten seconds ping each two; the program is stopped for 20 seconds: no will is told
-  hang    the same with 60 clients, and one sync of a tick that takes 20 seconds; then with 10
-  listens 20 sleepers whose messages came to a peer wake right after a start: none is told that nothing waits
-  alone   a gateway whose peer is away answers within seven seconds after a start
-  wear    what is written for a change of some 30 octets, while 30,000 messages wait: at most 300 octets, at shifts of 4,096 calls and of 64
-  first   a start with records writes its journal anew before it answers
-  waits   a start on a full disk is silent, and serves once there is room
-  hole    on a full disk few SEARCHGW are answered, and once there is room clients are served within 40 seconds
-  room    without room for a compaction nobody is turned away twice in a row; it needs root, for a small disk in memory
-  junk    4,000 datagrams of 60,000 octets end three shifts at least: no shift keeps more than 64 MiB
-  fence   a forged DISCONNECT between two gateways is answered some 64 times; it needs root
-  ids     clients that no pattern of the settings is like, and one newcomer too many, are turned away and leave no trace
-  full    a field whose 1,024 ids are used up begins anew, by the steps of docs/OPERATE.md
-  zeros   jr_mend, beside PROGRAM, cuts zeros that a power cut left, and nothing else; then a start goes on
-  begun   a gateway that lost its journal, or has an older one, ends with status 1 where a peer knows more of it; without that it serves
+  herd      20  300 clients connect at once, and again while each sync takes 10 ms: at most 15 of each 300 are not answered within 30 seconds, though nobody sends twice
+  stall     80  250 clients with a keep-alive of ten seconds ping each two; the program is stopped for 20 seconds: no will is told
+  hang     150  the same with 60 clients, and one sync of a tick that takes 20 seconds; then with 10; then with 60 and one sync of a worker
+  backlog   75  the same with 50 clients, while 250 others connect at once and each sync takes 100 ms: no will is told
+  listens   40  20 sleepers whose messages came to a peer wake right after a start: none is told that nothing waits; where the peer tells what it made in its shift,
+                where it answers a digest eleven seconds after its last answer, and where each sync of the gateway takes half a second
+  alone      7  a gateway whose peer is away answers nobody after a start, and everybody within eight seconds
+  wear      40  what is written for a change of some 30 octets, while 30,000 messages wait: at most 300 octets, at shifts of 4,096 calls and of 64, over shifts that end
+  first      2  a start with records writes its journal anew before it answers
+  waits     10  a start on a full disk is silent, and serves once there is room
+  short     30  a start whose first compaction is refused memory is silent, and writes its journal anew and serves once there is memory
+  hole      40  on a full disk few SEARCHGW are answered, the journal is opened less than 16 times in 30 seconds, and once there is room clients are served within 40
+  blocks    35  the same openings, where each compaction makes room for one record
+  room       5  a compaction without room turns clients away once, and then not for each shift; it needs root, for a small disk in memory
+  garbage   10  5,000 datagrams that are no frames end no shift of 64 calls, and memory does not grow
+  bound     20  1,300 PUBLISH of 60,000 octets end a shift before its calls are used up, and memory stays below 256 MiB
+  fence      8  a forged DISCONNECT between two gateways is answered some 64 times; it needs root
+  ids        3  clients that no pattern of the settings is like, and one newcomer too many, are turned away and leave no trace
+  learned   75  clients that came over a link are no newcomers a minute after a shift's begin
+  full      10  a field whose 1,024 ids are used up begins anew, by the steps of docs/OPERATE.md
+  zeros      5  jr_mend cuts zeros that a power cut left, and nothing else; then a start goes on; it is left out if no jr_mend is built
+  begun     35  a gateway that lost its journal, or has an older one, ends with status 1 where a peer knows more of it; without that it serves; where the peer tells
+                what it made in its shift, and where it answers a digest
+  unit       1  the unit says nothing that systemd does not know, and asserts the journal; it is left out if there is no systemd-analyze
 
-All goes on at 127.0.0.1, at ports that the system gives, in a folder that is gone afterwards. `herd` and `hang` compile trials/slow_sync.c.
+All goes on at 127.0.0.1, at ports that the system gives, in a folder that is gone afterwards. Parts that slow syncs compile trials/slow_sync.c.
 Status 0 only where nothing failed.
 """
 import argparse
@@ -36,6 +44,7 @@ import struct
 import subprocess
 import sys
 import tempfile
+import threading
 import time
 
 sys.dont_write_bytecode = True
@@ -79,6 +88,34 @@ def say(gateway: Gateway, name: bytes, body: bytes, count: int = 1, topic: bytes
         publisher.connect(clean=True)
         for place in range(1, count + 1):
             publisher.ask(publish(topic, body, place), published(topic, place), 30, 5)
+
+
+class LeftOut(Exception):
+    """Why a part is not tried here."""
+
+
+def turn(gateway: Gateway) -> None:
+    """Closes two shifts of a gateway: what it made before, it tells in answers to digests alone."""
+    wanted, end = len(gateway.shifts()) + 2, time.monotonic() + 60
+    with Client(b"turner", gateway) as client:
+        while len(gateway.shifts()) < wanted:
+            expect(time.monotonic() < end, "shifts do not end")
+            client.ask(search(), b"\x03\x02")
+
+
+def insist(client: Client, octets: bytes, wanted: bytes, seconds: float = 120) -> int:
+    """Sends until this answer comes, each ten seconds, as a message that comes twice counts twice. Connects again whenever the client was turned away, and
+    gives how often that was."""
+    end, away = time.monotonic() + seconds, 0
+    while time.monotonic() < end:
+        client.send(octets)
+        answer = client.receive(10)
+        if answer == wanted:
+            return away
+        if answer == GONE:
+            away += 1
+            client.connect(clean=True)
+    raise Failed(f"{client.name.decode()} had no answer {wanted.hex()} within {seconds:.0f} seconds")
 
 
 # ---- herds and stalls
@@ -172,32 +209,92 @@ def stall(program: str, folder: str) -> str:
     return "none of 250, and one that was dead"
 
 
+def hang_once(program: str, folder: str, count: int, is_worker: bool) -> int:
+    """One sync takes 20 seconds: that of the call in which a worker stores a message, or that of the tick which finds that a client is dead."""
+    with Slow(folder) as slow, Gateway(program, folder, 7) as gateway:
+        gateway.start()
+        sleeps_at(gateway, b"s-hang")
+        wills, clients = Wills(gateway), [Client(b"k-%d" % one, gateway) for one in range(count)]
+        for client in clients:
+            with_will(client, 10)
+        dead, teller = Client(b"dead", gateway), Client(b"teller", gateway)
+        with_will(dead, 20 if is_worker else 2)
+        teller.connect()
+
+        def begin() -> None:
+            slow.say(20_000)
+            if is_worker:
+                teller.send(publish(b"ow", b"<hangs>", 1))
+
+        stays(clients, wills, 65 if is_worker else 45, {1: begin, 8: lambda: slow.say(0)})
+        expect(b"dead dead" in wills.seen, "the client that was dead was not found")
+        if is_worker:
+            expect(b"<hangs>" in gateway.held(), "the worker's call wrote nothing")
+    return len(wills.seen) - 1
+
+
 def hang(program: str, folder: str) -> str:
-    said = []
-    for count in (60, 10):
-        place = os.path.join(folder, str(count))
+    said, fine = [], True
+    for count, is_worker in ((60, False), (10, False), (60, True)):
+        place = os.path.join(folder, f"{count}-{is_worker}")
         os.mkdir(place)
-        with Slow(place) as slow, Gateway(program, place, 7) as gateway:
-            gateway.start()
-            wills, clients = Wills(gateway), [Client(b"k-%d" % one, gateway) for one in range(count)]
-            for client in clients:
-                with_will(client, 10)
-            victim = Client(b"victim", gateway)
-            with_will(victim, 2)
-            stays(clients, wills, 45, {1: lambda: slow.say(20_000), 8: lambda: slow.say(0)})
-            expect(b"dead victim" in wills.seen, "the client that was dead was not found")
-        said.append(f"{len(wills.seen) - 1} of {count}")
-        expect(wills.seen == {b"dead victim"}, ", ".join(said) + " wills of clients that lived")
+        wrong = hang_once(program, place, count, is_worker)
+        said.append(f"{wrong} of {count} by a {'worker' if is_worker else 'tick'}")
+        fine = fine and wrong == 0
+    expect(fine, ", ".join(said) + " wills of clients that lived")
     return ", ".join(said)
+
+
+def backlog(program: str, folder: str) -> str:
+    with Slow(folder) as slow, Gateway(program, folder, 7) as gateway:
+        gateway.start()
+        wills, clients = Wills(gateway), [Client(b"k-%d" % one, gateway) for one in range(50)]
+        for client in clients:
+            with_will(client, 10)
+        others = [Client(b"h-%d" % one, gateway) for one in range(250)]
+
+        def herd_comes() -> None:
+            slow.say(100)
+            for other in others:
+                other.send(connect(other.name, 0))
+
+        stays(clients, wills, 55, {1: herd_comes, 40: lambda: slow.say(0)})
+        known = sum(b"h-%d" % one in gateway.held() for one in range(250))
+    expect(known >= 200, f"{known} of 250 newcomers were heard of: the backlog was too small")
+    expect(not wills.seen, f"{len(wills.seen)} wills of 50 that lived")
+    return f"none of 50, beside {known} newcomers"
 
 
 # ---- starts
 
 
-def listens(program: str, folder: str) -> str:
+def wakes(here: Gateway, names: list, seconds: float) -> tuple:
+    """All wake, and ask again each three seconds. How many were told that nothing waits, and how many got what waits."""
+    sleepers, none, got = [Client(name, here) for name in names], 0, 0
+    waiting, again, end = set(sleepers), 0.0, time.monotonic() + seconds
+    while waiting and time.monotonic() < end:
+        if time.monotonic() > again:
+            again = time.monotonic() + 3
+            for sleeper in waiting:
+                sleeper.send(ping(sleeper.name))
+        for sleeper in list(waiting):
+            octets = sleeper.receive(0.005)
+            if octets == PONG:
+                none += 1
+                waiting.discard(sleeper)
+            elif octets is not None and opened(octets)[0] == 0x0C:
+                got += 1
+                waiting.discard(sleeper)
+    for sleeper in sleepers:
+        sleeper.close()
+    return none, got
+
+
+def listens_once(program: str, folder: str, steps: int, milliseconds: int) -> tuple:
+    """If shifts of the peer are short, it has to answer a digest; each sync of the gateway takes so long until it has listened."""
     ports = free_ports(4)
     with Gateway(program, folder, 1, (ports[0], ports[1]), peers=f"[{at_port(ports[3])}]") as here, \
-            Gateway(program, folder, 2, (ports[2], ports[3])) as there:
+            Gateway(program, folder, 2, (ports[2], ports[3]), steps=str(steps)) as there:
         there.start()
         here.start()
         names = [b"s-%d" % place for place in range(20)]
@@ -206,39 +303,46 @@ def listens(program: str, folder: str) -> str:
         there.await_octets(b"s-19", 20)
         there.settle()
         here.kill()
+        for place in range(2):
+            with Client(b"other-%d" % place, there) as other:
+                other.connect(clean=True)
         say(there, b"teller", b"<it waits>")
-        here.begin()
+        if steps < 4096:
+            turn(there)
+            time.sleep(11)
+        with Slow(folder) as slow:
+            slow.say(milliseconds)
+            here.begin()
         until(here.opening, 30, "it did not start")
-        sleepers, none, got = [Client(name, here) for name in names], 0, 0
-        waiting = {sleeper: b"" for sleeper in sleepers}
-        for sleeper in sleepers:
-            sleeper.send(ping(sleeper.name))
-        end = time.monotonic() + 20
-        again = time.monotonic() + 3
-        while waiting and time.monotonic() < end:
-            for sleeper in list(waiting):
-                octets = sleeper.receive(0.005)
-                if octets is None:
-                    if time.monotonic() > again:
-                        sleeper.send(ping(sleeper.name))
-                elif octets == PONG:
-                    none += 1
-                    del waiting[sleeper]
-                elif opened(octets)[0] == 0x0C:
-                    got += 1
-                    del waiting[sleeper]
-            if time.monotonic() > again:
-                again = time.monotonic() + 3
-    expect(none == 0 and got == 20, f"{none} of 20 were told that nothing waits, and {got} got what waited")
-    return f"{got} of 20 got what waited"
+        ends = threading.Timer(5.5, slow.say, (0,))
+        ends.start()
+        found = wakes(here, names, 40)
+        ends.join()
+    return found
+
+
+def listens(program: str, folder: str) -> str:
+    said, fine = [], True
+    for words, steps, milliseconds in (("pushed", 4096, 0), ("answered", 16, 0), ("slow", 4096, 500)):
+        place = os.path.join(folder, words)
+        os.mkdir(place)
+        none, got = listens_once(program, place, steps, milliseconds)
+        said.append(f"{words}: {got} of 20 got what waited, {none} were told that nothing waits")
+        fine = fine and (none, got) == (0, 20)
+    expect(fine, "; ".join(said))
+    return "; ".join(said)
 
 
 def alone(program: str, folder: str) -> str:
     with Gateway(program, folder, 1, peers=f"[{at_port(free_ports(1)[0])}]") as gateway:
+        gateway.write()
+        gateway.begin()
+        until(gateway.opening, 30, "it did not start")
         began = time.monotonic()
-        gateway.start()
+        with Client(b"asker", gateway) as asker:
+            asker.ask(search(), b"\x03\x02\x01", 20, 0.3)
         took = time.monotonic() - began
-    expect(took < 9, f"{took:.1f} seconds")
+    expect(3 <= took <= 8, f"{took:.1f} seconds")
     return f"{took:.1f} seconds"
 
 
@@ -282,50 +386,128 @@ def waits(program: str, folder: str) -> str:
         return f"silent, and {time.monotonic() - began:.1f} seconds after there was room it answered"
 
 
+def is_asleep(gateway: Gateway) -> bool:
+    """Whether the process waits, and has worked nothing for half a second."""
+    def worked() -> tuple:
+        with open(f"/proc/{gateway.process.pid}/stat", encoding="ascii") as text:
+            words = text.read().rpartition(")")[2].split()
+        return words[0], words[11], words[12]
+
+    before = worked()
+    time.sleep(0.5)
+    return before[0] == "S" and worked() == before
+
+
+def short(program: str, folder: str) -> str:
+    """Memory is limited while the first line waits for a pipe that is full: after the opening, and before anything is written. Of the 32 MB of the base
+    so much is refused, and the threads of a start get theirs."""
+    with Gateway(program, folder, 1) as gateway:
+        gateway.start()
+        for place in range(100):
+            sleeps_at(gateway, b"s-%d" % place)
+        say(gateway, b"p-much", b"." * 4000, 80)
+        gateway.kill()
+        before, gateway.printing = newest(gateway), threading.Event()
+        gateway.begin()
+        until(lambda: is_asleep(gateway), 60, "it did not come to its first line")
+        gateway.limit_memory(25_165_824)
+        gateway.printing.set()
+        until(gateway.opening, 20, "it printed nothing")
+        with Client(b"asker", gateway) as asker:
+            end, heard = time.monotonic() + 5, 0
+            while time.monotonic() < end:
+                asker.send(search())
+                heard += asker.receive(0.2) is not None
+            gateway.alive()
+            expect(newest(gateway)[0] == before[0], "memory was not refused")
+            expect(heard == 0, f"{heard} SEARCHGW were answered without memory")
+            gateway.free_memory()
+            began = time.monotonic()
+            until(lambda: newest(gateway)[0] > before[0], 60, "the journal was not written anew, though there was memory", 0.5)
+            asker.ask(search(), b"\x03\x02\x01", 60, 0.5)
+        took = time.monotonic() - began
+        with Client(b"s-0", gateway) as sleeper:
+            got = len(sleeper.wake(300))
+    expect(got == 80, f"{got} messages of 80")
+    return f"silent, and {took:.1f} seconds after there was memory it answered"
+
+
+def openings_in(gateway: Gateway, seconds: float) -> tuple:
+    """Each half second somebody asks and somebody connects. How many were asked, how many of that answered, and how often the journal was opened."""
+    heard, asked, before = 0, 0, len(gateway.openings())
+    with Client(b"asker", gateway) as asker:
+        end = time.monotonic() + seconds
+        while time.monotonic() < end:
+            asked += 1
+            asker.flush()
+            asker.send(search())
+            heard += (asker.receive(0.25) or b"").startswith(b"\x03\x02")
+            with Client(b"s-hole", gateway) as client:
+                client.send(connect(client.name, 60))
+                client.receive(0.25)
+    return asked, heard, len(gateway.openings()) - before
+
+
+def served_with_room(gateway: Gateway) -> float:
+    gateway.make_room()
+    began = time.monotonic()
+    with Client(b"late", gateway) as late:
+        late.ask(connect(b"late", 60), CONNECTED, 40, 0.5)
+    return time.monotonic() - began
+
+
 def hole(program: str, folder: str) -> str:
     with Gateway(program, folder, 1) as gateway:
         gateway.room = 1 << 30
         gateway.start()
         sleeps_at(gateway, b"s-hole")
-        gateway.limit_room(max(map(len, gateway.slots())))
-        heard, asked = 0, 0
-        with Client(b"asker", gateway) as asker:
-            end = time.monotonic() + 30
-            while time.monotonic() < end:
-                asked += 1
-                asker.flush()
-                asker.send(search())
-                heard += (asker.receive(0.25) or b"").startswith(b"\x03\x02")
-                with Client(b"c-%d" % asked, gateway) as client:
-                    client.send(connect(client.name, 60))
-                    client.receive(0.25)
-            openings = len(gateway.openings()) - 1
-            gateway.make_room()
-            began = time.monotonic()
-            with Client(b"late", gateway) as late:
-                late.ask(connect(b"late", 60), CONNECTED, 40, 0.5)
-        said = f"{heard} of {asked} SEARCHGW answered, {openings} openings in 30 seconds, served {time.monotonic() - began:.1f} seconds after there was room"
-    expect(heard * 3 < asked and openings < 16, said)
+        gateway.limit_room(14)
+        asked, heard, openings = openings_in(gateway, 30)
+        took = served_with_room(gateway)
+        said = f"{heard} of {asked} SEARCHGW answered, {openings} openings in 30 seconds, served {took:.1f} seconds after there was room"
+    expect(heard * 3 < asked and 2 <= openings < 16, said)
+    return said
+
+
+def blocks(program: str, folder: str) -> str:
+    """The same client connects again and again: each record takes some 40 octets, and the base stays as it is."""
+    with Gateway(program, folder, 1) as gateway:
+        gateway.room = 1 << 30
+        gateway.start()
+        sleeps_at(gateway, b"s-hole")
+        gateway.kill()
+        gateway.start()
+        base = newest(gateway)[1]
+        gateway.limit_room(base + 60)
+        generation = newest(gateway)[0]
+        asked, heard, openings = openings_in(gateway, 30)
+        written = newest(gateway)[0] - generation
+        took = served_with_room(gateway)
+        said = f"{heard} of {asked} SEARCHGW answered, {openings} openings and {written} compactions in 30 seconds, served {took:.1f} seconds after there was room"
+    expect(written >= 2 and 2 <= openings < 16, said)
     return said
 
 
 def room(program: str, folder: str) -> str:
+    """When the journal has grown by 1 MiB, a base of as much does not fit beside it; what comes then does."""
     disk = os.path.join(folder, "disk")
     os.mkdir(disk)
-    subprocess.run(["mount", "-t", "tmpfs", "-o", "size=3m", "none", disk], check=True)
+    subprocess.run(["mount", "-t", "tmpfs", "-o", "size=1900k", "none", disk], check=True)
     try:
-        with Gateway(program, folder, 1, journal=f'"{disk}/journal"', steps="16") as gateway:
+        with Gateway(program, folder, 1, journal=f'"{disk}/journal"', steps="32") as gateway:
             gateway.journal = f"{disk}/journal"
             gateway.start()
             sleeps_at(gateway, b"s-room")
-            say(gateway, b"p-room", b"." * 4000, 440)
+            with Client(b"p-room", gateway) as publisher:
+                publisher.connect(clean=True)
+                away = sum(insist(publisher, publish(b"ow", b"." * 4000, place), published(b"ow", place)) for place in range(1, 401))
             openings, shifts = len(gateway.openings()) - 1, len(gateway.shifts())
             with Client(b"s-room", gateway) as sleeper:
-                got = len(sleeper.wake(120))
+                got = len(sleeper.wake(300))
     finally:
         subprocess.run(["umount", "-l", disk], check=True)
-    said = f"{shifts} shifts, {openings} openings, {got} messages of 440"
-    expect(openings <= 1 and got == 440, said)
+    said = f"{shifts} shifts, {openings} openings, turned away {away} times, {got} messages of 400"
+    expect(1 <= openings <= 2 and away <= 2 and got == 400, said)
     return said
 
 
@@ -339,8 +521,9 @@ def written(gateway: Gateway) -> int:
 
 
 def wear(program: str, folder: str) -> str:
+    """At most 1,024 messages wait for a client: each of five sleepers gets a part of the changes. The start before them writes what the messages took."""
     said, fine = [], True
-    for steps in (4096, 64):
+    for steps, changes in ((4096, 4500), (64, 400)):
         place = os.path.join(folder, str(steps))
         os.mkdir(place)
         with Gateway(program, place, 1, steps=str(steps)) as gateway:
@@ -348,27 +531,64 @@ def wear(program: str, folder: str) -> str:
             for one in range(100):
                 sleeps_at(gateway, b"s-%d" % one)
             say(gateway, b"p-much", b"thirty-two octets of a message..", 300)
-            sleeps_at(gateway, b"s-one", b"on")
+            for one in range(5):
+                sleeps_at(gateway, b"t-%d" % one, b"o%d" % one)
+            gateway.kill()
+            gateway.start()
             before, shifts = written(gateway), len(gateway.shifts())
-            say(gateway, b"p-one", b"123", 400, b"on")
-            octets = (written(gateway) - before) / 400
-            said.append(f"{octets:.0f} octets a change at {steps} calls, in {len(gateway.shifts()) - shifts} shifts")
-            fine = fine and octets <= 300
+            for one in range(5):
+                say(gateway, b"p-one", b"123", changes // 5, b"o%d" % one)
+            octets, shifts = (written(gateway) - before) / changes, len(gateway.shifts()) - shifts
+            said.append(f"{octets:.0f} octets a change at {steps} calls, in {shifts} shifts")
+            fine = fine and octets <= 300 and shifts >= 1
     expect(fine, ", ".join(said))
     return ", ".join(said)
 
 
-def junk(program: str, folder: str) -> str:
+def resident(gateway: Gateway) -> int:
+    """RssAnon in MiB."""
+    with open(f"/proc/{gateway.process.pid}/status", encoding="ascii") as text:
+        return int(re.search(r"^RssAnon:\s+(\d+) kB$", text.read(), re.M)[1]) // 1024
+
+
+GARBAGE = [b"\xff" * 1000, b"\x02\xfe", b"\x01\x00\x05\x19\x00", b"\x03\x04\x00", b"\x00", bytes(900)]
+
+
+def garbage(program: str, folder: str) -> str:
+    """None is a frame. Between them a client asks that the settings turn away, which is no call either: only ticks are."""
+    with Gateway(program, folder, 1, steps="64", clients='["s*"]') as gateway:
+        gateway.start()
+        turn(gateway)
+        before, shifts, began = resident(gateway), len(gateway.shifts()), time.monotonic()
+        with Client(b"x", gateway) as client:
+            for place in range(5000):
+                client.send(GARBAGE[place % len(GARBAGE)])
+                if place % 20 == 19:
+                    client.ask(connect(client.name, 60), b"\x03\x05", 60, 5)
+        ended, seconds = len(gateway.shifts()) - shifts, time.monotonic() - began
+        more = resident(gateway) - before
+        with Client(b"s-1", gateway) as client:
+            client.connect()
+    said = f"{ended} shifts of 64 calls were closed in {seconds:.0f} seconds, RssAnon grew by {more} MiB"
+    expect(ended <= 1 + seconds // 30 and more <= 8, said)
+    return said
+
+
+def bound(program: str, folder: str) -> str:
+    """A message that is longer than a field takes is answered by PUBACK 3, and is kept to the end of its shift as every datagram is."""
     with Gateway(program, folder, 1) as gateway:
         gateway.start()
-        with Client(b"junk", gateway) as client:
-            for place in range(4000):
-                client.send(b"\xff" * 60_000)
-                if place % 10 == 9:
-                    client.ask(search(), b"\x03\x02\x01", 15, 1)
-        shifts = len(gateway.shifts())
-    expect(shifts >= 3, f"{shifts} shifts were closed by 240 MB of datagrams")
-    return f"{shifts} shifts were closed by 240 MB of datagrams"
+        most, refused = 0, published(b"ow", 7, 3)
+        with Client(b"p-long", gateway) as client:
+            client.connect()
+            for place in range(1300):
+                insist(client, publish(b"ow", b"." * 60_000, 7), refused, 120)
+                most = max(most, resident(gateway) if place % 20 == 0 else 0)
+            until(gateway.shifts, 120, "no shift was closed by 78 MB of datagrams")
+        steps = gateway.shifts()[0][1]
+    said = f"a shift of {steps} calls, and RssAnon of {most} MiB at most"
+    expect(steps < 1300 and most < 256, said)
+    return said
 
 
 def calls(gateway: Gateway) -> int:
@@ -409,10 +629,17 @@ def ends_as_used(gateway: Gateway) -> str:
     return told
 
 
-def begun(program: str, folder: str) -> str:
+def begun_once(program: str, folder: str, steps: int) -> None:
+    """If shifts of the peer are short, it has to answer a digest, which it does eleven seconds after its last answer."""
     ports = free_ports(4)
+
+    def answers(there: Gateway) -> None:
+        if steps < 4096:
+            turn(there)
+            time.sleep(11)
+
     with Gateway(program, folder, 1, (ports[0], ports[1]), peers=f"[{at_port(ports[3])}]") as here, \
-            Gateway(program, folder, 2, (ports[2], ports[3])) as there:
+            Gateway(program, folder, 2, (ports[2], ports[3]), steps=str(steps)) as there:
         there.start()
         here.start()
         sleeps_at(here, b"s-old")
@@ -432,16 +659,28 @@ def begun(program: str, folder: str) -> str:
         here.kill()
         for file in files:
             os.rename(file, file + ".newest")
+        answers(there)
         ends_as_used(here)
         for file in files:
             shutil.copy(file + ".yesterday", file)
+        answers(there)
         ends_as_used(here)
         for file in files:
             os.replace(file + ".newest", file)
         here.start()
         say(here, b"p-last", b"<last>")
         there.await_octets(b"<last>", 20)
-    return "twice, and with the newest journal it serves"
+
+
+def begun(program: str, folder: str) -> str:
+    for words, steps in (("pushed", 4096), ("answered", 16)):
+        place = os.path.join(folder, words)
+        os.mkdir(place)
+        try:
+            begun_once(program, place, steps)
+        except Failed as why:
+            raise Failed(f"{words}: {why}") from None
+    return "twice, pushed and answered, and with the newest journal it serves"
 
 
 def code_of(gateway: Gateway, name: bytes) -> int:
@@ -465,6 +704,31 @@ def ids(program: str, folder: str) -> str:
     return "3 names of 7, and 2 newcomers of 4"
 
 
+def learned(program: str, folder: str) -> str:
+    """One newcomer a minute comes in; ten clients came over the link after the shift began."""
+    ports, names = free_ports(4), [b"s-%d" % place for place in range(10)]
+    with Gateway(program, folder, 1, (ports[0], ports[1]), newcomers="1", peers=f"[{at_port(ports[3])}]") as here, \
+            Gateway(program, folder, 2, (ports[2], ports[3])) as there:
+        there.start()
+        here.start()
+        began = time.monotonic()
+        for name in names:
+            sleeps_at(there, name)
+        here.await_octets(names[-1], 20)
+        here.settle()
+        there.kill()
+        time.sleep(max(0.0, 63 - (time.monotonic() - began)))
+        left, end = set(names), time.monotonic() + 15
+        while left and time.monotonic() < end:
+            for name in list(left):
+                with Client(name, here) as client:
+                    client.send(connect(name, 60))
+                    if client.receive(0.5) == CONNECTED:
+                        left.discard(name)
+    expect(not left, f"{len(left)} of 10 clients that came over the link were turned away for 15 seconds")
+    return "none of 10 is a newcomer"
+
+
 def full(program: str, folder: str) -> str:
     with Gateway(program, folder, 1) as old:
         old.start()
@@ -486,14 +750,35 @@ def full(program: str, folder: str) -> str:
     return "1,024 ids, and a new field without them"
 
 
-def mended(program: str, gateway: Gateway, status: int) -> str:
-    mend = os.path.join(os.path.dirname(program), "jr_mend")
+def mender(program: str) -> str:
+    """jr_mend, beside the program or where it is built."""
+    beside = os.path.dirname(program)
+    for path in (os.path.join(beside, "jr_mend"), os.path.join(beside, "..", "..", "jr_mend", "out", "jr_mend")):
+        if os.access(path, os.X_OK):
+            return path
+    raise LeftOut("no jr_mend is built")
+
+
+def mended(mend: str, gateway: Gateway, status: int) -> str:
     done = subprocess.run([mend, gateway.journal], capture_output=True, text=True, timeout=60)
     expect(done.returncode == status, f"status {done.returncode} and {done.stdout + done.stderr!r}, wanted {status}")
     return done.stdout
 
 
+def refuses(gateway: Gateway) -> None:
+    gateway.begin()
+    status = gateway.process.wait(30)
+    expect(status == 2 and "sngw: journal J" in gateway.told(), f"a start ended with status {status}, {gateway.told()!r}")
+
+
+def put(file: str, octets: bytes) -> None:
+    with open(file, "wb") as out:
+        out.write(octets)
+
+
 def zeros(program: str, folder: str) -> str:
+    """The other file is empty, as nothing was compacted. An octet that is not 0 after the zeros is nothing to be mended, and a start says so."""
+    mend = mender(program)
     with Gateway(program, folder, 1) as gateway:
         gateway.start()
         sleeps_at(gateway, b"s-zero")
@@ -501,32 +786,60 @@ def zeros(program: str, folder: str) -> str:
         gateway.kill()
         place = max((0, 1), key=lambda slot: gateway.slots()[slot][5:13])
         file, whole = f"{gateway.journal}.{place}", gateway.slots()[place]
-        mended(program, gateway, 0)
+        expect(not gateway.slots()[1 - place], "the other file is not empty")
+        mended(mend, gateway, 0)
         expect(gateway.slots()[place] == whole, "a whole journal was changed")
-        with open(file, "ab") as octets:
-            octets.write(bytes(5000))
-        gateway.begin()
-        expect(gateway.process.wait(30) == 2, "a start went on with zeros")
-        said = mended(program, gateway, 0)
+        put(file, whole + bytes(5000))
+        refuses(gateway)
+        said = mended(mend, gateway, 0)
         expect(gateway.slots()[place] == whole and "5000 zeros" in said, f"it said {said!r}")
-        with open(file, "ab") as octets:
-            octets.write(bytes(5000) + b"1")
-        mended(program, gateway, 2)
-        expect(len(gateway.slots()[place]) == len(whole) + 5001, "something else was cut")
-        with open(file, "wb") as octets:
-            octets.write(bytes(len(whole)))
-        mended(program, gateway, 2 if any(gateway.slots()[1 - place]) else 0)
-        expect(len(gateway.slots()[place]) == len(whole), "nothing would be left")
-        with open(file, "wb") as octets:
-            octets.write(whole)
+        for octets, status in ((whole + bytes(5000) + b"1", 0), (whole + b"1" + bytes(5000), 2), (bytes(len(whole)), 0)):
+            put(file, octets)
+            mended(mend, gateway, status)
+            expect(gateway.slots()[place] == octets, "something else was cut")
+            if any(octets):
+                refuses(gateway)
+        put(file, whole)
         gateway.start()
         with Client(b"s-zero", gateway) as sleeper:
             expect(len(sleeper.wake()) == 3, "a message is missing")
     return said.strip()
 
 
-PARTS = {"herd": herd, "stall": stall, "hang": hang, "listens": listens, "alone": alone, "wear": wear, "first": first, "waits": waits, "hole": hole,
-         "room": room, "junk": junk, "fence": fence, "ids": ids, "full": full, "zeros": zeros, "begun": begun}
+# ---- the unit
+
+
+def analyzed(*words: str) -> subprocess.CompletedProcess:
+    return subprocess.run(["systemd-analyze", *words], capture_output=True, text=True, timeout=60)
+
+
+def unit(_program: str, folder: str) -> str:
+    """With programs that are there, and without the man page. Keys of a newer systemd are told by an older one."""
+    if shutil.which("systemd-analyze") is None:
+        raise LeftOut("there is no systemd-analyze")
+    with open(os.path.join(HERE, "..", "examples", "nimhazel@.service"), encoding="utf-8") as text:
+        said = text.read()
+    place = os.path.join(folder, "nimhazel@.service")
+    with open(place, "w", encoding="utf-8") as text:
+        text.write(re.sub(r"/usr/local/bin/\w+", "/bin/true", said).replace("Documentation=man:sngw(8)\n", ""))
+    newer = ("RestartSteps", "RestartMaxDelaySec")
+    told = [line for line in analyzed("verify", place).stderr.splitlines() if not any(word in line for word in newer)]
+    expect(not told, f"systemd-analyze says {told[:3]}")
+    asserted = re.findall(r"^AssertPathExists=(.*)$", said, re.M)
+    mended_at = re.findall(r"^ExecStartPre=-\S*/jr_mend (.*)$", said, re.M)
+    expect(asserted == ["/var/lib/nimhazel/%i.0"] and mended_at == ["/var/lib/nimhazel/%i"], f"it asserts {asserted}, and mends {mended_at}")
+    journal = os.path.join(folder, "1.0")
+    for is_there in (False, True):
+        if is_there:
+            put(journal, b"")
+        found = analyzed("condition", f"AssertPathExists={journal}")
+        expect((found.returncode == 0) == is_there, f"the assertion answers {found.stdout + found.stderr!r}")
+    return "it asserts that the journal is there"
+
+
+PARTS = {"herd": herd, "stall": stall, "hang": hang, "backlog": backlog, "listens": listens, "alone": alone, "wear": wear, "first": first, "waits": waits,
+         "short": short, "hole": hole, "blocks": blocks, "room": room, "garbage": garbage, "bound": bound, "fence": fence, "ids": ids, "learned": learned,
+         "full": full, "zeros": zeros, "begun": begun, "unit": unit}
 
 
 def main() -> int:
@@ -535,10 +848,14 @@ def main() -> int:
     reader.add_argument("parts", nargs="*", choices=[*PARTS, []])
     asked = reader.parse_args()
     program, good = os.path.abspath(asked.program), True
+    # a CONNECT that was repeated and comes late would wake a sleeper
+    Client.again = 3.0
     for part in asked.parts or PARTS:
         with tempfile.TemporaryDirectory(prefix="standing-") as folder:
             try:
                 print(f"  ok    {part}: {PARTS[part](program, folder)}", flush=True)
+            except LeftOut as why:
+                print(f"  --    {part}: left out, {why}", flush=True)
             except (Failed, OSError, subprocess.SubprocessError) as why:
                 good = False
                 print(f"  FAIL  {part}: {str(why)[:300]}", flush=True)
