@@ -6,7 +6,7 @@ use Rattle.std.proofs.lemmas.List.{length-append}
 use Rattle.rep_op.specs.declared.op.Op.{Op}
 use Rattle.rep_ops.specs.Making.{IsDeltaOf}
 use Rattle.rep_op.specs.Sets.{Same}
-use Rattle.rep_octets.specs.Spelling.{op_octets}
+use Rattle.rep_op.specs.Spelling.{op_octets}
 use Rattle.rep_ops.specs.Spelling.{spelling, IsWithinLimit}
 use Rattle.rep_ops.specs.Splitting.{all_of, IsPart, AreFull, IsSplit, AreDeltasOf}
 use Rattle.rep_ops.proofs.Canonical.{one_delta}

@@ -3,7 +3,7 @@ use Rattle.std.specs.Prelude.{ℕ, ◌+◌, ◌≤◌, List, ◌∷◌, ◌++◌
 use Rattle.std.specs.List.{flat_map}
 use Rattle.byteorder.specs.Endian.{big_bytes}
 use Rattle.rep_op.specs.declared.op.Stamp.{Stamp}
-use Rattle.rep_octets.specs.Spelling.{client_octets}
+use Rattle.rep_op.specs.Spelling.{client_octets}
 use Rattle.rep_ops.specs.Spelling.{text_of, max_octets}
 use Rattle.rep_digest.specs.declared.entry.OriginEntry.{OriginEntry}
 use Rattle.rep_digest.specs.declared.entry.ClientEntry.{ClientEntry}

@@ -5,3 +5,5 @@ pub mod Sets
 pub mod Ranges
 pub mod WellMade
 pub mod Values
+pub mod Sessions
+pub mod Spelling

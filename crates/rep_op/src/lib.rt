@@ -14,8 +14,9 @@
 //!
 //! The definitions are in `specs/`: `Orders` (names, their order, names in common), `Sets` (what a
 //! set has under a name, equal sets, consistent sets), `Ranges` and `WellMade` (values in range),
-//! `Values` (what the types promise), `ClientIds` and `Faults`. Lemmas on names and on sets are in
-//! `proofs/`: `Names`, `Sets`.
+//! `Values` (what the types promise), `Sessions` and `Spelling` (the octets of a session, of a
+//! change, of an operation, which rep_write writes and rep_read reads), `ClientIds` and `Faults`.
+//! Lemmas on names and on sets are in `proofs/`: `Names`, `Sets`.
 #![tactic(auto)]
 
 mod client_id;

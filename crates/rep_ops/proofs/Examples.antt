@@ -8,7 +8,7 @@ use Rattle.rep_op.specs.declared.op.Op.{Op}
 use Rattle.rep_op.specs.declared.op.Op.TheVariants.{Session as OfSession, Ack}
 use Rattle.rep_ops.specs.inner.Joining.{joined}
 use Rattle.rep_ops.specs.Reading.{reading, whole_at, text_at, listed_at}
-use Rattle.rep_octets.specs.Reading.{op_at, ack_at, range_at, client_at}
+use Rattle.rep_read.specs.Reading.{op_at, ack_at, range_at, client_at}
 use Rattle.rep_ops.specs.Spelling.{spelling}
 
 -- a client `s1`

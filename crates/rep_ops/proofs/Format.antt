@@ -19,13 +19,13 @@ use Rattle.rep_ops.specs.Formats.{IsSpelled}
 use Rattle.rep_ops.specs.Making.{AreWellMade}
 use Rattle.rep_op.specs.Orders.{name_cmp}
 use Rattle.rep_ops.specs.Reading.{AreOctets, is_apart, is_next, may_follow, reading}
-use Rattle.rep_octets.specs.Reading.{op_at}
+use Rattle.rep_read.specs.Reading.{op_at}
 use Rattle.rep_op.specs.Sets.{same_client}
-use Rattle.rep_octets.specs.Spelling.{op_octets}
+use Rattle.rep_op.specs.Spelling.{op_octets}
 use Rattle.rep_ops.specs.Spelling.{spelling, max_octets}
 use Rattle.rep_op.specs.Values.{AreValues}
 use Rattle.rep_ops.proofs.Listed.{FitsText, Order, whole_takes, whole_again, one_text, text_cut, text_behind}
-use Rattle.rep_octets.proofs.Operations.{FitsOp, op_law}
+use Rattle.rep_read.proofs.Operations.{FitsOp, op_law}
 use Rattle.rep_ops.proofs.Sizes.{length_ops}
 
 -- ---- the order

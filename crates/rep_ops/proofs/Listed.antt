@@ -8,10 +8,10 @@ use Rattle.std.proofs.lemmas.List.{append-nil, nil_from_length, length-append}
 use Rattle.byteorder.specs.Endian.{big_bytes}
 use Rattle.rep_op.specs.declared.fault.OpsFault.{OpsFault}
 use Rattle.rep_op.specs.declared.fault.OpsFault.TheVariants as faults
-use Rattle.rep_octets.specs.Reading.{Reader, ◌>>=◌, Fails, octet_at, number_at}
+use Rattle.rep_read.specs.Reading.{Reader, ◌>>=◌, Fails, octet_at, number_at}
 use Rattle.rep_ops.specs.Reading.{AreOctets, listed_at, text_at, whole_at, reading_of}
 use Rattle.rep_ops.specs.Spelling.{text_of, max_octets}
-use Rattle.rep_octets.proofs.Laws.{IsBytes, Taken, IsStable, extended, Law, bind_ok, guard_ok, bind_stable, octet_law, wide32, number_law, ok_is}
+use Rattle.rep_read.proofs.Laws.{IsBytes, Taken, IsStable, extended, Law, bind_ok, guard_ok, bind_stable, octet_law, wide32, number_law, ok_is}
 
 -- what reading values took
 record TakesListed {A : Type 0} (text : A → List ℕ) (Fits : A → Type 0) (Up : List A → Type 0) (n : ℕ) (front : List A) (bytes : List ℕ) (x : List A × List ℕ) : Type 0 where

@@ -7,7 +7,7 @@ use Rattle.rep_op.specs.declared.op.Op.{Op}
 use Rattle.rep_op.specs.declared.op.Op.TheVariants.{Session as OfSession, Put as OfPut, Ack}
 use Rattle.std.proofs.lemmas.List.{length-append}
 use Rattle.std.proofs.Common.{[], ◌∷◌, arith}
-use Rattle.rep_octets.specs.Spelling.{op_octets}
+use Rattle.rep_op.specs.Spelling.{op_octets}
 
 some_octet : (op : Op) → 1 ≤ length (op_octets op)
 some_octet (OfSession c s i o) = omega arith

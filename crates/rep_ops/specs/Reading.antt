@@ -9,7 +9,7 @@ use Rattle.rep_op.specs.declared.op.Op.{Op}
 use Rattle.rep_op.specs.declared.op.Op.TheVariants.{Ack}
 use Rattle.rep_op.specs.Orders.{name_cmp}
 use Rattle.rep_op.specs.Sets.{same_client}
-use Rattle.rep_octets.specs.Reading.{Reader, ◌>>=◌, octet_at, number_at, op_at}
+use Rattle.rep_read.specs.Reading.{Reader, ◌>>=◌, octet_at, number_at, op_at}
 use Rattle.rep_ops.specs.Spelling.{max_octets}
 
 -- ---- texts: a version, a count, and values, each of which may follow those before it

@@ -4,7 +4,7 @@ use Rattle.std.specs.List.{flat_map}
 use Rattle.byteorder.specs.Endian.{big_bytes}
 use Rattle.rep_ops.specs.declared.size.TheConstants.{MAX_OCTETS}
 use Rattle.rep_op.specs.declared.op.Op.{Op}
-use Rattle.rep_octets.specs.Spelling.{op_octets}
+use Rattle.rep_op.specs.Spelling.{op_octets}
 
 -- a text of the format: the version, how many values there are, and the values
 abbrev pub text_of : {A : Type 0} → (A → List ℕ) → List A → List ℕ

@@ -6,7 +6,7 @@ ghost use Rattle.rep_op.specs.Orders.{HasTwice};
 ghost use Rattle.rep_ops.specs.inner.Joining.{joined};
 ghost use Rattle.rep_ops.specs.Making.{AreWellMade, AreApart, IsDeltaOf, IsRefusal};
 ghost use Rattle.rep_ops.specs.Formats.{IsSpelled};
-ghost use Rattle.rep_octets.specs.Reading.{Gives};
+ghost use Rattle.rep_read.specs.Reading.{Gives};
 ghost use Rattle.rep_ops.specs.Reading.{reading, AreOctets};
 ghost use Rattle.rep_op.specs.Sets.{Same};
 ghost use Rattle.rep_op.specs.Values.{AreValues};

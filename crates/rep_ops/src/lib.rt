@@ -2,9 +2,9 @@
 //!
 //! A set of operations has one delta: the operations in the order of their names, each name once,
 //! ranges of acknowledgements that touch joined. A delta has one spelling of at most 8,388,608
-//! octets, and is what gateways send to one another and what a record of a journal holds. What
-//! operations are says rep_op, and how one of them is spelled rep_octets; both are passed on from
-//! here.
+//! octets, and is what gateways send to one another and what a record of a journal holds. rep_op
+//! says what operations are and how one of them is spelled, rep_write writes one, and rep_read
+//! reads one. They are passed on from here.
 //!
 //! - `delta`: a set of operations that travels in one piece (`Delta`): made of operations, copied,
 //!   written as octets and read again.
@@ -30,10 +30,11 @@ mod split;
 mod write;
 
 pub use delta::{Delta, no_prefix, one_delta, one_reading};
-pub use rep_octets::{
-    read_client, read_counted_eight, read_counted_octet, read_eight, read_four, read_octet,
-    read_two, write_client,
-};
 pub use rep_op::{ClientId, MAX_OPERATIONS, Op, OpsFault, Put, Stamp};
+pub use rep_read::{
+    read_client, read_counted_eight, read_counted_octet, read_eight, read_four, read_octet,
+    read_two,
+};
+pub use rep_write::write_client;
 pub use size::MAX_OCTETS;
 pub use split::deltas_of;

@@ -2,13 +2,13 @@
 
 ghost use Rattle.std.specs.Prelude.{◌≡◌, ◌<◌, [], Err, length};
 ghost use Rattle.rep_ops.specs.Spelling.{max_octets};
-ghost use Rattle.rep_octets.specs.Reading.{Gives, op_at};
+ghost use Rattle.rep_read.specs.Reading.{Gives, op_at};
 ghost use Rattle.rep_ops.specs.Reading.{listed_at, reading};
 ghost use Rattle.rep_ops.specs.Reading as spec;
 
 use super::size::MAX_OCTETS;
-use rep_octets::{read_four, read_octet, read_op};
 use rep_op::{Op, OpsFault, name_order};
+use rep_read::{read_four, read_octet, read_op};
 use std::alloc::Global;
 use std::cmp::Ordering;
 

@@ -3,7 +3,7 @@
 ghost use Rattle.std.specs.Prelude.{◌≡◌, ◌≤◌, ◌↔◌, length, IsTrue};
 ghost use Rattle.rep_op.specs.Values.{AreValues};
 ghost use Rattle.rep_op.specs.WellMade as spec;
-ghost use Rattle.rep_octets.specs.Spelling.{op_octets, put_octets};
+ghost use Rattle.rep_op.specs.Spelling.{op_octets, put_octets};
 ghost use Rattle.rep_ops.specs.Making.{AreWellMade};
 ghost use Rattle.rep_ops.specs.Spelling.{IsWithinLimit};
 

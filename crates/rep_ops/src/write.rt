@@ -1,15 +1,15 @@
 //! Writing a delta.
 
-#![tactic(auto, using(rep_octets::proofs::Writing::keeps_itself, rep_octets::proofs::Writing::keeps_more, rep_octets::proofs::Writing::keeps_through))]
+#![tactic(auto, using(rep_write::proofs::Writing::keeps_itself, rep_write::proofs::Writing::keeps_more, rep_write::proofs::Writing::keeps_through))]
 
 ghost use Rattle.std.specs.List.{flat_map};
-ghost use Rattle.rep_octets.specs.Spelling.{op_octets};
-ghost use Rattle.rep_octets.specs.Writing.{Writes};
+ghost use Rattle.rep_op.specs.Spelling.{op_octets};
+ghost use Rattle.rep_write.specs.Writing.{Writes};
 ghost use Rattle.rep_ops.specs.Making.{AreWellMade};
 ghost use Rattle.rep_ops.specs.Spelling.{spelling, IsWithinLimit};
 
-use rep_octets::write_op;
 use rep_op::Op;
+use rep_write::write_op;
 use sn_session::octets::{NoMemory, append_u32};
 
 /// The version of the format.

@@ -1,6 +1,6 @@
 use Rattle.std.proofs.Common.{[], ap, sym, ◌∙◌}
 use Rattle.std.proofs.lemmas.Result.{err_from_is_err_and}
-use Rattle.rep_octets.specs.Reading.{op_at}
+use Rattle.rep_read.specs.Reading.{op_at}
 use Rattle.rep_ops.specs.Reading.{listed_at, may_follow}
 use Rattle.rep_ops.proofs.Loop.{goes_on, misplaced, ends, is_done}
 use Rattle.rep_ops.proofs.read.read_ops.Goals as goal

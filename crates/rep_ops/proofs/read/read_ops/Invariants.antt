@@ -1,5 +1,5 @@
 use Rattle.std.proofs.Common.{◌≡◌, ◌-◌, []}
-use Rattle.rep_octets.specs.Reading.{op_at}
+use Rattle.rep_read.specs.Reading.{op_at}
 use Rattle.rep_ops.specs.Reading.{listed_at, may_follow}
 use Rattle.rep_ops.proofs.read.read_ops.Given as goal
 

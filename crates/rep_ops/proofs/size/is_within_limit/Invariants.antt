@@ -1,6 +1,6 @@
 use Rattle.std.proofs.Common.{◌≡◌, ◌≤◌, ◌+◌, length, take}
 use Rattle.std.specs.List.{flat_map}
-use Rattle.rep_octets.specs.Spelling.{op_octets}
+use Rattle.rep_op.specs.Spelling.{op_octets}
 use Rattle.rep_ops.proofs.size.is_within_limit.Given as goal
 
 abbrev pub invariant-loop-op : goal.invariant-loop-op

@@ -1,8 +1,8 @@
 use Rattle.std.proofs.Common.{take}
 use Rattle.std.specs.List.{flat_map}
 use Rattle.std.proofs.lemmas.Result.{err_from_is_err_and}
-use Rattle.rep_octets.specs.Spelling.{op_octets}
-use Rattle.rep_octets.proofs.Writing.{keeps_through}
+use Rattle.rep_op.specs.Spelling.{op_octets}
+use Rattle.rep_write.proofs.Writing.{keeps_through}
 use Rattle.rep_ops.proofs.write.write_ops.Goals as goal
 
 pub returns-in_err-write_op : goal.returns-in_err-write_op
