@@ -35,6 +35,10 @@ pub struct Put {
     pub topic: TopicName,
     /// Its quality of service.
     pub qos: QosLevel,
+    /// Whether the client gets it since it was retained, and not since it was published.
+    pub retain: bool,
+    /// The moment from which on it need not wait; 0 for none.
+    pub expires: u64,
     /// What was published.
     pub body: Message,
 }
@@ -73,6 +77,8 @@ impl Put {
             seq: self.seq,
             topic: self.topic.copied(alloc)?,
             qos: self.qos,
+            retain: self.retain,
+            expires: self.expires,
             body: self.body.copied(alloc)?,
         })
     }

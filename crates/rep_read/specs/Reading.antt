@@ -4,7 +4,8 @@
 -- Numbers here are octets; "2 + n" is a size of two octets and so many octets after it. An
 -- operation is its kind, 1, its client, 1 + n, and by its kind:
 --   1 a change     epoch 8, gateway 1, counter 1, tag 1, the fields of that tag
---   2 a message    origin 1, sequence number 8, topic 2 + n, quality of service 1, message 2 + n
+--   2 a message    origin 1, sequence number 8, topic 2 + n, quality of service 1, in version 2
+--                  retained 1 and expires 8, message 2 + n
 --   3 acknowledged origin 1, first 8, last 8
 -- The fields of a change, by its tag:
 --   0 a session                     1 presence 1, duration 2     2 topic id 2, known 1, name 2 + n
@@ -15,7 +16,7 @@
 -- 0 or 1 in front. Sessions and Spelling of rep_op say the octets that are read here:
 -- `topic_octets` what `entry_at` reads, and `client`, `subscription`, `will_topic`, `will`, `exchange`, `session`, `change` and
 -- `op`, each with `_octets`, what the same word with `_at` reads.
-use Rattle.std.specs.Prelude.{Option, Some, None, ◌≡◌, ℕ, zero, suc, ◌==◌, Bool, ◌&&◌, not, if◌then◌else◌, nat_le, nat_lt, List, [], ◌∷◌, ◌++◌, length, take, drop, Result, Ok, Err}
+use Rattle.std.specs.Prelude.{Option, Some, None, ◌≡◌, ℕ, zero, suc, ◌==◌, Bool, false, ◌&&◌, not, if◌then◌else◌, nat_le, nat_lt, List, [], ◌∷◌, ◌++◌, length, take, drop, Result, Ok, Err}
 use Rattle.std.specs.Int.{Width, w16, w64, byte_len, from_be_bytes}
 use Rattle.std.specs.declared.cmp.Ordering.{Ordering}
 use Rattle.std.specs.Ordering.{nat_cmp}
@@ -39,6 +40,8 @@ use Rattle.sn_session.specs.declared.change.SessionOp.{SessionOp}
 use Rattle.sn_session.specs.declared.change.SessionOp.TheVariants.{Take, Presence as SetPresence, Register, Subscribe, Unsubscribe, WillTopic as SetWillTopic, WillMsg, Received, Released, Outbound as SetOutbound}
 use Rattle.rep_op.specs.declared.fault.OpsFault.{OpsFault}
 use Rattle.rep_op.specs.declared.fault.OpsFault.TheVariants as faults
+use Rattle.rep_op.specs.declared.version.Version.{Version}
+use Rattle.rep_op.specs.declared.version.Version.TheVariants.{One, Two}
 use Rattle.octets.specs.declared.client_id.TheConstants.{MAX_CLIENT_ID}
 use Rattle.sn_session.specs.declared.message.TheConstants.{MAX_MESSAGE}
 use Rattle.rep_op.specs.declared.op.Op.{Op}
@@ -323,23 +326,37 @@ session_op_at =
     (both (ranged is_counted (number_at w64))
     (both (ranged is_counted octet_at) (by_first octet_at change_at))))
 
--- a message of a client, of its origin, sequence number, topic, quality of service and octets
-abbrev pub put_op_of : List ℕ × (ℕ × (ℕ × (List ℕ × (ℕ × List ℕ)))) → Op
+-- the moment at which a message expires: eight octets, all 0
+abbrev pub expires_at : Reader ℕ
+expires_at = ranged (λ n. n == 0) (number_at w64)
+
+-- whether a message was retained, and when it expires; version 1 says no and never of each
+unfoldable pub later_at : Version → Reader (Bool × ℕ)
+later_at One bytes = Ok ((false, 0), bytes)
+later_at Two bytes = both flag_at expires_at bytes
+
+-- a message of a client, of its origin, sequence number, topic, quality of service, whether it was
+-- retained and when it expires, and octets
+abbrev pub put_op_of : List ℕ × (ℕ × (ℕ × (List ℕ × (ℕ × ((Bool × ℕ) × List ℕ))))) → Op
 put_op_of x =
     OfPut x.0 (record {
       origin = x.1.0;
       seq = x.1.1.0;
       topic = x.1.1.1.0;
       qos = x.1.1.1.1.0;
-      body = x.1.1.1.1.1;
+      retain = x.1.1.1.1.1.0.0;
+      expires = x.1.1.1.1.1.0.1;
+      body = x.1.1.1.1.1.1;
     })
 
--- a message: client, origin, sequence number, topic, quality of service, octets
-unfoldable pub put_op_at : Reader Op
-put_op_at =
+-- a message: client, origin, sequence number, topic, quality of service, what version 2 says,
+-- octets
+unfoldable pub put_op_at : Version → Reader Op
+put_op_at version =
     made put_op_of (both client_at
     (both (ranged is_counted octet_at)
-    (both (ranged is_counted (number_at w64)) (both topic_at (both qos_at body_at)))))
+    (both (ranged is_counted (number_at w64))
+    (both topic_at (both qos_at (both (later_at version) body_at))))))
 
 -- a range of acknowledgements of its client, origin, first and last sequence number
 abbrev pub ack_of : List ℕ × (ℕ × (ℕ × ℕ)) → Op
@@ -354,15 +371,16 @@ unfoldable pub ack_at : Reader Op
 ack_at = made ack_of (both client_at (both (ranged is_counted octet_at) range_at))
 
 -- an operation, by its kind
-abbrev pub of_kind_at : ℕ → Reader Op
-of_kind_at kind bytes =
-    if kind == 1 then session_op_at bytes else (if kind == 2 then put_op_at bytes else ack_at bytes)
+abbrev pub of_kind_at : Version → ℕ → Reader Op
+of_kind_at version kind bytes =
+    if kind == 1 then session_op_at bytes
+    else (if kind == 2 then put_op_at version bytes else ack_at bytes)
 
--- an operation: its kind, 1 to 3, then the fields of that kind
-unfoldable pub op_at : Reader Op
-op_at bytes =
+-- an operation of a text of this version: its kind, 1 to 3, then the fields of that kind
+unfoldable pub op_at : Version → Reader Op
+op_at version bytes =
     ranged (λ kind. nat_le 1 kind && nat_le kind 3) octet_at bytes >>= λ kind.
-    of_kind_at kind.0 kind.1
+    of_kind_at version kind.0 kind.1
 
 -- ---- what a function returned, against reading
 

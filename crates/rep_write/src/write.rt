@@ -4,12 +4,12 @@
 
 ghost use Rattle.std.specs.Prelude.{IsTrue};
 ghost use Rattle.rep_op.specs.WellMade as spec;
-ghost use Rattle.rep_op.specs.Spelling.{client_octets, put_octets, op_octets};
+ghost use Rattle.rep_op.specs.Spelling.{client_octets, later_octets, put_octets, op_octets};
 ghost use Rattle.rep_write.specs.Writing.{Writes};
 
 use super::write_session::{write_change, write_text};
 use octets::{NoMemory, append_u64};
-use rep_op::{ClientId, Op, Put};
+use rep_op::{ClientId, Op, Put, Version};
 
 /// Writes a client.
 pub fn write_client(out: &mut Vec<u8>, client: &ClientId) -> Result<(), NoMemory>
@@ -21,23 +21,43 @@ pub fn write_client(out: &mut Vec<u8>, client: &ClientId) -> Result<(), NoMemory
     Ok(())
 }
 
+/// Writes what only version 2 says of a message.
+fn write_later(
+    out: &mut Vec<u8>,
+    version: Version,
+    retain: bool,
+    expires: u64,
+) -> Result<(), NoMemory>
+    ensures { Writes (later_octets version retain expires) out.old.items out.new.items result }
+{
+    match version {
+        Version::One => {}
+        Version::Two => {
+            out.push(retain as u8)?;
+            append_u64(out, expires)?;
+        }
+    }
+    Ok(())
+}
+
 /// Writes a message.
-fn write_put(out: &mut Vec<u8>, put: &Put) -> Result<(), NoMemory>
+fn write_put(out: &mut Vec<u8>, version: Version, put: &Put) -> Result<(), NoMemory>
     requires { IsTrue (spec.is_put put.now) }
-    ensures { Writes (put_octets put.now) out.old.items out.new.items result }
+    ensures { Writes (put_octets version put.now) out.old.items out.new.items result }
 {
     out.push(put.origin)?;
     append_u64(out, put.seq)?;
     write_text(out, put.topic.bytes())?;
     out.push(put.qos.number())?;
+    write_later(out, version, put.retain, put.expires)?;
     write_text(out, put.body.as_slice())?;
     Ok(())
 }
 
-/// Writes an operation.
-pub fn write_op(out: &mut Vec<u8>, op: &Op) -> Result<(), NoMemory>
+/// Writes an operation as this version spells it.
+pub fn write_op(out: &mut Vec<u8>, version: Version, op: &Op) -> Result<(), NoMemory>
     requires { IsTrue (spec.is_well_made op.now) }
-    ensures { Writes (op_octets op.now) out.old.items out.new.items result }
+    ensures { Writes (op_octets version op.now) out.old.items out.new.items result }
 {
     match op {
         Op::Session {
@@ -55,7 +75,7 @@ pub fn write_op(out: &mut Vec<u8>, op: &Op) -> Result<(), NoMemory>
         Op::Put { client, put } => {
             out.push(2)?;
             write_client(out, client)?;
-            write_put(out, put)?;
+            write_put(out, version, put)?;
         }
         Op::Ack {
             client,
