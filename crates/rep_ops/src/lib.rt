@@ -11,26 +11,30 @@
 //! - `join`: what makes a list of operations the list of a delta: order, no name twice, ranges
 //!   joined.
 //! - `size`, `session_size`: what a delta may hold, and how many octets it is spelled in.
-//! - `split`: a set of any size as deltas that fit (`deltas_of`).
+//! - `version`: the version that it is spelled in.
+//! - `split`, `measure`: a set of any size as deltas that fit (`deltas_of`).
 //! - `write`, `read`: the format.
 //!
 //! The definitions are in `specs/`: `Deltas` (what a delta may hold), `Making` (which operations
 //! make one), `Splitting` (a set as deltas that fit), `Spelling` (the octets of a delta), `Reading`
 //! (what octets say, up to the first fault), `Formats` (both as a relation). `one_delta`,
-//! `one_reading` and `no_prefix` state the laws: a set has one delta, a delta one spelling, and no
-//! spelling begins another.
+//! `one_reading`, `one_older_reading` and `no_prefix` state the laws: a set has one delta, a delta
+//! one spelling, what reads version 1 alone reads what needs no other, and no spelling begins
+//! another.
 #![tactic(auto)]
 
 mod delta;
 mod join;
+mod measure;
 mod read;
 mod session_size;
 mod size;
 mod split;
+mod version;
 mod write;
 
-pub use delta::{Delta, no_prefix, one_delta, one_reading};
-pub use rep_op::{ClientId, MAX_OPERATIONS, Op, OpsFault, Put, Stamp};
+pub use delta::{Delta, no_prefix, one_delta, one_older_reading, one_reading};
+pub use rep_op::{ClientId, MAX_OPERATIONS, Op, OpsFault, Put, Stamp, Version};
 pub use rep_read::{
     read_client, read_counted_eight, read_counted_octet, read_eight, read_four, read_octet,
     read_two,
@@ -38,3 +42,4 @@ pub use rep_read::{
 pub use rep_write::write_client;
 pub use size::MAX_OCTETS;
 pub use split::deltas_of;
+pub use version::version_of;
