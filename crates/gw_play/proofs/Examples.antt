@@ -37,7 +37,7 @@ unfolding digits
 no_frame = refl
 
 -- a message of no octet
-waiting : put_line (record { origin = 2; seq = 1; topic = codes "ab"; qos = 0; body = [] }) ≡ codes "  put 1.2 0 6162 -" ++ line_end
+waiting : put_line (record { origin = 2; seq = 1; topic = codes "ab"; qos = 0; retain = false; expires = 0; body = [] }) ≡ codes "  put 1.2 0 6162 -" ++ line_end
 unfolding digits encode_with
 waiting = refl
 
