@@ -1,5 +1,5 @@
 -- The versions of the format, and which of them an operation needs.
-use Rattle.std.specs.Prelude.{ℕ, Bool, true, false, ◌||◌, not, nat_lt}
+use Rattle.std.specs.Prelude.{ℕ, Bool, false, ◌||◌, nat_lt}
 use Rattle.rep_op.specs.declared.op.Op.{Op}
 use Rattle.rep_op.specs.declared.op.Op.TheVariants.{Session as OfSession, Put as OfPut, Ack}
 use Rattle.rep_op.specs.declared.version.Version.{Version}
@@ -15,8 +15,3 @@ abbrev pub needs_two : Op → Bool
 needs_two (OfSession client stamp counter change) = false
 needs_two (OfPut client put) = put.retain || nat_lt 0 put.expires
 needs_two (Ack client origin first last) = false
-
--- whether the version can say the operation
-abbrev pub can_say : Version → Op → Bool
-can_say One op = not (needs_two op)
-can_say Two op = true

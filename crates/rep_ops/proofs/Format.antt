@@ -18,7 +18,7 @@ use Rattle.rep_ops.specs.Making.{AreWellMade}
 use Rattle.rep_op.specs.Orders.{name_cmp}
 use Rattle.rep_op.specs.declared.version.Version.{Version}
 use Rattle.rep_op.specs.declared.version.Version.TheVariants.{One, Two}
-use Rattle.rep_op.specs.Versions.{octet_of, needs_two, can_say}
+use Rattle.rep_op.specs.Versions.{octet_of, needs_two}
 use Rattle.rep_ops.specs.Reading.{AreOctets, is_apart, is_next, may_follow, values_at, text_at, needed_at, delta_at, reading, reading_one}
 use Rattle.rep_read.specs.Reading.{Reader, ◌>>=◌, octet_at, op_at}
 use Rattle.rep_op.specs.Sets.{same_client}
@@ -29,7 +29,7 @@ use Rattle.rep_ops.proofs.Listed.{FitsText, Order, values_law, whole_takes, whol
 use Rattle.rep_ops.proofs.Whole.{takes, again, one, cut, behind}
 use Rattle.rep_ops.proofs.Versions.{is_two, two_needed, version_says, said_by_one}
 use Rattle.rep_read.proofs.Laws.{IsBytes, Taken, IsStable, Law, bind_ok, guard_ok, bind_stable, octet_law}
-use Rattle.rep_read.proofs.Operations.{FitsOp, op_law}
+use Rattle.rep_read.proofs.Operations.{can_say, FitsOp, op_law}
 use Rattle.rep_ops.proofs.Sizes.{length_ops}
 
 -- ---- the order

@@ -6,7 +6,8 @@ use Rattle.std.proofs.lemmas.Bool.{cases_Bool, not-true, not_from_false}
 use Rattle.rep_op.specs.declared.op.Op.{Op}
 use Rattle.rep_op.specs.declared.version.Version.{Version}
 use Rattle.rep_op.specs.declared.version.Version.TheVariants.{One, Two}
-use Rattle.rep_op.specs.Versions.{needs_two, can_say}
+use Rattle.rep_op.specs.Versions.{needs_two}
+use Rattle.rep_read.proofs.Operations.{can_say}
 use Rattle.rep_ops.specs.Spelling.{version_of}
 
 pub is_two : (ops : List Op) → list_any needs_two ops ≡ true → version_of ops ≡ Two

@@ -14,7 +14,7 @@ use Rattle.rep_read.specs.Reading.{Reader, both, by_first, ranged, octet_at, num
 use Rattle.rep_op.specs.Spelling.{client_octets, later_octets, put_octets, op_octets}
 use Rattle.rep_op.specs.Sessions.{text_octets, flag_octet, change_octets}
 use Rattle.rep_op.specs.Values.{IsValue}
-use Rattle.rep_op.specs.Versions.{needs_two, can_say}
+use Rattle.rep_op.specs.Versions.{needs_two}
 use Rattle.rep_op.specs.WellMade.{is_well_made}
 use Rattle.rep_op.specs.declared.version.Version.{Version}
 use Rattle.rep_op.specs.declared.version.Version.TheVariants.{One, Two}
@@ -22,6 +22,11 @@ use Rattle.rep_read.proofs.Laws.{IsBytes, Taken, IsStable, Law, bind_ok, bind_st
 use Rattle.rep_read.proofs.Fields.{one_octet, IsOctet, client_law, topic_law, flag_law, IsQos, qos_law, body_law}
 use Rattle.rep_read.proofs.Parts.{IsEight, eight_law, IsOne, one_law}
 use Rattle.rep_read.proofs.Changes.{FitsChange, change_law}
+
+-- whether the version can say the operation
+abbrev pub can_say : Version → Op → Bool
+can_say One op = not (needs_two op)
+can_say Two op = true
 
 -- what has a spelling of this version that is read again
 pub record FitsOp (version : Version) (op : Op) : Type 0 where
