@@ -1,4 +1,4 @@
-use Rattle.std.proofs.Common.{[], ◌∷◌, ◌++◌, ◌≤◌, ◌<◌, length, sym, ap, subst, ◌∙◌}
+use Rattle.std.proofs.Common.{ℕ, [], ◌∷◌, ◌++◌, ◌≤◌, ◌<◌, sym, ap, subst, ◌∙◌}
 use Rattle.rep_ops.proofs.Splitting.{no_part, next_made, part_delta, parts_are, no_items, roomy, next_part, longer_part, last_part, no_last_part, is_no_part, is_some_part}
 use Rattle.rep_ops.specs.Splitting.{IsSplit}
 use Rattle.rep_ops.proofs.split.split.Goals as goal
@@ -35,7 +35,7 @@ loop-op-preserved c =
           (c.in_ok-push-2.ensures.items ∙ ap (λ v. v.items ++ op ∷ []) (w.part-is ∙ w.replace-full.ensures.after) ∙ ap (λ xs. xs ++ op ∷ []) w.new.ensures.items)
           w.longer-is
           (next_part c.args.ops.items c.loop-op.deltas.items part c.loop-op.op-iterator.rest.items c.loop-op.measure op c.next.new.self.rest.items w.of_one.result
-          c.loop-op.invariant steps (subst (λ n. 8388608 < n) octets w.if-size-gt-MAX_OCTETS.true) w.of_one.ensures.measure w.of_one.ensures.small c.is_value.ensures)
+          c.loop-op.invariant steps (subst (λ (n : ℕ). 8388608 < n) octets w.if-size-gt-MAX_OCTETS.true) w.of_one.ensures.measure w.of_one.ensures.small c.is_value.ensures)
       | else-size-gt-MAX_OCTETS w ↦
           parts_are c.args.ops.items c.if-size-gt-MAX_OCTETS.deltas.items c.loop-op.deltas.items c.push-in-loop-op.new.self.items (part ++ op ∷ []) c.next.new.self.rest.items
           c.if-size-gt-MAX_OCTETS.longer c.with_op-longer.result
@@ -43,7 +43,7 @@ loop-op-preserved c =
           (c.in_ok-push-2.ensures.items ∙ ap (λ v. v.items ++ op ∷ []) w.part-is)
           w.longer-is
           (longer_part c.args.ops.items c.loop-op.deltas.items part c.loop-op.op-iterator.rest.items c.loop-op.measure op c.next.new.self.rest.items c.with_op-longer.result
-          c.loop-op.invariant steps (subst (λ n. n ≤ 8388608) octets w.if-size-gt-MAX_OCTETS.false) longer c.is_value.ensures)
+          c.loop-op.invariant steps (subst (λ (n : ℕ). n ≤ 8388608) octets w.if-size-gt-MAX_OCTETS.false) longer c.is_value.ensures)
     ]
 
 pub invariant_of-push-then-not-is_empty : goal.invariant_of-push-then-not-is_empty
