@@ -14,7 +14,7 @@ use rep_op::{Op, Version, needs_two};
 const NO_OCTETS: usize = 5;
 
 /// How many octets operations are spelled in by each version, and whether they need version 2.
-#[derive(Clone, Copy, Debug)]
+#[derive(Clone, Copy)]
 pub struct Measure {
     one: usize,
     two: usize,

@@ -45,7 +45,7 @@ fn read_expires(bytes: &[u8]) -> Result<(u64, &[u8]), OpsFault>
 /// Whether a message was retained, and when it expires, as far as the version says it.
 #[tactic(auto, unfolding(crate::specs::Reading::later_at))]
 fn read_later(version: Version, bytes: &[u8]) -> Result<((bool, u64), &[u8]), OpsFault>
-    ensures { Gives (λ x. ((x.0.0, x.0.1), x.1.now)) result (later_at version bytes.now) }
+    ensures { Gives (λ x. (x.0, x.1.now)) result (later_at version bytes.now) }
 {
     match version {
         Version::One => Ok(((false, 0), bytes)),
