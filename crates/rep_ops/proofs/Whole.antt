@@ -65,7 +65,7 @@ module _ {A : Type 0} (read : Reader (List A)) (text : List A → List ℕ) (Fit
         | inr same ↦ absurd (cut_short d rest (read front) ne (sym whole ∙ same))
       ]
 
-  -- and so is what stands behind
+  -- and so is what stands after
   pub behind : (d : List A) (rest : List ℕ) → Fits d → length (text d ++ rest) ≤ max_octets → rest ≢ [] → reading_by read (text d ++ rest) ≡ Err faults.Trailing
   unfolding whole_at
   behind d rest fits size ne =

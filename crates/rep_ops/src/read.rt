@@ -95,7 +95,7 @@ fn read_needed(alloc: Global, bytes: &[u8]) -> Result<(Vec<Op>, &[u8]), OpsFault
     Ok((ops, rest))
 }
 
-/// The operations of a text, behind its version.
+/// The operations of a text, after its version.
 #[tactic(auto, unfolding(crate::specs::Reading::delta_at))]
 fn read_text(alloc: Global, bytes: &[u8]) -> Result<(Vec<Op>, &[u8]), OpsFault>
     ensures { Gives (λ x. (x.0.items, x.1.now)) result (delta_at bytes.now) }
@@ -108,7 +108,7 @@ fn read_text(alloc: Global, bytes: &[u8]) -> Result<(Vec<Op>, &[u8]), OpsFault>
     }
 }
 
-/// The operations of a text of version 1, behind its version.
+/// The operations of a text of version 1, after its version.
 #[tactic(auto, unfolding(crate::specs::Reading::text_at))]
 fn read_text_one(alloc: Global, bytes: &[u8]) -> Result<(Vec<Op>, &[u8]), OpsFault>
     ensures { Gives (λ x. (x.0.items, x.1.now)) result
@@ -121,7 +121,7 @@ fn read_text_one(alloc: Global, bytes: &[u8]) -> Result<(Vec<Op>, &[u8]), OpsFau
     read_values(alloc, Version::One, rest)
 }
 
-/// The operations of a text, behind its version, as what knows this version and those before it
+/// The operations of a text, after its version, as what knows this version and those before it
 /// reads them.
 fn read_known(alloc: Global, known: Version, bytes: &[u8]) -> Result<(Vec<Op>, &[u8]), OpsFault>
     ensures { Gives (λ x. (x.0.items, x.1.now)) result (known_at known bytes.now) }
