@@ -2,8 +2,9 @@
 
 #![tactic(auto, using(crate::proofs::Writing::keeps_itself, crate::proofs::Writing::keeps_more, crate::proofs::Writing::keeps_through))]
 
-ghost use Rattle.std.specs.Prelude.{IsTrue};
+ghost use Rattle.std.specs.Prelude.{IsTrue, ◌∷◌, ◌++◌};
 ghost use Rattle.rep_op.specs.WellMade as spec;
+ghost use Rattle.rep_op.specs.Sessions.{text_octets};
 ghost use Rattle.rep_op.specs.Spelling.{client_octets, later_octets, put_octets, op_octets};
 ghost use Rattle.rep_write.specs.Writing.{Writes};
 
@@ -40,6 +41,18 @@ fn write_later(
     Ok(())
 }
 
+/// Writes what stands after the topic of a message.
+fn write_content(out: &mut Vec<u8>, version: Version, put: &Put) -> Result<(), NoMemory>
+    requires { IsTrue (spec.is_put put.now) }
+    ensures { Writes (put.now.qos ∷ (later_octets version put.now.retain put.now.expires
+        ++ text_octets put.now.body)) out.old.items out.new.items result }
+{
+    out.push(put.qos.number())?;
+    write_later(out, version, put.retain, put.expires)?;
+    write_text(out, put.body.as_slice())?;
+    Ok(())
+}
+
 /// Writes a message.
 fn write_put(out: &mut Vec<u8>, version: Version, put: &Put) -> Result<(), NoMemory>
     requires { IsTrue (spec.is_put put.now) }
@@ -48,9 +61,7 @@ fn write_put(out: &mut Vec<u8>, version: Version, put: &Put) -> Result<(), NoMem
     out.push(put.origin)?;
     append_u64(out, put.seq)?;
     write_text(out, put.topic.bytes())?;
-    out.push(put.qos.number())?;
-    write_later(out, version, put.retain, put.expires)?;
-    write_text(out, put.body.as_slice())?;
+    write_content(out, version, put)?;
     Ok(())
 }
 
