@@ -6,15 +6,16 @@
 --   1 a change     epoch 8, gateway 1, counter 1, tag 1, the fields of that tag
 --   2 a message    origin 1, sequence number 8, topic 2 + n, quality of service 1, in version 2
 --                  retained 1 and expires 8, message 2 + n
---   3 acknowledged origin 1, first 8, last 8 The fields of a change, by its tag: 0 a session 1
---   presence 1, duration 2 2 topic id 2, known 1, name 2 + n 3 filter 2 + n, quality 1 4 filter 2 +
---   n 5 the topic of a will, or none 6 the message of a will 2 + n 7 and 8 message id 2 9 next
---   message id 2, exchange A session is presence 1, clean 1, duration 2, next message id 2, topic
---   ids, subscriptions, will, received message ids, exchange. A table is its count, 2, and its
---   entries; what may be absent has 0 or 1 in front. Sessions and Spelling of rep_op say the octets
---   that are read here: `topic_octets` what `entry_at` reads, and `client`, `subscription`,
---   `will_topic`, `will`, `exchange`, `session`, `change` and `op`, each with `_octets`, what the
---   same word with `_at` reads.
+--   3 acknowledged origin 1, first 8, last 8
+-- The fields of a change, by its tag:
+--   0 a session                     1 presence 1, duration 2     2 topic id 2, known 1, name 2 + n
+--   3 filter 2 + n, quality 1       4 filter 2 + n               5 the topic of a will, or none
+--   6 the message of a will 2 + n   7 and 8 message id 2         9 next message id 2, exchange
+-- A session is presence 1, clean 1, duration 2, next message id 2, topic ids, subscriptions, will,
+-- received message ids, exchange. A table is its count, 2, and its entries; what may be absent has
+-- 0 or 1 in front. Sessions and Spelling of rep_op say what is read here: `topic_octets` what
+-- `entry_at` reads, and `client`, `subscription`, `will_topic`, `will`, `exchange`, `session`,
+-- `change` and `op`, each with `_octets`, what the same word with `_at` reads.
 use Rattle.std.specs.Prelude.{Option, Some, None, ◌≡◌, ℕ, zero, suc, ◌==◌, Bool, false, ◌&&◌, not, if◌then◌else◌, nat_le, nat_lt, List, [], ◌∷◌, ◌++◌, length, take, drop, Result, Ok, Err}
 use Rattle.std.specs.Int.{Width, w16, w64, byte_len, from_be_bytes}
 use Rattle.std.specs.declared.cmp.Ordering.{Ordering}
