@@ -19,7 +19,7 @@ use Rattle.rep_op.specs.Values.{IsValue, AreValues}
 use Rattle.rep_op.specs.WellMade.{is_well_made}
 use Rattle.rep_ops.proofs.Joined.{rising_ascending, ascending_rising}
 use Rattle.rep_ops.proofs.Rising.{Past, Rising}
-use Rattle.rep_ops.proofs.Sizes.{octets_in, spelled, octets_more, most_octets, spelled_one, spelled_two, spelled_least}
+use Rattle.rep_ops.proofs.Sizes.{spelled, octets_more, most_octets, spelled_one, spelled_two, spelled_least}
 
 -- ---- the front and the back of a list
 
@@ -133,10 +133,9 @@ roomy m ops h size =
 
 -- the delta of one operation is far below the limit
 pub alone_small : (none m : Measure) (op : Op) → IsMeasure none [] → IsMeasure m (op ∷ []) → m.one ≤ none.one + 150000 → m.two ≤ none.two + 150000 → length (spelling (op ∷ [])) ≤ 150005
-unfolding octets_in
 alone_small none m op h k one two =
-    let first = h.one in
-    let second = h.two in
+    let first : none.one ≡ 5 = h.one in
+    let second : none.two ≡ 5 = h.two in
     elim (cases_Bool m.is_two) [
       | inl is ↦ let size = measured_two m (op ∷ []) k is in omega (arith, size, two, second)
       | inr not ↦ let size = measured_one m (op ∷ []) k not in omega (arith, size, one, first)
@@ -162,7 +161,11 @@ next_made ops ds part rest measure op left d h e =
     let behind = all_back (λ op. IsTrue (is_well_made op)) part rest (all_back (λ op. IsTrue (is_well_made op)) (all_of ds) (part ++ rest) whole) in
     (subst AreWellMade e behind).0
 
-pub part_delta : (ops : List Op) (ds : List (List Op)) (part rest : List Op) (measure : Measure) → IsDelta ops → AreParts ops ds part rest measure → IsDelta part × IsWithinLimit part × AreValues part
+-- what a delta promises of its operations
+abbrev pub IsMade : List Op → Type 0
+IsMade part = IsDelta part × IsWithinLimit part × AreValues part
+
+pub part_delta : (ops : List Op) (ds : List (List Op)) (part rest : List Op) (measure : Measure) → IsDelta ops → AreParts ops ds part rest measure → IsMade part
 part_delta ops ds part rest measure d h = (delta_between (all_of ds) part rest (subst IsDelta (sym h.whole) d), h.small, h.values)
 
 some_part : (part : List Op) (op : Op) → length (spelling (op ∷ [])) ≤ 150005 → 8388608 < length (spelling (part ++ op ∷ [])) → part ≢ []

@@ -70,7 +70,6 @@ impl Measure {
     }
 
     /// How many octets the delta of the operations is spelled in.
-    #[tactic(auto, using(crate::proofs::Splitting::measured_one, crate::proofs::Splitting::measured_two))]
     pub fn octets(self) -> usize
         ensures { (ops : List Op) → IsMeasure self ops → result ≡ length (spelling ops) }
     {

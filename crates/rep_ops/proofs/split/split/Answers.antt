@@ -1,5 +1,5 @@
 use Rattle.std.proofs.Common.{ℕ, [], ◌∷◌, ◌++◌, ◌≤◌, ◌<◌, sym, ap, subst, ◌∙◌}
-use Rattle.rep_ops.proofs.Splitting.{no_part, next_made, part_delta, parts_are, no_items, roomy, next_part, longer_part, last_part, no_last_part, is_no_part, is_some_part}
+use Rattle.rep_ops.proofs.Splitting.{IsMade, no_part, next_made, part_delta, parts_are, no_items, roomy, next_part, longer_part, last_part, no_last_part, is_no_part, is_some_part}
 use Rattle.rep_ops.specs.Splitting.{IsSplit}
 use Rattle.rep_ops.proofs.split.split.Goals as goal
 use Rattle.rep_ops.proofs.split.split.Goals.{then-size-gt-MAX_OCTETS+in_ok-push, else-size-gt-MAX_OCTETS, then-not-is_empty+in_ok-push-3, else-not-is_empty}
@@ -17,7 +17,7 @@ with_op-longer-requires-clause-two c = (roomy c.loop-op.measure c.loop-op.part.i
 
 pub invariant_of-push : goal.invariant_of-push
 invariant_of-push c =
-    rw c.replace-full.ensures.value
+    subst IsMade (sym (ap (λ v. v.items) c.replace-full.ensures.value))
     (part_delta c.args.ops.items c.loop-op.deltas.items c.loop-op.part.items c.loop-op.op-iterator.rest.items c.loop-op.measure c.requires c.loop-op.invariant)
 
 pub loop-op-preserved : goal.loop-op-preserved
@@ -30,12 +30,12 @@ loop-op-preserved c =
     elim c.if-size-gt-MAX_OCTETS.branch [
       | then-size-gt-MAX_OCTETS+in_ok-push w ↦
           parts_are c.args.ops.items c.if-size-gt-MAX_OCTETS.deltas.items (c.loop-op.deltas.items ++ part ∷ []) c.push-in-loop-op.new.self.items (op ∷ []) c.next.new.self.rest.items
-          c.if-size-gt-MAX_OCTETS.longer w.of_one.result
+          c.if-size-gt-MAX_OCTETS.longer w.of_one-longer.result
           (ap (λ v. v.items) w.deltas-is ∙ w.in_ok-push.ensures.items ∙ ap (λ v. c.loop-op.deltas.items ++ v.items ∷ []) w.replace-full.ensures.value)
           (c.in_ok-push-2.ensures.items ∙ ap (λ v. v.items ++ op ∷ []) (w.part-is ∙ w.replace-full.ensures.after) ∙ ap (λ xs. xs ++ op ∷ []) w.new.ensures.items)
           w.longer-is
-          (next_part c.args.ops.items c.loop-op.deltas.items part c.loop-op.op-iterator.rest.items c.loop-op.measure op c.next.new.self.rest.items w.of_one.result
-          c.loop-op.invariant steps (subst (λ (n : ℕ). 8388608 < n) octets w.if-size-gt-MAX_OCTETS.true) w.of_one.ensures.measure w.of_one.ensures.small c.is_value.ensures)
+          (next_part c.args.ops.items c.loop-op.deltas.items part c.loop-op.op-iterator.rest.items c.loop-op.measure op c.next.new.self.rest.items w.of_one-longer.result
+          c.loop-op.invariant steps (subst (λ (n : ℕ). 8388608 < n) octets w.if-size-gt-MAX_OCTETS.true) w.of_one-longer.ensures.measure w.of_one-longer.ensures.small c.is_value.ensures)
       | else-size-gt-MAX_OCTETS w ↦
           parts_are c.args.ops.items c.if-size-gt-MAX_OCTETS.deltas.items c.loop-op.deltas.items c.push-in-loop-op.new.self.items (part ++ op ∷ []) c.next.new.self.rest.items
           c.if-size-gt-MAX_OCTETS.longer c.with_op-longer.result
