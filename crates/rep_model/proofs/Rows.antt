@@ -1,5 +1,5 @@
 -- Small sets, and what they say.
-use Rattle.std.proofs.Common.{◌≡◌, ℕ, ◌-◌, ◌^◌, List, [], ◌∷◌, Some, None, refl}
+use Rattle.std.proofs.Common.{◌≡◌, ℕ, ◌-◌, ◌^◌, List, [], ◌∷◌, Some, None, refl, false}
 use Rattle.sn_session.specs.declared.presence.Presence.TheVariants.{Asleep, Lost}
 use Rattle.sn_session.specs.declared.session.Session.{Session}
 use Rattle.sn_session.specs.Session.{empty_session}
