@@ -1,5 +1,5 @@
 -- Worked causes: what a clean CONNECT acknowledges, whom a frame is from, and frames that are no cause.
-use Rattle.std.proofs.Common.{◌≡◌, ℕ, true, List, [], ◌∷◌, Some, None, refl, sym, true≢false, ⊎_elim, arith}
+use Rattle.std.proofs.Common.{◌≡◌, ℕ, true, List, [], ◌∷◌, Some, None, refl, sym, true≢false, ⊎_elim, arith, false}
 use Rattle.std.specs.Prelude.{codes}
 use Rattle.sn_session.specs.declared.change.SessionOp.TheVariants.{Take}
 use Rattle.sn_frame.specs.declared.frame.Frame.{Frame}
