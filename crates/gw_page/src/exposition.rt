@@ -1,0 +1,336 @@
+//! A gateway's numbers as text, as Prometheus reads it.
+//!
+//! Each function appends to a text. What is appended has words of the program and digits, and
+//! nothing else: a report has no text in its numbers.
+
+ghost use Rattle.std.specs.Prelude.{◌≡◌, ◌++◌, IfOk, OnOk, codes, flat_map, string_bytes};
+ghost use Rattle.gw_report.specs.declared.label.Label.TheVariants as labels;
+ghost use Rattle.gw_page.specs.Texts.{◌▹◌};
+ghost use Rattle.gw_page.specs.Expositions.{pair_text, pairs_text, label_text, head_text, value_text, sample_text, row_text, rows_text, single_text, link_text, column_text, labelled_text, exposition_of};
+ghost use Rattle.gw_page.specs.Expositions as spec;
+
+use gw_report::{
+    CallAnswer, CallKind, Count, DeltaFault, LINKS, Label, Link, Numbers, Place, Row, SINGLES,
+    Singles, frame_word, presence_word,
+};
+use std::alloc::{AllocError, Global};
+
+/// All numbers of a report, each once, as text exposition format 0.0.4 of Prometheus.
+pub fn exposition(alloc: Global, numbers: &Numbers) -> Result<String, AllocError>
+    ensures { IfOk result (λ text. string_bytes text ≡ exposition_of numbers.now) }
+{
+    let mut text = String::new(alloc);
+    print_singles(alloc, &mut text, &SINGLES, &numbers.singles)?;
+    print_labelled(alloc, &mut text, numbers)?;
+    print_columns(alloc, &mut text, &LINKS, numbers.links.as_slice())?;
+    print_rows(
+        alloc,
+        &mut text,
+        Count::LinkRefused,
+        numbers.link_refused.as_slice(),
+    )?;
+    Ok(text)
+}
+
+/// The numbers that have labels and are not of links.
+fn print_labelled(alloc: Global, text: &mut String, numbers: &Numbers) -> Result<(), AllocError>
+    ensures { OnOk result (string_bytes text.new ≡ string_bytes text.old ++ labelled_text
+        numbers.now) }
+{
+    print_rows(
+        alloc,
+        text,
+        Count::FramesReceived,
+        numbers.frames_received.as_slice(),
+    )?;
+    print_rows(
+        alloc,
+        text,
+        Count::DatagramsSent,
+        numbers.datagrams_sent.as_slice(),
+    )?;
+    print_rows(
+        alloc,
+        text,
+        Count::DatagramsUnsent,
+        numbers.datagrams_unsent.as_slice(),
+    )?;
+    print_rows(alloc, text, Count::Calls, numbers.calls.as_slice())?;
+    print_rows(
+        alloc,
+        text,
+        Count::Compactions,
+        numbers.compactions.as_slice(),
+    )?;
+    print_rows(
+        alloc,
+        text,
+        Count::Reopenings,
+        numbers.reopenings.as_slice(),
+    )?;
+    print_rows(alloc, text, Count::Clients, numbers.clients.as_slice())?;
+    print_rows(
+        alloc,
+        text,
+        Count::JournalOctets,
+        numbers.journal_octets.as_slice(),
+    )?;
+    print_rows(
+        alloc,
+        text,
+        Count::MessagesKnown,
+        numbers.messages_known.as_slice(),
+    )
+}
+
+/// The numbers of these names, which have no label.
+fn print_singles(
+    alloc: Global,
+    text: &mut String,
+    counts: &[Count],
+    singles: &Singles,
+) -> Result<(), AllocError>
+    ensures { OnOk result (string_bytes text.new ≡ string_bytes text.old ++ flat_map
+        (single_text singles.now) counts.now) }
+{
+    for count in counts {
+        print_single(alloc, text, *count, singles)?;
+    }
+    Ok(())
+}
+
+/// The number of this name, which has no label.
+fn print_single(
+    alloc: Global,
+    text: &mut String,
+    count: Count,
+    singles: &Singles,
+) -> Result<(), AllocError>
+    ensures { OnOk result (string_bytes text.new ≡ string_bytes text.old ++ single_text
+        singles.now count) }
+{
+    let value = singles.value(count);
+    print_head(text, count)?;
+    print_sample(alloc, text, count, Label::Bare, value)
+}
+
+/// The numbers of these names of all places of links.
+fn print_columns(
+    alloc: Global,
+    text: &mut String,
+    counts: &[Count],
+    links: &[Link],
+) -> Result<(), AllocError>
+    ensures { OnOk result (string_bytes text.new ≡ string_bytes text.old ++ flat_map
+        (column_text links.now) counts.now) }
+{
+    for count in counts {
+        print_column(alloc, text, *count, links)?;
+    }
+    Ok(())
+}
+
+/// The number of this name of all places of links.
+fn print_column(
+    alloc: Global,
+    text: &mut String,
+    count: Count,
+    links: &[Link],
+) -> Result<(), AllocError>
+    ensures { OnOk result (string_bytes text.new ≡ string_bytes text.old ++ column_text
+        links.now count) }
+{
+    print_head(text, count)?;
+    print_links(alloc, text, count, links)
+}
+
+/// A line for each place of a link.
+fn print_links(
+    alloc: Global,
+    text: &mut String,
+    count: Count,
+    links: &[Link],
+) -> Result<(), AllocError>
+    ensures { OnOk result (string_bytes text.new ≡ string_bytes text.old ++ flat_map
+        (link_text count) links.now) }
+{
+    for link in links {
+        print_link(alloc, text, count, link)?;
+    }
+    Ok(())
+}
+
+/// The line of a place of a link.
+fn print_link(alloc: Global, text: &mut String, count: Count, link: &Link) -> Result<(), AllocError>
+    ensures { OnOk result (string_bytes text.new ≡ string_bytes text.old ++ link_text count
+        link.now) }
+{
+    let value = link.value(count);
+    print_sample(alloc, text, count, Label::Place(link.place), value)
+}
+
+/// All numbers of a name.
+fn print_rows(
+    alloc: Global,
+    text: &mut String,
+    count: Count,
+    rows: &[Row],
+) -> Result<(), AllocError>
+    ensures { OnOk result (string_bytes text.new ≡ string_bytes text.old ++ rows_text count
+        rows.now) }
+{
+    print_head(text, count)?;
+    print_each(alloc, text, count, rows)
+}
+
+/// A line for each row.
+fn print_each(
+    alloc: Global,
+    text: &mut String,
+    count: Count,
+    rows: &[Row],
+) -> Result<(), AllocError>
+    ensures { OnOk result (string_bytes text.new ≡ string_bytes text.old ++ flat_map
+        (row_text count) rows.now) }
+{
+    for row in rows {
+        print_sample(alloc, text, count, row.label, row.value)?;
+    }
+    Ok(())
+}
+
+/// What a name is, and whether its numbers only grow.
+fn print_head(text: &mut String, count: Count) -> Result<(), AllocError>
+    ensures { OnOk result (string_bytes text.new ≡ string_bytes text.old ++ head_text count) }
+{
+    let name = count.name();
+    let help = count.help();
+    let kind = count.kind().word();
+    writeln!(text, "# HELP nimhazel_{name} {help}")?;
+    writeln!(text, "# TYPE nimhazel_{name} {kind}")
+}
+
+/// The line of a number.
+fn print_sample(
+    alloc: Global,
+    text: &mut String,
+    count: Count,
+    label: Label,
+    value: u64,
+) -> Result<(), AllocError>
+    ensures { OnOk result (string_bytes text.new ≡ string_bytes text.old ++ sample_text count label
+        value) }
+{
+    let name = count.name();
+    write!(text, "nimhazel_{name}")?;
+    print_label(alloc, text, label)?;
+    print_value(text, count.in_thousandths(), value)
+}
+
+/// The value of a number, with the end of its line.
+fn print_value(text: &mut String, in_thousandths: bool, value: u64) -> Result<(), AllocError>
+    ensures { OnOk result (string_bytes text.new ≡ string_bytes text.old ++ value_text
+        in_thousandths value) }
+{
+    if in_thousandths {
+        writeln!(text, " {value}e-3")
+    } else {
+        writeln!(text, " {value}")
+    }
+}
+
+/// A label.
+#[tactic(auto, unfolding(crate::specs::Expositions::label_text))]
+fn print_label(alloc: Global, text: &mut String, label: Label) -> Result<(), AllocError>
+    ensures { OnOk result (string_bytes text.new ≡ string_bytes text.old ++ label_text label) }
+{
+    match label {
+        Label::Bare => Ok(()),
+        Label::Frame(frame) => print_pair(text, "type", frame_word(frame)),
+        Label::OtherFrame => print_pair(text, "type", "other"),
+        Label::NoRoom => print_pair(text, "why", "no_room"),
+        Label::Refused => print_pair(text, "why", "refused"),
+        Label::Call(kind, answer) => print_call(text, kind, answer),
+        Label::Done => print_pair(text, "result", "done"),
+        Label::Failed => print_pair(text, "result", "failed"),
+        Label::InPlace => print_pair(text, "where", "in_place"),
+        Label::BetweenShifts => print_pair(text, "where", "between_shifts"),
+        Label::Presence(presence) => print_pair(text, "presence", presence_word(presence)),
+        Label::NoSession => print_pair(text, "presence", "none"),
+        Label::FirstSlot => print_pair(text, "slot", "first"),
+        Label::SecondSlot => print_pair(text, "slot", "second"),
+        Label::Place(place) => print_place(alloc, text, place),
+        Label::Fault(place, fault) => print_fault(alloc, text, place, fault),
+        Label::Origin(number) => print_origin(text, number),
+    }
+}
+
+/// A label of one word.
+fn print_pair(text: &mut String, key: &str, word: &str) -> Result<(), AllocError>
+    ensures { OnOk result (string_bytes text.new ≡ string_bytes text.old ++ pair_text key.now
+        word.now) }
+{
+    write!(text, "{{{key}=\"{word}\"}}")
+}
+
+/// A label of two words.
+fn print_pairs(
+    text: &mut String,
+    key: &str,
+    word: &str,
+    second: &str,
+    other: &str,
+) -> Result<(), AllocError>
+    ensures { OnOk result (string_bytes text.new ≡ string_bytes text.old ++ pairs_text key.now
+        word.now second.now other.now) }
+{
+    write!(text, "{{{key}=\"{word}\",{second}=\"{other}\"}}")
+}
+
+/// The label of a call.
+fn print_call(text: &mut String, kind: CallKind, answer: CallAnswer) -> Result<(), AllocError>
+    ensures { OnOk result (string_bytes text.new ≡ string_bytes text.old ++ spec.call_text kind
+        answer) }
+{
+    print_pairs(text, "kind", kind.word(), "answer", answer.word())
+}
+
+/// The label of a place of a link.
+fn print_place(alloc: Global, text: &mut String, place: Place) -> Result<(), AllocError>
+    ensures { OnOk result (string_bytes text.new ≡ string_bytes text.old ++ spec.place_label place) }
+{
+    let place = place_of(alloc, place)?;
+    print_pair(text, "place", &place)
+}
+
+/// The label of a place of a link, and of a fault.
+fn print_fault(
+    alloc: Global,
+    text: &mut String,
+    place: Place,
+    fault: DeltaFault,
+) -> Result<(), AllocError>
+    ensures { OnOk result (string_bytes text.new ≡ string_bytes text.old ++ spec.fault_label place
+        fault) }
+{
+    let place = place_of(alloc, place)?;
+    print_pairs(text, "place", &place, "fault", fault.word())
+}
+
+/// The place of a link.
+fn place_of(alloc: Global, place: Place) -> Result<String, AllocError>
+    ensures { IfOk result (λ text. string_bytes text ≡ spec.place_text place) }
+{
+    match place {
+        Place::Dialled(number) => format!(in alloc; "dialled-{number}"),
+        Place::Accepted(number) => format!(in alloc; "accepted-{number}"),
+    }
+}
+
+/// The label of a gateway that puts messages.
+fn print_origin(text: &mut String, number: u8) -> Result<(), AllocError>
+    ensures { OnOk result (string_bytes text.new ≡ string_bytes text.old ++ spec.origin_label
+        number) }
+{
+    write!(text, "{{origin=\"{number}\"}}")
+}

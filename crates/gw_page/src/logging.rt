@@ -1,0 +1,208 @@
+//! Events as lines, for the page and for the journal of the system.
+
+ghost use Rattle.std.specs.Prelude.{◌≡◌, ◌++◌, IfOk, OnOk, flat_map, string_bytes};
+ghost use Rattle.gw_page.specs.Logs.{log_text, event_text, entry_text, what_text, alarm_text, warning_text, note_text, detail_text, named_text, answer_text};
+
+use super::clients::print_address;
+use gw_report::{Alarm, Detail, Event, Note, Warning, What};
+use rep_op::ClientId;
+use std::alloc::{AllocError, Global};
+
+/// The line of an event for the journal of the system, which takes what is in `<>` for the level.
+pub fn entry(alloc: Global, event: &Event) -> Result<String, AllocError>
+    ensures { IfOk result (λ text. string_bytes text ≡ entry_text event.now) }
+{
+    let level = event.level().number();
+    let mut text = format!(in alloc; "<{level}>")?;
+    print_what(alloc, &mut text, &event.what)?;
+    text.push_str("\n")?;
+    Ok(text)
+}
+
+/// A line for each event, in their order.
+pub fn log(alloc: Global, events: &[Event]) -> Result<String, AllocError>
+    ensures { IfOk result (λ text. string_bytes text ≡ log_text events.now) }
+{
+    let mut text = String::new(alloc);
+    for event in events {
+        print_event(alloc, &mut text, event)?;
+    }
+    Ok(text)
+}
+
+/// The line of an event: moment, level, what happened.
+fn print_event(alloc: Global, text: &mut String, event: &Event) -> Result<(), AllocError>
+    ensures { OnOk result (string_bytes text.new ≡ string_bytes text.old ++ event_text event.now) }
+{
+    let moment = event.moment;
+    let level = event.level().word();
+    write!(text, "{moment}\t{level}\t")?;
+    print_what(alloc, text, &event.what)?;
+    text.push_str("\n")
+}
+
+/// What happened.
+fn print_what(alloc: Global, text: &mut String, what: &What) -> Result<(), AllocError>
+    ensures { OnOk result (string_bytes text.new ≡ string_bytes text.old ++ what_text what.now) }
+{
+    match what {
+        What::Alarm(alarm) => print_alarm(alloc, text, alarm),
+        What::Warning(warning) => print_warning(alloc, text, warning),
+        What::Note(note) => print_note(text, note),
+        What::Detail(detail) => print_detail(alloc, text, detail),
+    }
+}
+
+/// A client, by its id in hexadecimal digits.
+fn print_named(alloc: Global, text: &mut String, client: &ClientId) -> Result<(), AllocError>
+    ensures { OnOk result (string_bytes text.new ≡ string_bytes text.old ++ named_text
+        client.now) }
+{
+    let id = hex::encode(alloc, client.bytes())?;
+    write!(text, "client {id}")
+}
+
+/// An event on which somebody must act.
+fn print_alarm(alloc: Global, text: &mut String, alarm: &Alarm) -> Result<(), AllocError>
+    ensures { OnOk result (string_bytes text.new ≡ string_bytes text.old ++ alarm_text
+        alarm.now) }
+{
+    match alarm {
+        Alarm::OwnNumber { from } => {
+            text.push_str("a peer at ")?;
+            print_address(text, *from)?;
+            text.push_str(" says the number of this gateway")
+        }
+        Alarm::TwoPeers {
+            number,
+            first,
+            second,
+        } => {
+            text.push_str("peers at ")?;
+            print_address(text, *first)?;
+            text.push_str(" and ")?;
+            print_address(text, *second)?;
+            write!(text, " both say number {number}")
+        }
+        Alarm::Conflict {
+            client,
+            number,
+            times,
+        } => {
+            print_named(alloc, text, client)?;
+            write!(
+                text,
+                ": {times} deltas of gateway {number} contradict what was taken"
+            )
+        }
+        Alarm::Halted => text.push_str("a write failed, and the gateway is halted"),
+        Alarm::NotOpened => text.push_str("an opening was refused"),
+        Alarm::Begun => text.push_str("both files were empty, and a journal is begun"),
+    }
+}
+
+/// An event at which somebody should look.
+fn print_warning(alloc: Global, text: &mut String, warning: &Warning) -> Result<(), AllocError>
+    ensures { OnOk result (string_bytes text.new ≡ string_bytes text.old ++ warning_text
+        warning.now) }
+{
+    match warning {
+        Warning::Reopened => {
+            text.push_str("the gateway was opened again, and all clients are disconnected")
+        }
+        Warning::NotCompacted => text.push_str("a compaction failed"),
+        Warning::DeltaFull { number, times } => {
+            write!(text, "{times} deltas of gateway {number} met a limit")
+        }
+        Warning::ClientFull { client } => {
+            print_named(alloc, text, client)?;
+            text.push_str(" has as many waiting messages as there may be, and gets no others")
+        }
+        Warning::TopicsNearFull { client, topics } => {
+            print_named(alloc, text, client)?;
+            write!(text, " has {topics} topic ids of 256")
+        }
+        Warning::ClientsNearFull { clients } => {
+            write!(text, "{clients} clients are known of 1024")
+        }
+        Warning::Dropped { times } => write!(text, "{times} datagrams were dropped"),
+        Warning::Unsent { times } => write!(text, "{times} datagrams could not be sent"),
+        Warning::StoodStill { seconds } => {
+            write!(text, "the clock stood still for {seconds} seconds")
+        }
+        Warning::LinkLost { number, loss } => {
+            let loss = loss.word();
+            write!(text, "the link to gateway {number} is lost: {loss}")
+        }
+        Warning::TurnedAway { from } => {
+            text.push_str("a link from ")?;
+            print_address(text, *from)?;
+            text.push_str(" was closed, as there is no place for it")
+        }
+    }
+}
+
+/// What a digest's answer held.
+fn print_answer(text: &mut String, operations: u64, octets: u64) -> Result<(), AllocError>
+    ensures { OnOk result (string_bytes text.new ≡ string_bytes text.old ++ answer_text operations
+        octets) }
+{
+    write!(text, "{operations} operations, {octets} octets")
+}
+
+/// An event of a field as it should be.
+fn print_note(text: &mut String, note: &Note) -> Result<(), AllocError>
+    ensures { OnOk result (string_bytes text.new ≡ string_bytes text.old ++ note_text note.now) }
+{
+    match note {
+        Note::LinkMade { number, from } => {
+            write!(text, "a link to gateway {number} at ")?;
+            print_address(text, *from)
+        }
+        Note::AnswerGiven {
+            number,
+            operations,
+            octets,
+        } => {
+            write!(text, "gateway {number} lacked ")?;
+            print_answer(text, *operations, *octets)
+        }
+        Note::AnswerHad {
+            number,
+            operations,
+            octets,
+        } => {
+            write!(text, "gateway {number} answered ")?;
+            print_answer(text, *operations, *octets)
+        }
+        Note::ShiftClosed {
+            shift,
+            calls,
+            thousandths,
+        } => write!(
+            text,
+            "shift {shift} had {calls} calls and took {thousandths} ms to turn"
+        ),
+    }
+}
+
+/// An event of one client.
+fn print_detail(alloc: Global, text: &mut String, detail: &Detail) -> Result<(), AllocError>
+    ensures { OnOk result (string_bytes text.new ≡ string_bytes text.old ++ detail_text
+        detail.now) }
+{
+    match detail {
+        Detail::Connected { client } => {
+            print_named(alloc, text, client)?;
+            text.push_str(" connected")
+        }
+        Detail::Lost { client } => {
+            print_named(alloc, text, client)?;
+            text.push_str(" is lost")
+        }
+        Detail::TakenOver { client, number } => {
+            print_named(alloc, text, client)?;
+            write!(text, " was taken over by gateway {number}")
+        }
+    }
+}

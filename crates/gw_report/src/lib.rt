@@ -1,0 +1,29 @@
+//! What is reported of a running gateway, as plain data.
+//!
+//! Whoever runs a gateway fills a `Report`; who shows it needs nothing else. A report has no text:
+//! names, help and labels are words of this crate. The only octets of strangers are client ids.
+//!
+//! - `count`: the numbers that a gateway shows, with their words (`Count`).
+//! - `label`: what tells numbers of one name apart.
+//! - `numbers`: all numbers of a report.
+//! - `glimpse`: a client at a glance.
+//! - `event`: what an operator may want to hear of.
+//! - `report`: all of it, and whether the gateway is well.
+//!
+//! The definitions are in `specs/`: `Words` (names and help), `Labels`, `Numbers` (which number has
+//! which name), `Events` (levels).
+#![tactic(auto)]
+
+mod count;
+mod event;
+mod glimpse;
+mod label;
+mod numbers;
+mod report;
+
+pub use count::{Count, Kind};
+pub use event::{Alarm, Detail, Event, Level, Loss, Note, Warning, What};
+pub use glimpse::{First, Glimpse, LocalGlimpse, Seen, SessionGlimpse};
+pub use label::{CallAnswer, CallKind, DeltaFault, Label, Place, frame_word, presence_word};
+pub use numbers::{LINK_COUNTS, LINKS, Link, Numbers, Row, SINGLE_COUNTS, SINGLES, Singles};
+pub use report::{Health, Report};
