@@ -72,11 +72,19 @@ label_text (labels.Place place) = place_label place
 label_text (labels.Fault place fault) = fault_label place fault
 label_text (labels.Origin number) = origin_label number
 
--- what a name is, and whether its numbers only grow
-abbrev pub head_text : Count → List ℕ
-head_text count =
+-- what a name is
+abbrev pub help_line : Count → List ℕ
+help_line count =
     codes "# HELP nimhazel_" ▹ name_of count ▹ codes " " ▹ help_of count ▹ line_end
-    ▹ codes "# TYPE nimhazel_" ▹ name_of count ▹ codes " " ▹ kind_word (kind_of count) ▹ line_end
+
+-- whether the numbers of a name only grow
+abbrev pub type_line : Count → List ℕ
+type_line count =
+    codes "# TYPE nimhazel_" ▹ name_of count ▹ codes " " ▹ kind_word (kind_of count) ▹ line_end
+
+-- both
+abbrev pub head_text : Count → List ℕ
+head_text count = help_line count ▹ type_line count
 
 -- a number, or so many thousandths
 abbrev pub value_text : Bool → ℕ → List ℕ

@@ -12,19 +12,23 @@
 //! - `answer`: the answer to it.
 //! - `exposition`, `clients`, `logging`: the pages as text.
 //! - `front`: the page at `/`.
+//! - `laws`: of the numbers' text.
 //!
 //! The definitions are in `specs/`: `Requests`, `Answers` (`IsAnswer` is what `page` promises),
-//! `Expositions`, `Clients`, `Logs` (the texts), `Texts` (words of them).
+//! `Expositions`, `Clients`, `Logs` (the texts), `Lines` (what a line of the numbers may be),
+//! `Texts` (words of texts).
 #![tactic(auto)]
 
 mod answer;
 mod clients;
 mod exposition;
 mod front;
+mod laws;
 mod logging;
 mod request;
 
 pub use answer::{Status, page};
 pub use front::FRONT;
+pub use laws::only_numbers;
 pub use logging::entry;
 pub use request::{Asked, MOST_FIELDS, MOST_OCTETS, Method, Target, asked, may_grow};
