@@ -77,3 +77,26 @@ abbrev pub fault_word : DeltaFault → List ℕ
 fault_word faults.Conflict = codes "N4"
 fault_word faults.Full = codes "N5"
 fault_word faults.Other = codes "other"
+
+-- the number of a kind of calls, which no other kind has
+abbrev pub call_number : CallKind → ℕ
+call_number kinds.Frame = 1
+call_number kinds.Take = 2
+call_number kinds.Tick = 3
+call_number kinds.View = 4
+call_number kinds.Digest = 5
+call_number kinds.Answer = 6
+call_number kinds.Compact = 7
+call_number kinds.Reopen = 8
+
+-- the number by which programs print a refusal; 0 for a call that was done
+abbrev pub answer_number : CallAnswer → ℕ
+answer_number answers.Done = 0
+answer_number answers.Frame = 1
+answer_number answers.Halted = 2
+answer_number answers.Disk = 3
+answer_number answers.Conflict = 4
+answer_number answers.Full = 5
+answer_number answers.Exhausted = 6
+answer_number answers.Memory = 7
+answer_number answers.Journal = 8

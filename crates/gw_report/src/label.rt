@@ -1,7 +1,7 @@
 //! The labels that tell numbers of one name apart: words of the program and numbers, nothing else.
 
 ghost use Rattle.std.specs.Prelude.{◌≡◌};
-ghost use Rattle.gw_report.specs.Labels.{call_word, answer_word, fault_word};
+ghost use Rattle.gw_report.specs.Labels.{call_word, call_number, answer_word, answer_number, fault_word};
 ghost use Rattle.gw_report.specs.Labels as spec;
 
 use sn_frame::MsgType;
@@ -28,6 +28,21 @@ pub enum CallKind {
     Reopen,
 }
 
+/// How many kinds of calls there are.
+pub const KIND_COUNT: usize = 8;
+
+/// The kinds of calls.
+pub const KINDS: [CallKind; KIND_COUNT] = [
+    CallKind::Frame,
+    CallKind::Take,
+    CallKind::Tick,
+    CallKind::View,
+    CallKind::Digest,
+    CallKind::Answer,
+    CallKind::Compact,
+    CallKind::Reopen,
+];
+
 /// How a call was answered: done, or refused for this cause.
 #[derive(Clone, Copy)]
 pub enum CallAnswer {
@@ -50,6 +65,22 @@ pub enum CallAnswer {
     /// The files are no journal of the gateway.
     Journal,
 }
+
+/// How many answers there are.
+pub const ANSWER_COUNT: usize = 9;
+
+/// The answers.
+pub const ANSWERS: [CallAnswer; ANSWER_COUNT] = [
+    CallAnswer::Done,
+    CallAnswer::Frame,
+    CallAnswer::Halted,
+    CallAnswer::Disk,
+    CallAnswer::Conflict,
+    CallAnswer::Full,
+    CallAnswer::Exhausted,
+    CallAnswer::Memory,
+    CallAnswer::Journal,
+];
 
 /// Why a delta of a link was refused.
 #[derive(Clone, Copy)]
@@ -175,6 +206,22 @@ impl CallKind {
             CallKind::Reopen => "reopen",
         }
     }
+
+    /// Its number, which no other kind has.
+    pub fn number(self) -> u8
+        ensures { result ≡ call_number self }
+    {
+        match self {
+            CallKind::Frame => 1,
+            CallKind::Take => 2,
+            CallKind::Tick => 3,
+            CallKind::View => 4,
+            CallKind::Digest => 5,
+            CallKind::Answer => 6,
+            CallKind::Compact => 7,
+            CallKind::Reopen => 8,
+        }
+    }
 }
 
 impl CallAnswer {
@@ -192,6 +239,23 @@ impl CallAnswer {
             CallAnswer::Exhausted => "N6",
             CallAnswer::Memory => "N7",
             CallAnswer::Journal => "N8",
+        }
+    }
+
+    /// The number by which programs print a refusal; 0 if the call was done.
+    pub fn number(self) -> u8
+        ensures { result ≡ answer_number self }
+    {
+        match self {
+            CallAnswer::Done => 0,
+            CallAnswer::Frame => 1,
+            CallAnswer::Halted => 2,
+            CallAnswer::Disk => 3,
+            CallAnswer::Conflict => 4,
+            CallAnswer::Full => 5,
+            CallAnswer::Exhausted => 6,
+            CallAnswer::Memory => 7,
+            CallAnswer::Journal => 8,
         }
     }
 }

@@ -24,6 +24,9 @@ mod report;
 pub use count::{Count, Kind};
 pub use event::{Alarm, Detail, Event, Level, Loss, Note, Warning, What};
 pub use glimpse::{First, Glimpse, LocalGlimpse, Seen, SessionGlimpse};
-pub use label::{CallAnswer, CallKind, DeltaFault, Label, Place, frame_word, presence_word};
+pub use label::{
+    ANSWER_COUNT, ANSWERS, CallAnswer, CallKind, DeltaFault, KIND_COUNT, KINDS, Label, Place,
+    frame_word, presence_word,
+};
 pub use numbers::{LINK_COUNTS, LINKS, Link, Numbers, Row, SINGLE_COUNTS, SINGLES, Singles};
 pub use report::{Health, Report};
