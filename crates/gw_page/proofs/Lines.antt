@@ -23,7 +23,7 @@ use Rattle.gw_report.specs.declared.label.Place.{Place}
 use Rattle.gw_report.specs.declared.label.Place.TheVariants as places
 use Rattle.gw_report.specs.declared.label.Label.{Label}
 use Rattle.gw_report.specs.declared.label.Label.TheVariants as labels
-use Rattle.gw_report.specs.declared.numbers.Row.{Row}
+use Rattle.gw_report.specs.declared.numbers.Sample.{Sample}
 use Rattle.gw_report.specs.declared.numbers.Link.{Link}
 use Rattle.gw_report.specs.declared.numbers.Singles.{Singles}
 use Rattle.gw_report.specs.declared.numbers.Numbers.{Numbers}
@@ -32,7 +32,7 @@ use Rattle.gw_report.specs.Words.{name_of, help_of, kind_of, kind_word, is_in_th
 use Rattle.gw_report.specs.Labels.{frame_word, call_word, answer_word, fault_word, presence_word}
 use Rattle.gw_report.specs.Numbers.{value_of, link_value}
 use Rattle.gw_page.specs.Texts.{◌▹◌, line_end}
-use Rattle.gw_page.specs.Expositions.{pair_text, pairs_text, label_text, place_text, help_line, type_line, head_text, sample_text, row_text, rows_text, single_text, link_text, column_text, labelled_text, exposition_of}
+use Rattle.gw_page.specs.Expositions.{pair_text, pairs_text, label_text, place_text, help_line, type_line, head_text, number_line, sample_text, samples_text, single_text, link_text, column_text, labelled_text, exposition_of}
 use Rattle.gw_page.specs.Lines.{is_name_octet, is_word_octet, is_help_octet, IsName, IsWord, IsLabel, IsHelp, IsType, IsSample, IsExposition}
 
 -- each name is one
@@ -274,36 +274,36 @@ type_is_line count =
 head_is_lines : (count : Count) → IsExposition (head_text count)
 head_is_lines count = both (help_line count) (type_line count) (help_is_line count) (type_is_line count)
 
-sample_is_line : (count : Count) (label : Label) (value : ℕ) → IsExposition (sample_text count label value)
-sample_is_line count label value =
+number_is_line : (count : Count) (label : Label) (value : ℕ) → IsExposition (number_line count label value)
+number_is_line count label value =
     single _ (inr (inr (name_of count, (label_text label, (is_in_thousandths count, (value, (is_name count, (is_label label, refl))))))))
 
-row_is_line : (count : Count) (row : Row) → IsExposition (row_text count row)
-row_is_line count row = sample_is_line count row.label row.value
+sample_is_line : (count : Count) (sample : Sample) → IsExposition (sample_text count sample)
+sample_is_line count sample = number_is_line count sample.label sample.value
 
-rows_are_lines : (count : Count) (rows : List Row) → IsExposition (rows_text count rows)
-rows_are_lines count rows = both _ _ (head_is_lines count) (each (row_text count) (row_is_line count) rows)
+samples_are_lines : (count : Count) (samples : List Sample) → IsExposition (samples_text count samples)
+samples_are_lines count samples = both _ _ (head_is_lines count) (each (sample_text count) (sample_is_line count) samples)
 
 single_is_lines : (all : Singles) (count : Count) → IsExposition (single_text all count)
-single_is_lines all count = both _ _ (head_is_lines count) (sample_is_line count labels.Bare (value_of all count))
+single_is_lines all count = both _ _ (head_is_lines count) (number_is_line count labels.Bare (value_of all count))
 
 link_is_line : (count : Count) (link : Link) → IsExposition (link_text count link)
-link_is_line count link = sample_is_line count (labels.Place link.place) (link_value link count)
+link_is_line count link = number_is_line count (labels.Place link.place) (link_value link count)
 
 column_is_lines : (links : List Link) (count : Count) → IsExposition (column_text links count)
 column_is_lines links count = both _ _ (head_is_lines count) (each (link_text count) (link_is_line count) links)
 
 labelled_is_lines : (n : Numbers) → IsExposition (labelled_text n)
 labelled_is_lines n =
-    both _ _ (rows_are_lines counts.FramesReceived n.frames_received)
-    (both _ _ (rows_are_lines counts.DatagramsSent n.datagrams_sent)
-    (both _ _ (rows_are_lines counts.DatagramsUnsent n.datagrams_unsent)
-    (both _ _ (rows_are_lines counts.Calls n.calls)
-    (both _ _ (rows_are_lines counts.Compactions n.compactions)
-    (both _ _ (rows_are_lines counts.Reopenings n.reopenings)
-    (both _ _ (rows_are_lines counts.Clients n.clients)
-    (both _ _ (rows_are_lines counts.JournalOctets n.journal_octets)
-    (rows_are_lines counts.MessagesKnown n.messages_known))))))))
+    both _ _ (samples_are_lines counts.FramesReceived n.frames_received)
+    (both _ _ (samples_are_lines counts.DatagramsSent n.datagrams_sent)
+    (both _ _ (samples_are_lines counts.DatagramsUnsent n.datagrams_unsent)
+    (both _ _ (samples_are_lines counts.Calls n.calls)
+    (both _ _ (samples_are_lines counts.Compactions n.compactions)
+    (both _ _ (samples_are_lines counts.Reopenings n.reopenings)
+    (both _ _ (samples_are_lines counts.Clients n.clients)
+    (both _ _ (samples_are_lines counts.JournalOctets n.journal_octets)
+    (samples_are_lines counts.MessagesKnown n.messages_known))))))))
 
 -- whatever a report has in it
 pub numbers_are_lines : (numbers : Numbers) → IsExposition (exposition_of numbers)
@@ -311,4 +311,4 @@ numbers_are_lines n =
     both _ _ (each (single_text n.singles) (single_is_lines n.singles) all_singles)
     (both _ _ (labelled_is_lines n)
     (both _ _ (each (column_text n.links) (column_is_lines n.links) all_columns)
-    (rows_are_lines counts.LinkRefused n.link_refused)))
+    (samples_are_lines counts.LinkRefused n.link_refused)))

@@ -10,7 +10,7 @@ use Rattle.gw_report.specs.declared.label.Label.{Label}
 use Rattle.gw_report.specs.declared.label.Label.TheVariants as labels
 use Rattle.gw_report.specs.declared.label.Place.{Place}
 use Rattle.gw_report.specs.declared.label.Place.TheVariants as places
-use Rattle.gw_report.specs.declared.numbers.Row.{Row}
+use Rattle.gw_report.specs.declared.numbers.Sample.{Sample}
 use Rattle.gw_report.specs.declared.numbers.Link.{Link}
 use Rattle.gw_report.specs.declared.numbers.Singles.{Singles}
 use Rattle.gw_report.specs.declared.numbers.Numbers.{Numbers}
@@ -92,26 +92,26 @@ value_text false value = codes " " ▹ decimal value ▹ line_end
 value_text true value = codes " " ▹ decimal value ▹ codes "e-3" ▹ line_end
 
 -- a number: its name, its label, its value
-abbrev pub sample_text : Count → Label → ℕ → List ℕ
-sample_text count label value =
+abbrev pub number_line : Count → Label → ℕ → List ℕ
+number_line count label value =
     codes "nimhazel_" ▹ name_of count ▹ label_text label
     ▹ value_text (is_in_thousandths count) value
 
--- a number of a row
-abbrev pub row_text : Count → Row → List ℕ
-row_text count row = sample_text count row.label row.value
+-- a number of a sample
+abbrev pub sample_text : Count → Sample → List ℕ
+sample_text count sample = number_line count sample.label sample.value
 
 -- all numbers of a name
-abbrev pub rows_text : Count → List Row → List ℕ
-rows_text count rows = head_text count ▹ flat_map (row_text count) rows
+abbrev pub samples_text : Count → List Sample → List ℕ
+samples_text count samples = head_text count ▹ flat_map (sample_text count) samples
 
 -- a number without a label
 abbrev pub single_text : Singles → Count → List ℕ
-single_text all count = head_text count ▹ sample_text count labels.Bare (value_of all count)
+single_text all count = head_text count ▹ number_line count labels.Bare (value_of all count)
 
 -- a number of a place of a link
 abbrev pub link_text : Count → Link → List ℕ
-link_text count link = sample_text count (labels.Place link.place) (link_value link count)
+link_text count link = number_line count (labels.Place link.place) (link_value link count)
 
 -- the number of this name of all places
 abbrev pub column_text : List Link → Count → List ℕ
@@ -120,15 +120,15 @@ column_text links count = head_text count ▹ flat_map (link_text count) links
 -- the numbers that have labels and are not of links
 abbrev pub labelled_text : Numbers → List ℕ
 labelled_text n =
-    rows_text counts.FramesReceived n.frames_received
-    ▹ rows_text counts.DatagramsSent n.datagrams_sent
-    ▹ rows_text counts.DatagramsUnsent n.datagrams_unsent
-    ▹ rows_text counts.Calls n.calls
-    ▹ rows_text counts.Compactions n.compactions
-    ▹ rows_text counts.Reopenings n.reopenings
-    ▹ rows_text counts.Clients n.clients
-    ▹ rows_text counts.JournalOctets n.journal_octets
-    ▹ rows_text counts.MessagesKnown n.messages_known
+    samples_text counts.FramesReceived n.frames_received
+    ▹ samples_text counts.DatagramsSent n.datagrams_sent
+    ▹ samples_text counts.DatagramsUnsent n.datagrams_unsent
+    ▹ samples_text counts.Calls n.calls
+    ▹ samples_text counts.Compactions n.compactions
+    ▹ samples_text counts.Reopenings n.reopenings
+    ▹ samples_text counts.Clients n.clients
+    ▹ samples_text counts.JournalOctets n.journal_octets
+    ▹ samples_text counts.MessagesKnown n.messages_known
 
 -- all numbers of a report, each once
 abbrev pub exposition_of : Numbers → List ℕ
@@ -136,4 +136,4 @@ exposition_of n =
     flat_map (single_text n.singles) singles
     ▹ labelled_text n
     ▹ flat_map (column_text n.links) columns
-    ▹ rows_text counts.LinkRefused n.link_refused
+    ▹ samples_text counts.LinkRefused n.link_refused

@@ -6,11 +6,11 @@
 ghost use Rattle.std.specs.Prelude.{◌≡◌, ◌++◌, IfOk, OnOk, codes, flat_map, string_bytes};
 ghost use Rattle.gw_report.specs.declared.label.Label.TheVariants as labels;
 ghost use Rattle.gw_page.specs.Texts.{◌▹◌};
-ghost use Rattle.gw_page.specs.Expositions.{pair_text, pairs_text, label_text, head_text, value_text, sample_text, row_text, rows_text, single_text, link_text, column_text, labelled_text, exposition_of};
+ghost use Rattle.gw_page.specs.Expositions.{pair_text, pairs_text, label_text, head_text, value_text, number_line, sample_text, samples_text, single_text, link_text, column_text, labelled_text, exposition_of};
 ghost use Rattle.gw_page.specs.Expositions as spec;
 
 use gw_report::{
-    CallAnswer, CallKind, Count, DeltaFault, LINKS, Label, Link, Numbers, Place, Row, SINGLES,
+    CallAnswer, CallKind, Count, DeltaFault, LINKS, Label, Link, Numbers, Place, SINGLES, Sample,
     Singles, frame_word, presence_word,
 };
 use std::alloc::{AllocError, Global};
@@ -23,7 +23,7 @@ pub fn exposition(alloc: Global, numbers: &Numbers) -> Result<String, AllocError
     print_singles(alloc, &mut text, &SINGLES, &numbers.singles)?;
     print_labelled(alloc, &mut text, numbers)?;
     print_columns(alloc, &mut text, &LINKS, numbers.links.as_slice())?;
-    print_rows(
+    print_count(
         alloc,
         &mut text,
         Count::LinkRefused,
@@ -37,45 +37,45 @@ fn print_labelled(alloc: Global, text: &mut String, numbers: &Numbers) -> Result
     ensures { OnOk result (string_bytes text.new ≡ string_bytes text.old ++ labelled_text
         numbers.now) }
 {
-    print_rows(
+    print_count(
         alloc,
         text,
         Count::FramesReceived,
         numbers.frames_received.as_slice(),
     )?;
-    print_rows(
+    print_count(
         alloc,
         text,
         Count::DatagramsSent,
         numbers.datagrams_sent.as_slice(),
     )?;
-    print_rows(
+    print_count(
         alloc,
         text,
         Count::DatagramsUnsent,
         numbers.datagrams_unsent.as_slice(),
     )?;
-    print_rows(alloc, text, Count::Calls, numbers.calls.as_slice())?;
-    print_rows(
+    print_count(alloc, text, Count::Calls, numbers.calls.as_slice())?;
+    print_count(
         alloc,
         text,
         Count::Compactions,
         numbers.compactions.as_slice(),
     )?;
-    print_rows(
+    print_count(
         alloc,
         text,
         Count::Reopenings,
         numbers.reopenings.as_slice(),
     )?;
-    print_rows(alloc, text, Count::Clients, numbers.clients.as_slice())?;
-    print_rows(
+    print_count(alloc, text, Count::Clients, numbers.clients.as_slice())?;
+    print_count(
         alloc,
         text,
         Count::JournalOctets,
         numbers.journal_octets.as_slice(),
     )?;
-    print_rows(
+    print_count(
         alloc,
         text,
         Count::MessagesKnown,
@@ -111,7 +111,7 @@ fn print_single(
 {
     let value = singles.value(count);
     print_head(text, count)?;
-    print_sample(alloc, text, count, Label::Bare, value)
+    print_number(alloc, text, count, Label::Bare, value)
 }
 
 /// The numbers of these names of all places of links.
@@ -166,35 +166,35 @@ fn print_link(alloc: Global, text: &mut String, count: Count, link: &Link) -> Re
         link.now) }
 {
     let value = link.value(count);
-    print_sample(alloc, text, count, Label::Place(link.place), value)
+    print_number(alloc, text, count, Label::Place(link.place), value)
 }
 
 /// All numbers of a name.
-fn print_rows(
+fn print_count(
     alloc: Global,
     text: &mut String,
     count: Count,
-    rows: &[Row],
+    samples: &[Sample],
 ) -> Result<(), AllocError>
-    ensures { OnOk result (string_bytes text.new ≡ string_bytes text.old ++ rows_text count
-        rows.now) }
+    ensures { OnOk result (string_bytes text.new ≡ string_bytes text.old ++ samples_text count
+        samples.now) }
 {
     print_head(text, count)?;
-    print_each(alloc, text, count, rows)
+    print_samples(alloc, text, count, samples)
 }
 
-/// A line for each row.
-fn print_each(
+/// A line for each sample.
+fn print_samples(
     alloc: Global,
     text: &mut String,
     count: Count,
-    rows: &[Row],
+    samples: &[Sample],
 ) -> Result<(), AllocError>
     ensures { OnOk result (string_bytes text.new ≡ string_bytes text.old ++ flat_map
-        (row_text count) rows.now) }
+        (sample_text count) samples.now) }
 {
-    for row in rows {
-        print_sample(alloc, text, count, row.label, row.value)?;
+    for sample in samples {
+        print_number(alloc, text, count, sample.label, sample.value)?;
     }
     Ok(())
 }
@@ -211,14 +211,14 @@ fn print_head(text: &mut String, count: Count) -> Result<(), AllocError>
 }
 
 /// The line of a number.
-fn print_sample(
+fn print_number(
     alloc: Global,
     text: &mut String,
     count: Count,
     label: Label,
     value: u64,
 ) -> Result<(), AllocError>
-    ensures { OnOk result (string_bytes text.new ≡ string_bytes text.old ++ sample_text count label
+    ensures { OnOk result (string_bytes text.new ≡ string_bytes text.old ++ number_line count label
         value) }
 {
     let name = count.name();

@@ -28,5 +28,5 @@ pub use label::{
     ANSWER_COUNT, ANSWERS, CallAnswer, CallKind, DeltaFault, KIND_COUNT, KINDS, Label, Place,
     frame_word, presence_word,
 };
-pub use numbers::{LINK_COUNTS, LINKS, Link, Numbers, Row, SINGLE_COUNTS, SINGLES, Singles};
+pub use numbers::{LINK_COUNTS, LINKS, Link, Numbers, SINGLE_COUNTS, SINGLES, Sample, Singles};
 pub use report::{Health, Report};

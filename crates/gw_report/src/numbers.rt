@@ -60,7 +60,7 @@ pub const LINKS: [Count; LINK_COUNTS] = [
 
 /// A number with the label that tells it from others of its name.
 #[derive(Clone, Copy)]
-pub struct Row {
+pub struct Sample {
     /// The label.
     pub label: Label,
     /// The number.
@@ -222,25 +222,25 @@ pub struct Numbers {
     /// Those without a label.
     pub singles: Singles,
     /// Frames that came, by type.
-    pub frames_received: Sequence<Row>,
+    pub frames_received: Sequence<Sample>,
     /// Datagrams that went out, by type.
-    pub datagrams_sent: Sequence<Row>,
+    pub datagrams_sent: Sequence<Sample>,
     /// Datagrams that did not go out, by cause.
-    pub datagrams_unsent: Sequence<Row>,
+    pub datagrams_unsent: Sequence<Sample>,
     /// Calls of closed shifts, by kind and answer.
-    pub calls: Sequence<Row>,
+    pub calls: Sequence<Sample>,
     /// Compactions, by result.
-    pub compactions: Sequence<Row>,
+    pub compactions: Sequence<Sample>,
     /// Openings after a failure, by place.
-    pub reopenings: Sequence<Row>,
+    pub reopenings: Sequence<Sample>,
     /// Clients, by presence.
-    pub clients: Sequence<Row>,
+    pub clients: Sequence<Sample>,
     /// The octets of each file of the journal.
-    pub journal_octets: Sequence<Row>,
+    pub journal_octets: Sequence<Sample>,
     /// The places of links.
     pub links: Sequence<Link>,
     /// Deltas that were refused, by place and fault.
-    pub link_refused: Sequence<Row>,
+    pub link_refused: Sequence<Sample>,
     /// Messages of each origin that are known here.
-    pub messages_known: Sequence<Row>,
+    pub messages_known: Sequence<Sample>,
 }

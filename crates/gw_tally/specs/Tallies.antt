@@ -10,15 +10,15 @@ use Rattle.gw_report.specs.declared.label.CallKind.{CallKind}
 use Rattle.gw_report.specs.declared.label.CallKind.TheVariants as kinds
 use Rattle.gw_report.specs.declared.label.Label.TheVariants as labels
 use Rattle.gw_report.specs.declared.label.TheConstants.{KINDS as all_kinds, ANSWERS as all_answers}
-use Rattle.gw_report.specs.declared.numbers.Row.{Row}
+use Rattle.gw_report.specs.declared.numbers.Sample.{Sample}
 use Rattle.gw_report.specs.Labels.{call_number, answer_number}
 use Rattle.gw_shift.specs.Calls.{Call}
 
 -- the kind of a call
 abbrev pub kind_of : Step → CallKind
-kind_of (steps.Frame from bytes now) = kinds.Frame
+kind_of (steps.Frame from bytes moment) = kinds.Frame
 kind_of (steps.Take delta) = kinds.Take
-kind_of (steps.Tick now) = kinds.Tick
+kind_of (steps.Tick moment) = kinds.Tick
 kind_of (steps.View client) = kinds.View
 kind_of steps.Digest = kinds.Digest
 kind_of (steps.Answer digest) = kinds.Answer
@@ -37,16 +37,16 @@ is_call kind answer call =
     && (answered call.answer == answer_number answer)
 
 -- how many calls of a history are of this kind, and were answered so
-abbrev pub row_of : List Call → CallKind → CallAnswer → Row
-row_of history kind answer = record {
+abbrev pub sample_of : List Call → CallKind → CallAnswer → Sample
+sample_of history kind answer = record {
   label = labels.Call kind answer;
   value = count_by (is_call kind answer) history;
 }
 
 -- the calls of a kind, by answer
-abbrev pub rows_of_kind : List Call → List CallAnswer → CallKind → List Row
-rows_of_kind history answers kind = map (row_of history kind) answers
+abbrev pub samples_of_kind : List Call → List CallAnswer → CallKind → List Sample
+samples_of_kind history answers kind = map (sample_of history kind) answers
 
 -- all calls of a history, by kind and answer
-abbrev pub rows_of : List Call → List Row
-rows_of history = flat_map (rows_of_kind history all_answers) all_kinds
+abbrev pub samples_of : List Call → List Sample
+samples_of history = flat_map (samples_of_kind history all_answers) all_kinds

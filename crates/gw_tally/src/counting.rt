@@ -2,54 +2,54 @@
 
 ghost use Rattle.std.specs.Prelude.{◌≡◌, ◌++◌, IfOk, OnOk, count_by, flat_map};
 ghost use Rattle.gw_answer.specs.Answers.{said};
-ghost use Rattle.gw_tally.specs.Tallies.{rows_of, rows_of_kind};
+ghost use Rattle.gw_tally.specs.Tallies.{samples_of, samples_of_kind};
 ghost use Rattle.gw_tally.specs.Tallies as spec;
 
 use gw_answer::{Answer, Step};
-use gw_report::{ANSWERS, CallAnswer, CallKind, KINDS, Label, Row};
+use gw_report::{ANSWERS, CallAnswer, CallKind, KINDS, Label, Sample};
 use gw_shift::Entry;
 use octets::{NoMemory, Sequence};
 use std::alloc::Global;
 
-/// A row for each kind of call and each answer: how many calls of the history are so. Each kind is
-/// counted by itself, so the history is walked once for each row.
-pub fn tally(alloc: Global, history: &[Entry]) -> Result<Sequence<Row>, NoMemory>
-    ensures { IfOk result (λ rows. rows ≡ rows_of history.now) }
+/// A sample for each kind of call and each answer: how many calls of the history are so. Each kind is
+/// counted by itself, so the history is walked once for each sample.
+pub fn tally(alloc: Global, history: &[Entry]) -> Result<Sequence<Sample>, NoMemory>
+    ensures { IfOk result (λ samples. samples ≡ samples_of history.now) }
 {
-    let mut rows = Vec::new(alloc);
-    push_kinds(&mut rows, history, &ANSWERS, &KINDS)?;
-    Ok(Sequence::new(rows))
+    let mut samples = Vec::new(alloc);
+    push_kinds(&mut samples, history, &ANSWERS, &KINDS)?;
+    Ok(Sequence::new(samples))
 }
 
-/// The rows of these kinds.
+/// The samples of these kinds.
 fn push_kinds(
-    rows: &mut Vec<Row>,
+    samples: &mut Vec<Sample>,
     history: &[Entry],
     answers: &[CallAnswer],
     kinds: &[CallKind],
 ) -> Result<(), NoMemory>
-    ensures { OnOk result (rows.new.items ≡ rows.old.items ++ flat_map
-        (rows_of_kind history.now answers.now) kinds.now) }
+    ensures { OnOk result (samples.new.items ≡ samples.old.items ++ flat_map
+        (samples_of_kind history.now answers.now) kinds.now) }
 {
     for kind in kinds {
-        push_kind(rows, history, answers, *kind)?;
+        push_kind(samples, history, answers, *kind)?;
     }
     Ok(())
 }
 
-/// The rows of a kind.
+/// The samples of a kind.
 fn push_kind(
-    rows: &mut Vec<Row>,
+    samples: &mut Vec<Sample>,
     history: &[Entry],
     answers: &[CallAnswer],
     kind: CallKind,
 ) -> Result<(), NoMemory>
-    ensures { OnOk result (rows.new.items ≡ rows.old.items ++ rows_of_kind history.now answers.now
+    ensures { OnOk result (samples.new.items ≡ samples.old.items ++ samples_of_kind history.now answers.now
         kind) }
 {
     for answer in answers {
         let value = count(history, kind, *answer) as u64;
-        rows.push(Row {
+        samples.push(Sample {
             label: Label::Call(kind, *answer),
             value,
         })?;
