@@ -5,11 +5,12 @@ ghost use Rattle.gw_page.specs.Logs.{log_text, event_text, entry_text, what_text
 
 use super::clients::print_address;
 use gw_report::{Alarm, Detail, Event, Note, Warning, What};
+use octets::NoMemory;
 use rep_op::ClientId;
 use std::alloc::{AllocError, Global};
 
 /// The line of an event for the journal of the system, which takes what is in `<>` for the level.
-pub fn entry(alloc: Global, event: &Event) -> Result<String, AllocError>
+pub fn entry(alloc: Global, event: &Event) -> Result<String, NoMemory>
     ensures { IfOk result (λ text. string_bytes text ≡ entry_text event.now) }
 {
     let level = event.level().number();

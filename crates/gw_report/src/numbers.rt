@@ -69,7 +69,7 @@ pub struct Sample {
 
 /// The numbers without a label. Durations are in seconds, or in thousandths if
 /// `Count::in_thousandths` says so.
-#[derive(Drop)]
+#[derive(Default, Drop)]
 pub struct Singles {
     /// Since the program began.
     pub up_seconds: u64,

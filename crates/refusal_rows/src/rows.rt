@@ -10,6 +10,7 @@ use crate::journals::{Disks, Journals};
 use crate::links::Links;
 use crate::locals::Locals;
 use crate::replicas::Replicas;
+use crate::reports::Reports;
 use crate::said::{Said, Stop};
 use crate::serving;
 use crate::sessions::Sessions;
@@ -95,8 +96,11 @@ pub(crate) const ROWS: &str = "
     gw_shift::Shift::open
     gw_shift::Shift::call
     gw_shift::Shift::after
+    gw_tally::tally
     gw_net::LinkIn::feed
     gw_net::link_out
+    gw_page::page
+    gw_page::entry
     gw_main::settings
     gw_main::begin
     file_disk::FileDisk::at
@@ -157,6 +161,7 @@ fn play_high(alloc: Global, said: &mut Said, home: &str, call: &str) -> Result<(
         "jr_journal" => play::<Journals>(alloc, said, call),
         "gw_world" | "gw_play" => play::<Worlds>(alloc, said, call),
         "gw_net" => play::<Links>(alloc, said, call),
+        "gw_page" | "gw_tally" => play::<Reports>(alloc, said, call),
         "gw_main" => play::<Starts>(alloc, said, call),
         _ => play_both(alloc, said, home, call),
     }
