@@ -73,11 +73,11 @@ pub fn page(alloc: Global, request: &[u8], report: &Report) -> Result<Vec<u8>, N
 fn reply(alloc: Global, what: Asked, report: &Report) -> Result<Vec<u8>, NoMemory>
     ensures { IfOk result (λ answer. answer.items ≡ reply_text what report.now) }
 {
-    let body = body(alloc, what, report)?;
-    let mut answer = head(
+    let body = reply_body(alloc, what, report)?;
+    let mut answer = reply_head(
         alloc,
-        status(what, report.health),
-        content_type(what),
+        reply_status(what, report.health),
+        reply_type(what),
         body.len(),
     )?;
     answer.extend_from_slice(sent(what, body.as_slice()))?;
@@ -85,7 +85,7 @@ fn reply(alloc: Global, what: Asked, report: &Report) -> Result<Vec<u8>, NoMemor
 }
 
 /// The body of the answer to what is asked for.
-fn body(alloc: Global, what: Asked, report: &Report) -> Result<Vec<u8>, NoMemory>
+fn reply_body(alloc: Global, what: Asked, report: &Report) -> Result<Vec<u8>, NoMemory>
     ensures { IfOk result (λ text. text.items ≡ body_of what report.now) }
 {
     match what {
@@ -106,7 +106,7 @@ fn shown(alloc: Global, target: Target, report: &Report) -> Result<Vec<u8>, NoMe
         Target::Metrics => Ok(exposition(alloc, &report.numbers)?.into_bytes()),
         Target::Clients => clients(alloc, report.clients.as_slice()),
         Target::Log => Ok(log(alloc, report.events.as_slice())?.into_bytes()),
-        Target::Health => Ok(health(alloc, report.health)?.into_bytes()),
+        Target::Health => Ok(health_page(alloc, report.health)?.into_bytes()),
     }
 }
 
@@ -127,7 +127,7 @@ fn is_ill(health: Health) -> bool
 }
 
 /// Whether the gateway is well, or what is wrong.
-fn health(alloc: Global, health: Health) -> Result<String, AllocError>
+fn health_page(alloc: Global, health: Health) -> Result<String, AllocError>
     ensures { IfOk result (λ text. string_bytes text ≡ health_text health) }
 {
     if !is_ill(health) {
@@ -153,7 +153,7 @@ fn complain(text: &mut String, is_wrong: bool, words: &str) -> Result<(), AllocE
 }
 
 /// The head of an answer, with the length of its body.
-fn head(alloc: Global, status: Status, kind: &str, size: usize) -> Result<Vec<u8>, AllocError>
+fn reply_head(alloc: Global, status: Status, kind: &str, size: usize) -> Result<Vec<u8>, AllocError>
     ensures { IfOk result (λ text. text.items ≡ head_of status kind.now size) }
 {
     let word = status.word();
@@ -191,7 +191,7 @@ fn sent_by(method: Method, body: &[u8]) -> &[u8]
 }
 
 /// The status of what is asked for.
-fn status(what: Asked, health: Health) -> Status
+fn reply_status(what: Asked, health: Health) -> Status
     ensures { result ≡ status_of what health }
 {
     match what {
@@ -223,7 +223,7 @@ fn status_shown(target: Target, health: Health) -> Status
 }
 
 /// What the answer is written in.
-fn content_type(what: Asked) -> &'static str
+fn reply_type(what: Asked) -> &'static str
     ensures { result.now ≡ type_of what }
 {
     match what {

@@ -53,7 +53,7 @@ fn print_client(alloc: Global, text: &mut Vec<u8>, seen: &Seen) -> Result<(), No
 {
     let id = seen.glimpse.client.bytes();
     let digits = hex::encode(alloc, id)?;
-    let rest = rest(alloc, seen)?;
+    let rest = other_columns(alloc, seen)?;
     text.extend_from_slice(digits.as_bytes())?;
     text.push(b'\t')?;
     text.extend_from_slice(plain(id))?;
@@ -87,7 +87,7 @@ fn is_plain_octet(octet: u8) -> bool
 }
 
 /// What comes after the client's id.
-fn rest(alloc: Global, seen: &Seen) -> Result<String, AllocError>
+fn other_columns(alloc: Global, seen: &Seen) -> Result<String, AllocError>
     ensures { IfOk result (λ text. string_bytes text ≡ rest_text seen.now) }
 {
     let glimpse = &seen.glimpse;

@@ -102,17 +102,17 @@ fn asked_of(octets: &[u8], head: RequestSpans) -> Asked
     ensures { result ≡ asked_by (method_of (span_bytes octets.now head.method))
         (target_of (span_bytes octets.now head.path)) }
 {
-    let Some(method) = method(head.method.of(octets)) else {
+    let Some(method) = known_method(head.method.of(octets)) else {
         return Asked::OtherMethod;
     };
-    let Some(target) = target(head.path.of(octets)) else {
+    let Some(target) = known_target(head.path.of(octets)) else {
         return Asked::Elsewhere { method };
     };
     Asked::Shown { method, target }
 }
 
 /// The method of these octets, whose case counts.
-fn method(octets: &[u8]) -> Option<Method>
+fn known_method(octets: &[u8]) -> Option<Method>
     ensures { result ≡ method_of octets.now }
 {
     if octets == b"GET".as_slice() {
@@ -125,7 +125,7 @@ fn method(octets: &[u8]) -> Option<Method>
 }
 
 /// What is at a path, whose case counts. A query is part of it, so a path with one is another path.
-fn target(path: &[u8]) -> Option<Target>
+fn known_target(path: &[u8]) -> Option<Target>
     ensures { result ≡ target_of path.now }
 {
     if path == b"/".as_slice() {
