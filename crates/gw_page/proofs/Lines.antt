@@ -1,5 +1,5 @@
 -- The numbers' text is lines of names, labels and numbers.
-use Rattle.std.proofs.Common.{◌≡◌, ◌⊎◌, inl, inr, ℕ, List, [], ◌∷◌, ◌++◌, Bool, refl, sym, ◌∙◌, ap, ap₂, append-nil}
+use Rattle.std.proofs.Common.{◌≡◌, ◌⊎◌, inl, inr, ℕ, List, [], ◌∷◌, ◌++◌, Bool, false, refl, sym, ◌∙◌, ap, ap₂, append-nil}
 use Rattle.std.specs.Prelude.{All, IsTrue, codes, flat_map}
 use Rattle.std.specs.List.{list_all}
 use Rattle.std.specs.Fmt.{decimal}
@@ -9,6 +9,10 @@ use Rattle.sn_frame.specs.declared.msg_type.MsgType.{MsgType}
 use Rattle.sn_frame.specs.declared.msg_type.MsgType.TheVariants as frames
 use Rattle.sn_session.specs.declared.presence.Presence.{Presence}
 use Rattle.sn_session.specs.declared.presence.Presence.TheVariants as presences
+use Rattle.gw_report.specs.declared.count.Single.{Single}
+use Rattle.gw_report.specs.declared.count.Single.TheVariants as singles
+use Rattle.gw_report.specs.declared.count.Column.{Column}
+use Rattle.gw_report.specs.declared.count.Column.TheVariants as columns
 use Rattle.gw_report.specs.declared.count.Count.{Count}
 use Rattle.gw_report.specs.declared.count.Count.TheVariants as counts
 use Rattle.gw_report.specs.declared.count.Kind.{Kind}
@@ -27,115 +31,126 @@ use Rattle.gw_report.specs.declared.numbers.Sample.{Sample}
 use Rattle.gw_report.specs.declared.numbers.Link.{Link}
 use Rattle.gw_report.specs.declared.numbers.Singles.{Singles}
 use Rattle.gw_report.specs.declared.numbers.Numbers.{Numbers}
-use Rattle.gw_report.specs.declared.numbers.TheConstants.{SINGLES as all_singles, LINKS as all_columns}
-use Rattle.gw_report.specs.Words.{name_of, help_of, kind_of, kind_word, is_in_thousandths}
+use Rattle.gw_report.specs.declared.numbers.TheConstants.{SINGLES as all_singles, COLUMNS as all_columns}
+use Rattle.gw_report.specs.Words.{kind_word, single_name, single_help, single_kind, is_in_thousandths, column_name, column_help, column_kind, count_name, count_help, count_kind}
 use Rattle.gw_report.specs.Labels.{frame_word, call_word, answer_word, fault_word, presence_word}
 use Rattle.gw_report.specs.Numbers.{value_of, link_value}
 use Rattle.gw_page.specs.Texts.{◌▹◌, line_end}
-use Rattle.gw_page.specs.Expositions.{pair_text, pairs_text, label_text, place_text, help_line, type_line, head_text, number_line, sample_text, samples_text, single_text, link_text, column_text, labelled_text, exposition_of}
+use Rattle.gw_page.specs.Expositions.{pair_text, pairs_text, label_text, place_text, help_line, type_line, head_text, number_line, sample_text, count_text, single_text, link_text, column_text, labelled_text, exposition_of}
 use Rattle.gw_page.specs.Lines.{is_name_octet, is_word_octet, is_help_octet, IsName, IsWord, IsLabel, IsHelp, IsType, IsSample, IsExposition}
 
--- each name is one
-is_name : (count : Count) → IsName (name_of count)
-unfolding name_of
-is_name counts.UpSeconds = refl
-is_name counts.Shift = refl
-is_name counts.ShiftCalls = refl
-is_name counts.DatagramsReceived = refl
-is_name counts.DatagramsDropped = refl
-is_name counts.TurnSeconds = refl
-is_name counts.TurnSecondsMax = refl
-is_name counts.CompactionSeconds = refl
-is_name counts.CompactionSecondsMax = refl
-is_name counts.Halted = refl
-is_name counts.TickAgeSeconds = refl
-is_name counts.TickSecondsMax = refl
-is_name counts.StoodStillSeconds = refl
-is_name counts.LinksTurnedAway = refl
-is_name counts.ClientsOwned = refl
-is_name counts.ClientsBound = refl
-is_name counts.WaitingMessages = refl
-is_name counts.WaitingMost = refl
-is_name counts.ClientsNearFull = refl
-is_name counts.ClientsFull = refl
-is_name counts.TopicsNearFull = refl
-is_name counts.StuckSecondsMost = refl
-is_name counts.SetMark = refl
-is_name counts.EventsLost = refl
-is_name counts.ResidentMemory = refl
-is_name counts.StartTime = refl
-is_name counts.FramesReceived = refl
-is_name counts.DatagramsSent = refl
-is_name counts.DatagramsUnsent = refl
-is_name counts.Calls = refl
-is_name counts.Compactions = refl
-is_name counts.Reopenings = refl
-is_name counts.Clients = refl
-is_name counts.JournalOctets = refl
-is_name counts.LinkUp = refl
-is_name counts.LinkNumber = refl
-is_name counts.LinkSinceSeconds = refl
-is_name counts.LinkHeardSeconds = refl
-is_name counts.LinkWaitingOctets = refl
-is_name counts.LinkTold = refl
-is_name counts.LinkTaken = refl
-is_name counts.LinkAnswerOperations = refl
-is_name counts.LinkReceivedOctets = refl
-is_name counts.LinkSentOctets = refl
-is_name counts.DialsFailed = refl
-is_name counts.LinkRefused = refl
-is_name counts.MessagesKnown = refl
+-- each name, and each help, is one
+single_is_name : (it : Single) → IsName (single_name it)
+unfolding single_name
+single_is_name singles.UpSeconds = refl
+single_is_name singles.Shift = refl
+single_is_name singles.ShiftCalls = refl
+single_is_name singles.DatagramsReceived = refl
+single_is_name singles.DatagramsDropped = refl
+single_is_name singles.TurnSeconds = refl
+single_is_name singles.TurnSecondsMax = refl
+single_is_name singles.CompactionSeconds = refl
+single_is_name singles.CompactionSecondsMax = refl
+single_is_name singles.Halted = refl
+single_is_name singles.TickAgeSeconds = refl
+single_is_name singles.TickSecondsMax = refl
+single_is_name singles.StoodStillSeconds = refl
+single_is_name singles.LinksTurnedAway = refl
+single_is_name singles.ClientsOwned = refl
+single_is_name singles.ClientsBound = refl
+single_is_name singles.WaitingMessages = refl
+single_is_name singles.WaitingMost = refl
+single_is_name singles.ClientsNearFull = refl
+single_is_name singles.ClientsFull = refl
+single_is_name singles.TopicsNearFull = refl
+single_is_name singles.StuckSecondsMost = refl
+single_is_name singles.SetMark = refl
+single_is_name singles.EventsLost = refl
+single_is_name singles.ResidentMemory = refl
+single_is_name singles.StartTime = refl
 
--- each help is one
-is_help : (count : Count) → IsTrue (list_all is_help_octet (help_of count))
-unfolding help_of
-is_help counts.UpSeconds = refl
-is_help counts.Shift = refl
-is_help counts.ShiftCalls = refl
-is_help counts.DatagramsReceived = refl
-is_help counts.DatagramsDropped = refl
-is_help counts.TurnSeconds = refl
-is_help counts.TurnSecondsMax = refl
-is_help counts.CompactionSeconds = refl
-is_help counts.CompactionSecondsMax = refl
-is_help counts.Halted = refl
-is_help counts.TickAgeSeconds = refl
-is_help counts.TickSecondsMax = refl
-is_help counts.StoodStillSeconds = refl
-is_help counts.LinksTurnedAway = refl
-is_help counts.ClientsOwned = refl
-is_help counts.ClientsBound = refl
-is_help counts.WaitingMessages = refl
-is_help counts.WaitingMost = refl
-is_help counts.ClientsNearFull = refl
-is_help counts.ClientsFull = refl
-is_help counts.TopicsNearFull = refl
-is_help counts.StuckSecondsMost = refl
-is_help counts.SetMark = refl
-is_help counts.EventsLost = refl
-is_help counts.ResidentMemory = refl
-is_help counts.StartTime = refl
-is_help counts.FramesReceived = refl
-is_help counts.DatagramsSent = refl
-is_help counts.DatagramsUnsent = refl
-is_help counts.Calls = refl
-is_help counts.Compactions = refl
-is_help counts.Reopenings = refl
-is_help counts.Clients = refl
-is_help counts.JournalOctets = refl
-is_help counts.LinkUp = refl
-is_help counts.LinkNumber = refl
-is_help counts.LinkSinceSeconds = refl
-is_help counts.LinkHeardSeconds = refl
-is_help counts.LinkWaitingOctets = refl
-is_help counts.LinkTold = refl
-is_help counts.LinkTaken = refl
-is_help counts.LinkAnswerOperations = refl
-is_help counts.LinkReceivedOctets = refl
-is_help counts.LinkSentOctets = refl
-is_help counts.DialsFailed = refl
-is_help counts.LinkRefused = refl
-is_help counts.MessagesKnown = refl
+single_is_help : (it : Single) → IsTrue (list_all is_help_octet (single_help it))
+unfolding single_help
+single_is_help singles.UpSeconds = refl
+single_is_help singles.Shift = refl
+single_is_help singles.ShiftCalls = refl
+single_is_help singles.DatagramsReceived = refl
+single_is_help singles.DatagramsDropped = refl
+single_is_help singles.TurnSeconds = refl
+single_is_help singles.TurnSecondsMax = refl
+single_is_help singles.CompactionSeconds = refl
+single_is_help singles.CompactionSecondsMax = refl
+single_is_help singles.Halted = refl
+single_is_help singles.TickAgeSeconds = refl
+single_is_help singles.TickSecondsMax = refl
+single_is_help singles.StoodStillSeconds = refl
+single_is_help singles.LinksTurnedAway = refl
+single_is_help singles.ClientsOwned = refl
+single_is_help singles.ClientsBound = refl
+single_is_help singles.WaitingMessages = refl
+single_is_help singles.WaitingMost = refl
+single_is_help singles.ClientsNearFull = refl
+single_is_help singles.ClientsFull = refl
+single_is_help singles.TopicsNearFull = refl
+single_is_help singles.StuckSecondsMost = refl
+single_is_help singles.SetMark = refl
+single_is_help singles.EventsLost = refl
+single_is_help singles.ResidentMemory = refl
+single_is_help singles.StartTime = refl
+
+column_is_name : (it : Column) → IsName (column_name it)
+unfolding column_name
+column_is_name columns.Up = refl
+column_is_name columns.Number = refl
+column_is_name columns.SinceSeconds = refl
+column_is_name columns.HeardSeconds = refl
+column_is_name columns.WaitingOctets = refl
+column_is_name columns.Told = refl
+column_is_name columns.Taken = refl
+column_is_name columns.AnswerOperations = refl
+column_is_name columns.ReceivedOctets = refl
+column_is_name columns.SentOctets = refl
+column_is_name columns.DialsFailed = refl
+
+column_is_help : (it : Column) → IsTrue (list_all is_help_octet (column_help it))
+unfolding column_help
+column_is_help columns.Up = refl
+column_is_help columns.Number = refl
+column_is_help columns.SinceSeconds = refl
+column_is_help columns.HeardSeconds = refl
+column_is_help columns.WaitingOctets = refl
+column_is_help columns.Told = refl
+column_is_help columns.Taken = refl
+column_is_help columns.AnswerOperations = refl
+column_is_help columns.ReceivedOctets = refl
+column_is_help columns.SentOctets = refl
+column_is_help columns.DialsFailed = refl
+
+count_is_name : (it : Count) → IsName (count_name it)
+unfolding count_name
+count_is_name counts.FramesReceived = refl
+count_is_name counts.DatagramsSent = refl
+count_is_name counts.DatagramsUnsent = refl
+count_is_name counts.Calls = refl
+count_is_name counts.Compactions = refl
+count_is_name counts.Reopenings = refl
+count_is_name counts.Clients = refl
+count_is_name counts.JournalOctets = refl
+count_is_name counts.MessagesKnown = refl
+count_is_name counts.LinkRefused = refl
+
+count_is_help : (it : Count) → IsTrue (list_all is_help_octet (count_help it))
+unfolding count_help
+count_is_help counts.FramesReceived = refl
+count_is_help counts.DatagramsSent = refl
+count_is_help counts.DatagramsUnsent = refl
+count_is_help counts.Calls = refl
+count_is_help counts.Compactions = refl
+count_is_help counts.Reopenings = refl
+count_is_help counts.Clients = refl
+count_is_help counts.JournalOctets = refl
+count_is_help counts.MessagesKnown = refl
+count_is_help counts.LinkRefused = refl
 
 is_kind : (kind : Kind) → IsName (kind_word kind)
 is_kind kinds.Counter = refl
@@ -262,48 +277,58 @@ each f every [] = nothing
 each f every (x ∷ xs) = both (f x) (flat_map f xs) (every x) (each f every xs)
 
 -- the lines of a name, and of a number
-help_is_line : (count : Count) → IsExposition (help_line count)
-help_is_line count =
-    single (help_line count) (inl (name_of count, (help_of count, (is_name count, (is_help count, refl)))))
+help_is_line : (name help : List ℕ) → IsName name → IsTrue (list_all is_help_octet help)
+    → IsExposition (help_line name help)
+help_is_line name help named plain = single (help_line name help) (inl (name, (help, (named, (plain, refl)))))
 
-type_is_line : (count : Count) → IsExposition (type_line count)
-type_is_line count =
-    single (type_line count)
-    (inr (inl (name_of count, (kind_word (kind_of count), (is_name count, (is_kind (kind_of count), refl))))))
+type_is_line : (name : List ℕ) (kind : Kind) → IsName name → IsExposition (type_line name kind)
+type_is_line name kind named =
+    single (type_line name kind) (inr (inl (name, (kind_word kind, (named, (is_kind kind, refl))))))
 
-head_is_lines : (count : Count) → IsExposition (head_text count)
-head_is_lines count = both (help_line count) (type_line count) (help_is_line count) (type_is_line count)
+head_is_lines : (name help : List ℕ) (kind : Kind) → IsName name → IsTrue (list_all is_help_octet help)
+    → IsExposition (head_text name help kind)
+head_is_lines name help kind named plain =
+    both (help_line name help) (type_line name kind) (help_is_line name help named plain) (type_is_line name kind named)
 
-number_is_line : (count : Count) (label : Label) (value : ℕ) → IsExposition (number_line count label value)
-number_is_line count label value =
-    single _ (inr (inr (name_of count, (label_text label, (is_in_thousandths count, (value, (is_name count, (is_label label, refl))))))))
+number_is_line : (name : List ℕ) (label : Label) (in_thousandths : Bool) (value : ℕ) → IsName name
+    → IsExposition (number_line name label in_thousandths value)
+number_is_line name label in_thousandths value named =
+    single _ (inr (inr (name, (label_text label, (in_thousandths, (value, (named, (is_label label, refl))))))))
+
+single_is_lines : (all : Singles) (it : Single) → IsExposition (single_text all it)
+single_is_lines all it =
+    both _ _ (head_is_lines (single_name it) (single_help it) (single_kind it) (single_is_name it) (single_is_help it))
+    (number_is_line (single_name it) labels.Bare (is_in_thousandths it) (value_of all it) (single_is_name it))
+
+link_is_line : (column : Column) (link : Link) → IsExposition (link_text column link)
+link_is_line column link =
+    number_is_line (column_name column) (labels.Place link.place) false (link_value link column) (column_is_name column)
+
+column_is_lines : (links : List Link) (column : Column) → IsExposition (column_text links column)
+column_is_lines links column =
+    both _ _ (head_is_lines (column_name column) (column_help column) (column_kind column) (column_is_name column) (column_is_help column))
+    (each (link_text column) (link_is_line column) links)
 
 sample_is_line : (count : Count) (sample : Sample) → IsExposition (sample_text count sample)
-sample_is_line count sample = number_is_line count sample.label sample.value
+sample_is_line count sample =
+    number_is_line (count_name count) sample.label false sample.value (count_is_name count)
 
-samples_are_lines : (count : Count) (samples : List Sample) → IsExposition (samples_text count samples)
-samples_are_lines count samples = both _ _ (head_is_lines count) (each (sample_text count) (sample_is_line count) samples)
-
-single_is_lines : (all : Singles) (count : Count) → IsExposition (single_text all count)
-single_is_lines all count = both _ _ (head_is_lines count) (number_is_line count labels.Bare (value_of all count))
-
-link_is_line : (count : Count) (link : Link) → IsExposition (link_text count link)
-link_is_line count link = number_is_line count (labels.Place link.place) (link_value link count)
-
-column_is_lines : (links : List Link) (count : Count) → IsExposition (column_text links count)
-column_is_lines links count = both _ _ (head_is_lines count) (each (link_text count) (link_is_line count) links)
+count_is_lines : (count : Count) (samples : List Sample) → IsExposition (count_text count samples)
+count_is_lines count samples =
+    both _ _ (head_is_lines (count_name count) (count_help count) (count_kind count) (count_is_name count) (count_is_help count))
+    (each (sample_text count) (sample_is_line count) samples)
 
 labelled_is_lines : (n : Numbers) → IsExposition (labelled_text n)
 labelled_is_lines n =
-    both _ _ (samples_are_lines counts.FramesReceived n.frames_received)
-    (both _ _ (samples_are_lines counts.DatagramsSent n.datagrams_sent)
-    (both _ _ (samples_are_lines counts.DatagramsUnsent n.datagrams_unsent)
-    (both _ _ (samples_are_lines counts.Calls n.calls)
-    (both _ _ (samples_are_lines counts.Compactions n.compactions)
-    (both _ _ (samples_are_lines counts.Reopenings n.reopenings)
-    (both _ _ (samples_are_lines counts.Clients n.clients)
-    (both _ _ (samples_are_lines counts.JournalOctets n.journal_octets)
-    (samples_are_lines counts.MessagesKnown n.messages_known))))))))
+    both _ _ (count_is_lines counts.FramesReceived n.frames_received)
+    (both _ _ (count_is_lines counts.DatagramsSent n.datagrams_sent)
+    (both _ _ (count_is_lines counts.DatagramsUnsent n.datagrams_unsent)
+    (both _ _ (count_is_lines counts.Calls n.calls)
+    (both _ _ (count_is_lines counts.Compactions n.compactions)
+    (both _ _ (count_is_lines counts.Reopenings n.reopenings)
+    (both _ _ (count_is_lines counts.Clients n.clients)
+    (both _ _ (count_is_lines counts.JournalOctets n.journal_octets)
+    (count_is_lines counts.MessagesKnown n.messages_known))))))))
 
 -- whatever a report has in it
 pub numbers_are_lines : (numbers : Numbers) → IsExposition (exposition_of numbers)
@@ -311,4 +336,4 @@ numbers_are_lines n =
     both _ _ (each (single_text n.singles) (single_is_lines n.singles) all_singles)
     (both _ _ (labelled_is_lines n)
     (both _ _ (each (column_text n.links) (column_is_lines n.links) all_columns)
-    (samples_are_lines counts.LinkRefused n.link_refused)))
+    (count_is_lines counts.LinkRefused n.link_refused)))

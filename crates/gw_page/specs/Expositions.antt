@@ -1,6 +1,9 @@
 -- The text of a gateway's numbers, as Prometheus reads it (text exposition format 0.0.4).
 use Rattle.std.specs.Prelude.{ℕ, List, [], Bool, true, false, codes, flat_map}
 use Rattle.std.specs.Fmt.{decimal}
+use Rattle.gw_report.specs.declared.count.Kind.{Kind}
+use Rattle.gw_report.specs.declared.count.Single.{Single}
+use Rattle.gw_report.specs.declared.count.Column.{Column}
 use Rattle.gw_report.specs.declared.count.Count.{Count}
 use Rattle.gw_report.specs.declared.count.Count.TheVariants as counts
 use Rattle.gw_report.specs.declared.label.CallKind.{CallKind}
@@ -14,8 +17,8 @@ use Rattle.gw_report.specs.declared.numbers.Sample.{Sample}
 use Rattle.gw_report.specs.declared.numbers.Link.{Link}
 use Rattle.gw_report.specs.declared.numbers.Singles.{Singles}
 use Rattle.gw_report.specs.declared.numbers.Numbers.{Numbers}
-use Rattle.gw_report.specs.declared.numbers.TheConstants.{SINGLES as singles, LINKS as columns}
-use Rattle.gw_report.specs.Words.{name_of, help_of, kind_of, kind_word, is_in_thousandths}
+use Rattle.gw_report.specs.declared.numbers.TheConstants.{SINGLES as all_singles, COLUMNS as all_columns}
+use Rattle.gw_report.specs.Words.{kind_word, single_name, single_help, single_kind, is_in_thousandths, column_name, column_help, column_kind, count_name, count_help, count_kind}
 use Rattle.gw_report.specs.Labels.{frame_word, call_word, answer_word, fault_word, presence_word}
 use Rattle.gw_report.specs.Numbers.{value_of, link_value}
 use Rattle.gw_page.specs.Texts.{◌▹◌, line_end}
@@ -73,18 +76,17 @@ label_text (labels.Fault place fault) = fault_label place fault
 label_text (labels.Origin number) = origin_label number
 
 -- what a name is
-abbrev pub help_line : Count → List ℕ
-help_line count =
-    codes "# HELP nimhazel_" ▹ name_of count ▹ codes " " ▹ help_of count ▹ line_end
+abbrev pub help_line : List ℕ → List ℕ → List ℕ
+help_line name help = codes "# HELP nimhazel_" ▹ name ▹ codes " " ▹ help ▹ line_end
 
 -- whether the numbers of a name only grow
-abbrev pub type_line : Count → List ℕ
-type_line count =
-    codes "# TYPE nimhazel_" ▹ name_of count ▹ codes " " ▹ kind_word (kind_of count) ▹ line_end
+abbrev pub type_line : List ℕ → Kind → List ℕ
+type_line name kind =
+    codes "# TYPE nimhazel_" ▹ name ▹ codes " " ▹ kind_word kind ▹ line_end
 
 -- both
-abbrev pub head_text : Count → List ℕ
-head_text count = help_line count ▹ type_line count
+abbrev pub head_text : List ℕ → List ℕ → Kind → List ℕ
+head_text name help kind = help_line name help ▹ type_line name kind
 
 -- a number, or so many thousandths
 abbrev pub value_text : Bool → ℕ → List ℕ
@@ -92,48 +94,54 @@ value_text false value = codes " " ▹ decimal value ▹ line_end
 value_text true value = codes " " ▹ decimal value ▹ codes "e-3" ▹ line_end
 
 -- a number: its name, its label, its value
-abbrev pub number_line : Count → Label → ℕ → List ℕ
-number_line count label value =
-    codes "nimhazel_" ▹ name_of count ▹ label_text label
-    ▹ value_text (is_in_thousandths count) value
-
--- a number of a sample
-abbrev pub sample_text : Count → Sample → List ℕ
-sample_text count sample = number_line count sample.label sample.value
-
--- all numbers of a name
-abbrev pub samples_text : Count → List Sample → List ℕ
-samples_text count samples = head_text count ▹ flat_map (sample_text count) samples
+abbrev pub number_line : List ℕ → Label → Bool → ℕ → List ℕ
+number_line name label in_thousandths value =
+    codes "nimhazel_" ▹ name ▹ label_text label ▹ value_text in_thousandths value
 
 -- a number without a label
-abbrev pub single_text : Singles → Count → List ℕ
-single_text all count = head_text count ▹ number_line count labels.Bare (value_of all count)
+abbrev pub single_text : Singles → Single → List ℕ
+single_text all single =
+    head_text (single_name single) (single_help single) (single_kind single)
+    ▹ number_line (single_name single) labels.Bare (is_in_thousandths single) (value_of all single)
 
 -- a number of a place of a link
-abbrev pub link_text : Count → Link → List ℕ
-link_text count link = number_line count (labels.Place link.place) (link_value link count)
+abbrev pub link_text : Column → Link → List ℕ
+link_text column link =
+    number_line (column_name column) (labels.Place link.place) false (link_value link column)
 
--- the number of this name of all places
-abbrev pub column_text : List Link → Count → List ℕ
-column_text links count = head_text count ▹ flat_map (link_text count) links
+-- this number of all places
+abbrev pub column_text : List Link → Column → List ℕ
+column_text links column =
+    head_text (column_name column) (column_help column) (column_kind column)
+    ▹ flat_map (link_text column) links
+
+-- a number with its label
+abbrev pub sample_text : Count → Sample → List ℕ
+sample_text count sample = number_line (count_name count) sample.label false sample.value
+
+-- all numbers of a name
+abbrev pub count_text : Count → List Sample → List ℕ
+count_text count samples =
+    head_text (count_name count) (count_help count) (count_kind count)
+    ▹ flat_map (sample_text count) samples
 
 -- the numbers that have labels and are not of links
 abbrev pub labelled_text : Numbers → List ℕ
 labelled_text n =
-    samples_text counts.FramesReceived n.frames_received
-    ▹ samples_text counts.DatagramsSent n.datagrams_sent
-    ▹ samples_text counts.DatagramsUnsent n.datagrams_unsent
-    ▹ samples_text counts.Calls n.calls
-    ▹ samples_text counts.Compactions n.compactions
-    ▹ samples_text counts.Reopenings n.reopenings
-    ▹ samples_text counts.Clients n.clients
-    ▹ samples_text counts.JournalOctets n.journal_octets
-    ▹ samples_text counts.MessagesKnown n.messages_known
+    count_text counts.FramesReceived n.frames_received
+    ▹ count_text counts.DatagramsSent n.datagrams_sent
+    ▹ count_text counts.DatagramsUnsent n.datagrams_unsent
+    ▹ count_text counts.Calls n.calls
+    ▹ count_text counts.Compactions n.compactions
+    ▹ count_text counts.Reopenings n.reopenings
+    ▹ count_text counts.Clients n.clients
+    ▹ count_text counts.JournalOctets n.journal_octets
+    ▹ count_text counts.MessagesKnown n.messages_known
 
 -- all numbers of a report, each once
 abbrev pub exposition_of : Numbers → List ℕ
 exposition_of n =
-    flat_map (single_text n.singles) singles
+    flat_map (single_text n.singles) all_singles
     ▹ labelled_text n
-    ▹ flat_map (column_text n.links) columns
-    ▹ samples_text counts.LinkRefused n.link_refused
+    ▹ flat_map (column_text n.links) all_columns
+    ▹ count_text counts.LinkRefused n.link_refused

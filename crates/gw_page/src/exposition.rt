@@ -3,15 +3,13 @@
 //! Each function appends to a text. What is appended has words of the program and digits, and
 //! nothing else: a report has no text in its numbers.
 
-ghost use Rattle.std.specs.Prelude.{◌≡◌, ◌++◌, IfOk, OnOk, codes, flat_map, string_bytes};
-ghost use Rattle.gw_report.specs.declared.label.Label.TheVariants as labels;
-ghost use Rattle.gw_page.specs.Texts.{◌▹◌};
-ghost use Rattle.gw_page.specs.Expositions.{pair_text, pairs_text, label_text, head_text, value_text, number_line, sample_text, samples_text, single_text, link_text, column_text, labelled_text, exposition_of};
+ghost use Rattle.std.specs.Prelude.{◌≡◌, ◌++◌, IfOk, OnOk, flat_map, string_bytes};
+ghost use Rattle.gw_page.specs.Expositions.{pair_text, pairs_text, label_text, head_text, value_text, number_line, sample_text, count_text, single_text, link_text, column_text, labelled_text, exposition_of};
 ghost use Rattle.gw_page.specs.Expositions as spec;
 
 use gw_report::{
-    CallAnswer, CallKind, Count, DeltaFault, LINKS, Label, Link, Numbers, Place, SINGLES, Sample,
-    Singles, frame_word, presence_word,
+    COLUMNS, CallAnswer, CallKind, Column, Count, DeltaFault, Kind, Label, Link, Numbers, Place,
+    SINGLES, Sample, Single, Singles, frame_word, presence_word,
 };
 use std::alloc::{AllocError, Global};
 
@@ -22,7 +20,7 @@ pub fn exposition(alloc: Global, numbers: &Numbers) -> Result<String, AllocError
     let mut text = String::new(alloc);
     print_singles(alloc, &mut text, &SINGLES, &numbers.singles)?;
     print_labelled(alloc, &mut text, numbers)?;
-    print_columns(alloc, &mut text, &LINKS, numbers.links.as_slice())?;
+    print_columns(alloc, &mut text, &COLUMNS, numbers.links.as_slice())?;
     print_count(
         alloc,
         &mut text,
@@ -33,140 +31,148 @@ pub fn exposition(alloc: Global, numbers: &Numbers) -> Result<String, AllocError
 }
 
 /// The numbers that have labels and are not of links.
-fn print_labelled(alloc: Global, text: &mut String, numbers: &Numbers) -> Result<(), AllocError>
-    ensures { OnOk result (string_bytes text.new ≡ string_bytes text.old ++ labelled_text
-        numbers.now) }
+fn print_labelled(alloc: Global, text: &mut String, n: &Numbers) -> Result<(), AllocError>
+    ensures { OnOk result (string_bytes text.new ≡ string_bytes text.old ++ labelled_text n.now) }
 {
     print_count(
         alloc,
         text,
         Count::FramesReceived,
-        numbers.frames_received.as_slice(),
+        n.frames_received.as_slice(),
     )?;
     print_count(
         alloc,
         text,
         Count::DatagramsSent,
-        numbers.datagrams_sent.as_slice(),
+        n.datagrams_sent.as_slice(),
     )?;
     print_count(
         alloc,
         text,
         Count::DatagramsUnsent,
-        numbers.datagrams_unsent.as_slice(),
+        n.datagrams_unsent.as_slice(),
     )?;
-    print_count(alloc, text, Count::Calls, numbers.calls.as_slice())?;
-    print_count(
-        alloc,
-        text,
-        Count::Compactions,
-        numbers.compactions.as_slice(),
-    )?;
-    print_count(
-        alloc,
-        text,
-        Count::Reopenings,
-        numbers.reopenings.as_slice(),
-    )?;
-    print_count(alloc, text, Count::Clients, numbers.clients.as_slice())?;
+    print_count(alloc, text, Count::Calls, n.calls.as_slice())?;
+    print_count(alloc, text, Count::Compactions, n.compactions.as_slice())?;
+    print_count(alloc, text, Count::Reopenings, n.reopenings.as_slice())?;
+    print_count(alloc, text, Count::Clients, n.clients.as_slice())?;
     print_count(
         alloc,
         text,
         Count::JournalOctets,
-        numbers.journal_octets.as_slice(),
+        n.journal_octets.as_slice(),
     )?;
     print_count(
         alloc,
         text,
         Count::MessagesKnown,
-        numbers.messages_known.as_slice(),
+        n.messages_known.as_slice(),
     )
 }
 
-/// The numbers of these names, which have no label.
+/// These numbers, which have no label.
 fn print_singles(
     alloc: Global,
     text: &mut String,
-    counts: &[Count],
-    singles: &Singles,
+    singles: &[Single],
+    all: &Singles,
 ) -> Result<(), AllocError>
     ensures { OnOk result (string_bytes text.new ≡ string_bytes text.old ++ flat_map
-        (single_text singles.now) counts.now) }
+        (single_text all.now) singles.now) }
 {
-    for count in counts {
-        print_single(alloc, text, *count, singles)?;
+    for single in singles {
+        print_single(alloc, text, *single, all)?;
     }
     Ok(())
 }
 
-/// The number of this name, which has no label.
+/// A number without a label.
 fn print_single(
     alloc: Global,
     text: &mut String,
-    count: Count,
-    singles: &Singles,
+    single: Single,
+    all: &Singles,
 ) -> Result<(), AllocError>
-    ensures { OnOk result (string_bytes text.new ≡ string_bytes text.old ++ single_text
-        singles.now count) }
+    ensures { OnOk result (string_bytes text.new ≡ string_bytes text.old ++ single_text all.now
+        single) }
 {
-    let value = singles.value(count);
-    print_head(text, count)?;
-    print_number(alloc, text, count, Label::Bare, value)
+    let name = single.name();
+    print_head(text, name, single.help(), single.kind())?;
+    print_number(
+        alloc,
+        text,
+        name,
+        Label::Bare,
+        single.in_thousandths(),
+        all.value(single),
+    )
 }
 
-/// The numbers of these names of all places of links.
+/// These numbers of all places of links.
 fn print_columns(
     alloc: Global,
     text: &mut String,
-    counts: &[Count],
+    columns: &[Column],
     links: &[Link],
 ) -> Result<(), AllocError>
     ensures { OnOk result (string_bytes text.new ≡ string_bytes text.old ++ flat_map
-        (column_text links.now) counts.now) }
+        (column_text links.now) columns.now) }
 {
-    for count in counts {
-        print_column(alloc, text, *count, links)?;
+    for column in columns {
+        print_column(alloc, text, *column, links)?;
     }
     Ok(())
 }
 
-/// The number of this name of all places of links.
+/// A number of all places of links.
 fn print_column(
     alloc: Global,
     text: &mut String,
-    count: Count,
+    column: Column,
     links: &[Link],
 ) -> Result<(), AllocError>
-    ensures { OnOk result (string_bytes text.new ≡ string_bytes text.old ++ column_text
-        links.now count) }
+    ensures { OnOk result (string_bytes text.new ≡ string_bytes text.old ++ column_text links.now
+        column) }
 {
-    print_head(text, count)?;
-    print_links(alloc, text, count, links)
+    print_head(text, column.name(), column.help(), column.kind())?;
+    print_links(alloc, text, links, column)
 }
 
 /// A line for each place of a link.
 fn print_links(
     alloc: Global,
     text: &mut String,
-    count: Count,
     links: &[Link],
+    column: Column,
 ) -> Result<(), AllocError>
     ensures { OnOk result (string_bytes text.new ≡ string_bytes text.old ++ flat_map
-        (link_text count) links.now) }
+        (link_text column) links.now) }
 {
     for link in links {
-        print_link(alloc, text, count, link)?;
+        print_link(alloc, text, link, column)?;
     }
     Ok(())
 }
 
 /// The line of a place of a link.
-fn print_link(alloc: Global, text: &mut String, count: Count, link: &Link) -> Result<(), AllocError>
-    ensures { OnOk result (string_bytes text.new ≡ string_bytes text.old ++ link_text count
+fn print_link(
+    alloc: Global,
+    text: &mut String,
+    link: &Link,
+    column: Column,
+) -> Result<(), AllocError>
+    ensures { OnOk result (string_bytes text.new ≡ string_bytes text.old ++ link_text column
         link.now) }
 {
-    let value = link.value(count);
-    print_number(alloc, text, count, Label::Place(link.place), value)
+    let value = link.value(column);
+    print_number(
+        alloc,
+        text,
+        column.name(),
+        Label::Place(link.place),
+        false,
+        value,
+    )
 }
 
 /// All numbers of a name.
@@ -176,36 +182,35 @@ fn print_count(
     count: Count,
     samples: &[Sample],
 ) -> Result<(), AllocError>
-    ensures { OnOk result (string_bytes text.new ≡ string_bytes text.old ++ samples_text count
+    ensures { OnOk result (string_bytes text.new ≡ string_bytes text.old ++ count_text count
         samples.now) }
 {
-    print_head(text, count)?;
-    print_samples(alloc, text, count, samples)
+    print_head(text, count.name(), count.help(), count.kind())?;
+    print_samples(alloc, text, samples, count)
 }
 
 /// A line for each sample.
 fn print_samples(
     alloc: Global,
     text: &mut String,
-    count: Count,
     samples: &[Sample],
+    count: Count,
 ) -> Result<(), AllocError>
     ensures { OnOk result (string_bytes text.new ≡ string_bytes text.old ++ flat_map
         (sample_text count) samples.now) }
 {
     for sample in samples {
-        print_number(alloc, text, count, sample.label, sample.value)?;
+        print_number(alloc, text, count.name(), sample.label, false, sample.value)?;
     }
     Ok(())
 }
 
 /// What a name is, and whether its numbers only grow.
-fn print_head(text: &mut String, count: Count) -> Result<(), AllocError>
-    ensures { OnOk result (string_bytes text.new ≡ string_bytes text.old ++ head_text count) }
+fn print_head(text: &mut String, name: &str, help: &str, kind: Kind) -> Result<(), AllocError>
+    ensures { OnOk result (string_bytes text.new ≡ string_bytes text.old ++ head_text name.now
+        help.now kind) }
 {
-    let name = count.name();
-    let help = count.help();
-    let kind = count.kind().word();
+    let kind = kind.word();
     writeln!(text, "# HELP nimhazel_{name} {help}")?;
     writeln!(text, "# TYPE nimhazel_{name} {kind}")
 }
@@ -214,17 +219,17 @@ fn print_head(text: &mut String, count: Count) -> Result<(), AllocError>
 fn print_number(
     alloc: Global,
     text: &mut String,
-    count: Count,
+    name: &str,
     label: Label,
+    in_thousandths: bool,
     value: u64,
 ) -> Result<(), AllocError>
-    ensures { OnOk result (string_bytes text.new ≡ string_bytes text.old ++ number_line count label
-        value) }
+    ensures { OnOk result (string_bytes text.new ≡ string_bytes text.old ++ number_line name.now
+        label in_thousandths value) }
 {
-    let name = count.name();
     write!(text, "nimhazel_{name}")?;
     print_label(alloc, text, label)?;
-    print_value(text, count.in_thousandths(), value)
+    print_value(text, in_thousandths, value)
 }
 
 /// The value of a number, with the end of its line.

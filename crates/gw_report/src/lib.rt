@@ -3,7 +3,7 @@
 //! Whoever runs a gateway fills a `Report`; who shows it needs nothing else. A report has no text:
 //! names, help and labels are words of this crate. The only octets of strangers are client ids.
 //!
-//! - `count`: the numbers that a gateway shows, with their words (`Count`).
+//! - `count`: the numbers that a gateway shows, with their words (`Single`, `Column`, `Count`).
 //! - `label`: what tells numbers of one name apart.
 //! - `numbers`: all numbers of a report.
 //! - `glimpse`: a client at a glance.
@@ -21,12 +21,12 @@ mod label;
 mod numbers;
 mod report;
 
-pub use count::{Count, Kind};
+pub use count::{Column, Count, Kind, Single};
 pub use event::{Alarm, Detail, Event, Level, Loss, Note, Warning, What};
 pub use glimpse::{First, Glimpse, LocalGlimpse, Seen, SessionGlimpse};
 pub use label::{
     ANSWER_COUNT, ANSWERS, CallAnswer, CallKind, DeltaFault, KIND_COUNT, KINDS, Label, Place,
     frame_word, presence_word,
 };
-pub use numbers::{LINK_COUNTS, LINKS, Link, Numbers, SINGLE_COUNTS, SINGLES, Sample, Singles};
+pub use numbers::{COLUMN_COUNT, COLUMNS, Link, Numbers, SINGLE_COUNT, SINGLES, Sample, Singles};
 pub use report::{Health, Report};

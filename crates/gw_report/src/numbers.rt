@@ -3,59 +3,59 @@
 ghost use Rattle.std.specs.Prelude.{◌≡◌};
 ghost use Rattle.gw_report.specs.Numbers.{value_of, link_value};
 
-use super::count::Count;
+use super::count::{Column, Single};
 use super::label::{Label, Place};
 use octets::Sequence;
 
 /// How many numbers have no label.
-pub const SINGLE_COUNTS: usize = 26;
+pub const SINGLE_COUNT: usize = 26;
 
 /// The numbers without a label, in the order in which they are shown.
-pub const SINGLES: [Count; SINGLE_COUNTS] = [
-    Count::UpSeconds,
-    Count::Shift,
-    Count::ShiftCalls,
-    Count::DatagramsReceived,
-    Count::DatagramsDropped,
-    Count::TurnSeconds,
-    Count::TurnSecondsMax,
-    Count::CompactionSeconds,
-    Count::CompactionSecondsMax,
-    Count::Halted,
-    Count::TickAgeSeconds,
-    Count::TickSecondsMax,
-    Count::StoodStillSeconds,
-    Count::LinksTurnedAway,
-    Count::ClientsOwned,
-    Count::ClientsBound,
-    Count::WaitingMessages,
-    Count::WaitingMost,
-    Count::ClientsNearFull,
-    Count::ClientsFull,
-    Count::TopicsNearFull,
-    Count::StuckSecondsMost,
-    Count::SetMark,
-    Count::EventsLost,
-    Count::ResidentMemory,
-    Count::StartTime,
+pub const SINGLES: [Single; SINGLE_COUNT] = [
+    Single::UpSeconds,
+    Single::Shift,
+    Single::ShiftCalls,
+    Single::DatagramsReceived,
+    Single::DatagramsDropped,
+    Single::TurnSeconds,
+    Single::TurnSecondsMax,
+    Single::CompactionSeconds,
+    Single::CompactionSecondsMax,
+    Single::Halted,
+    Single::TickAgeSeconds,
+    Single::TickSecondsMax,
+    Single::StoodStillSeconds,
+    Single::LinksTurnedAway,
+    Single::ClientsOwned,
+    Single::ClientsBound,
+    Single::WaitingMessages,
+    Single::WaitingMost,
+    Single::ClientsNearFull,
+    Single::ClientsFull,
+    Single::TopicsNearFull,
+    Single::StuckSecondsMost,
+    Single::SetMark,
+    Single::EventsLost,
+    Single::ResidentMemory,
+    Single::StartTime,
 ];
 
-/// How many numbers there are of each place of a link.
-pub const LINK_COUNTS: usize = 11;
+/// How many numbers each place of a link has.
+pub const COLUMN_COUNT: usize = 11;
 
 /// The numbers of a place of a link, in the order in which they are shown.
-pub const LINKS: [Count; LINK_COUNTS] = [
-    Count::LinkUp,
-    Count::LinkNumber,
-    Count::LinkSinceSeconds,
-    Count::LinkHeardSeconds,
-    Count::LinkWaitingOctets,
-    Count::LinkTold,
-    Count::LinkTaken,
-    Count::LinkAnswerOperations,
-    Count::LinkReceivedOctets,
-    Count::LinkSentOctets,
-    Count::DialsFailed,
+pub const COLUMNS: [Column; COLUMN_COUNT] = [
+    Column::Up,
+    Column::Number,
+    Column::SinceSeconds,
+    Column::HeardSeconds,
+    Column::WaitingOctets,
+    Column::Told,
+    Column::Taken,
+    Column::AnswerOperations,
+    Column::ReceivedOctets,
+    Column::SentOctets,
+    Column::DialsFailed,
 ];
 
 /// A number with the label that tells it from others of its name.
@@ -68,10 +68,10 @@ pub struct Sample {
 }
 
 /// The numbers without a label. Durations are in seconds, or in thousandths if
-/// `Count::in_thousandths` says so.
+/// `Single::in_thousandths` says so.
 #[derive(Default, Drop)]
 pub struct Singles {
-    /// Since the program began.
+    /// Seconds since the program began.
     pub up_seconds: u64,
     /// The number of the shift.
     pub shift: u64,
@@ -81,23 +81,23 @@ pub struct Singles {
     pub datagrams_received: u64,
     /// What came, and was dropped before it was a call.
     pub datagrams_dropped: u64,
-    /// The last time between two shifts.
+    /// The last time between two shifts, in thousandths.
     pub turn_seconds: u64,
-    /// The longest such time of the last hour.
+    /// The longest such time of the last hour, in thousandths.
     pub turn_seconds_max: u64,
-    /// The last compaction.
+    /// The last compaction, in thousandths.
     pub compaction_seconds: u64,
-    /// The longest compaction of the last hour.
+    /// The longest compaction of the last hour, in thousandths.
     pub compaction_seconds_max: u64,
     /// 1 if the gateway is halted, else 0.
     pub halted: u64,
-    /// Since the clock's last round began.
+    /// Since the clock's last round began, in thousandths.
     pub tick_age_seconds: u64,
-    /// The longest round of the clock in the last hour.
+    /// The longest round of the clock in the last hour, in thousandths.
     pub tick_seconds_max: u64,
-    /// How long the clock stood still, in all.
+    /// Seconds for which the clock stood still, in all.
     pub stood_still_seconds: u64,
-    /// Calls at `link` that found no place.
+    /// Incoming links that found no place.
     pub links_turned_away: u64,
     /// Clients that this gateway owns.
     pub clients_owned: u64,
@@ -109,11 +109,11 @@ pub struct Singles {
     pub waiting_most: u64,
     /// Clients for which three quarters of the limit wait.
     pub clients_near_full: u64,
-    /// Clients for which so many messages wait that further ones are passed over.
+    /// Clients for which so many messages wait that others are passed over.
     pub clients_full: u64,
     /// Clients that have nearly all topic ids that a session may have.
     pub topics_near_full: u64,
-    /// The longest time that the first message of an active client stayed the same.
+    /// The longest time in seconds that the first message of an active client stayed the same.
     pub stuck_seconds_most: u64,
     /// A hash of the set: equal sets have equal marks.
     pub set_mark: u64,
@@ -126,39 +126,38 @@ pub struct Singles {
 }
 
 impl Singles {
-    /// The number of this name; 0 for a name of numbers with labels.
+    /// The number of this name.
     #[tactic(auto, unfolding(crate::specs::Numbers::value_of))]
-    pub fn value(&self, count: Count) -> u64
-        ensures { result ≡ value_of self.now count }
+    pub fn value(&self, single: Single) -> u64
+        ensures { result ≡ value_of self.now single }
     {
-        match count {
-            Count::UpSeconds => self.up_seconds,
-            Count::Shift => self.shift,
-            Count::ShiftCalls => self.shift_calls,
-            Count::DatagramsReceived => self.datagrams_received,
-            Count::DatagramsDropped => self.datagrams_dropped,
-            Count::TurnSeconds => self.turn_seconds,
-            Count::TurnSecondsMax => self.turn_seconds_max,
-            Count::CompactionSeconds => self.compaction_seconds,
-            Count::CompactionSecondsMax => self.compaction_seconds_max,
-            Count::Halted => self.halted,
-            Count::TickAgeSeconds => self.tick_age_seconds,
-            Count::TickSecondsMax => self.tick_seconds_max,
-            Count::StoodStillSeconds => self.stood_still_seconds,
-            Count::LinksTurnedAway => self.links_turned_away,
-            Count::ClientsOwned => self.clients_owned,
-            Count::ClientsBound => self.clients_bound,
-            Count::WaitingMessages => self.waiting_messages,
-            Count::WaitingMost => self.waiting_most,
-            Count::ClientsNearFull => self.clients_near_full,
-            Count::ClientsFull => self.clients_full,
-            Count::TopicsNearFull => self.topics_near_full,
-            Count::StuckSecondsMost => self.stuck_seconds_most,
-            Count::SetMark => self.set_mark,
-            Count::EventsLost => self.events_lost,
-            Count::ResidentMemory => self.resident_memory,
-            Count::StartTime => self.start_time,
-            _ => 0,
+        match single {
+            Single::UpSeconds => self.up_seconds,
+            Single::Shift => self.shift,
+            Single::ShiftCalls => self.shift_calls,
+            Single::DatagramsReceived => self.datagrams_received,
+            Single::DatagramsDropped => self.datagrams_dropped,
+            Single::TurnSeconds => self.turn_seconds,
+            Single::TurnSecondsMax => self.turn_seconds_max,
+            Single::CompactionSeconds => self.compaction_seconds,
+            Single::CompactionSecondsMax => self.compaction_seconds_max,
+            Single::Halted => self.halted,
+            Single::TickAgeSeconds => self.tick_age_seconds,
+            Single::TickSecondsMax => self.tick_seconds_max,
+            Single::StoodStillSeconds => self.stood_still_seconds,
+            Single::LinksTurnedAway => self.links_turned_away,
+            Single::ClientsOwned => self.clients_owned,
+            Single::ClientsBound => self.clients_bound,
+            Single::WaitingMessages => self.waiting_messages,
+            Single::WaitingMost => self.waiting_most,
+            Single::ClientsNearFull => self.clients_near_full,
+            Single::ClientsFull => self.clients_full,
+            Single::TopicsNearFull => self.topics_near_full,
+            Single::StuckSecondsMost => self.stuck_seconds_most,
+            Single::SetMark => self.set_mark,
+            Single::EventsLost => self.events_lost,
+            Single::ResidentMemory => self.resident_memory,
+            Single::StartTime => self.start_time,
         }
     }
 }
@@ -168,19 +167,19 @@ impl Singles {
 pub struct Link {
     /// The place.
     pub place: Place,
-    /// 1 if a link is up at the place, else 0.
+    /// 1 if a link is up, else 0.
     pub up: u64,
     /// The number of the gateway at the other end; 0 if it is not known.
     pub number: u64,
-    /// Since the link was made.
+    /// Seconds since the link was made.
     pub since_seconds: u64,
-    /// Since anything came over the link.
+    /// Seconds since anything came over the link.
     pub heard_seconds: u64,
     /// Octets that wait to go out.
     pub waiting_octets: u64,
-    /// Deltas told over the links of the place.
+    /// Deltas that were sent.
     pub told: u64,
-    /// Deltas taken from the links of the place.
+    /// Deltas that came and were taken.
     pub taken: u64,
     /// Operations of the last answer that came.
     pub answer_operations: u64,
@@ -193,24 +192,23 @@ pub struct Link {
 }
 
 impl Link {
-    /// The number of this name; 0 for a name that no place of a link has.
+    /// The number of this name.
     #[tactic(auto, unfolding(crate::specs::Numbers::link_value))]
-    pub fn value(&self, count: Count) -> u64
-        ensures { result ≡ link_value self.now count }
+    pub fn value(&self, column: Column) -> u64
+        ensures { result ≡ link_value self.now column }
     {
-        match count {
-            Count::LinkUp => self.up,
-            Count::LinkNumber => self.number,
-            Count::LinkSinceSeconds => self.since_seconds,
-            Count::LinkHeardSeconds => self.heard_seconds,
-            Count::LinkWaitingOctets => self.waiting_octets,
-            Count::LinkTold => self.told,
-            Count::LinkTaken => self.taken,
-            Count::LinkAnswerOperations => self.answer_operations,
-            Count::LinkReceivedOctets => self.received_octets,
-            Count::LinkSentOctets => self.sent_octets,
-            Count::DialsFailed => self.dials_failed,
-            _ => 0,
+        match column {
+            Column::Up => self.up,
+            Column::Number => self.number,
+            Column::SinceSeconds => self.since_seconds,
+            Column::HeardSeconds => self.heard_seconds,
+            Column::WaitingOctets => self.waiting_octets,
+            Column::Told => self.told,
+            Column::Taken => self.taken,
+            Column::AnswerOperations => self.answer_operations,
+            Column::ReceivedOctets => self.received_octets,
+            Column::SentOctets => self.sent_octets,
+            Column::DialsFailed => self.dials_failed,
         }
     }
 }
@@ -221,9 +219,9 @@ impl Link {
 pub struct Numbers {
     /// Those without a label.
     pub singles: Singles,
-    /// Frames that came, by type.
+    /// Datagrams that came, by the type of their frame.
     pub frames_received: Sequence<Sample>,
-    /// Datagrams that went out, by type.
+    /// Datagrams that went out, by the type of their frame.
     pub datagrams_sent: Sequence<Sample>,
     /// Datagrams that did not go out, by cause.
     pub datagrams_unsent: Sequence<Sample>,
@@ -237,10 +235,10 @@ pub struct Numbers {
     pub clients: Sequence<Sample>,
     /// The octets of each file of the journal.
     pub journal_octets: Sequence<Sample>,
-    /// The places of links.
-    pub links: Sequence<Link>,
-    /// Deltas that were refused, by place and fault.
-    pub link_refused: Sequence<Sample>,
     /// Messages of each origin that are known here.
     pub messages_known: Sequence<Sample>,
+    /// The places of links.
+    pub links: Sequence<Link>,
+    /// Deltas that came and were refused, by place and fault.
+    pub link_refused: Sequence<Sample>,
 }

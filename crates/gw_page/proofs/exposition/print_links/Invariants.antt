@@ -6,4 +6,4 @@ use Rattle.gw_page.proofs.exposition.print_links.Given as goal
 -- a text for each so far
 abbrev pub invariant-loop-link : goal.invariant-loop-link
 invariant-loop-link l =
-    string_bytes l.text ≡ string_bytes l.fn.text ++ flat_map (link_text l.count) (take l.link-index l.links)
+    string_bytes l.text ≡ string_bytes l.fn.text ++ flat_map (link_text l.column) (take l.link-index l.links)
