@@ -8,7 +8,7 @@ use super::clients::clients;
 use super::exposition::exposition;
 use super::front::FRONT;
 use super::logging::log;
-use super::request::{Asked, Method, Target, asked};
+use super::request::{Asked, Method, Target, read_request};
 use gw_report::{Health, Report};
 use octets::NoMemory;
 use std::alloc::{AllocError, Global};
@@ -65,7 +65,7 @@ impl Status {
 pub fn page(alloc: Global, request: &[u8], report: &Report) -> Result<Vec<u8>, NoMemory>
     ensures { IfOk result (λ answer. IsAnswer request.now report.now answer.items) }
 {
-    let what = asked(request);
+    let what = read_request(request);
     reply(alloc, what, report)
 }
 

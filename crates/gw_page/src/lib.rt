@@ -31,4 +31,4 @@ pub use answer::{Status, page};
 pub use front::FRONT;
 pub use laws::only_numbers;
 pub use logging::entry;
-pub use request::{Asked, MOST_FIELDS, MOST_OCTETS, Method, Target, asked, may_grow};
+pub use request::{Asked, MOST_FIELDS, MOST_OCTETS, Method, Target, may_grow, read_request};

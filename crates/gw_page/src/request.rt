@@ -65,7 +65,7 @@ pub enum Asked {
 }
 
 /// What the octets of a request ask for, be they all that ever came.
-pub fn asked(octets: &[u8]) -> Asked
+pub fn read_request(octets: &[u8]) -> Asked
     ensures { IsAsked octets.now result }
 {
     if octets.len() > MOST_OCTETS {
