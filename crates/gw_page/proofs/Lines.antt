@@ -158,7 +158,7 @@ is_kind kinds.Gauge = refl
 
 -- each word of a label is one
 word : (text : List ℕ) → IsTrue (list_all is_word_octet text) → IsWord text
-word text plain = (text, (plain, inl refl))
+word text plain = (text, plain, inl refl)
 
 frame_is_word : (frame : MsgType) → IsTrue (list_all is_word_octet (frame_word frame))
 unfolding frame_word
@@ -224,17 +224,17 @@ fault_is_word faults.Full = refl
 fault_is_word faults.Other = refl
 
 place_is_word : (place : Place) → IsWord (place_text place)
-place_is_word (places.Dialled place) = (codes "dialled-", (refl, inr (place, refl)))
-place_is_word (places.Accepted place) = (codes "accepted-", (refl, inr (place, refl)))
+place_is_word (places.Dialled place) = (codes "dialled-", refl, inr (place, refl))
+place_is_word (places.Accepted place) = (codes "accepted-", refl, inr (place, refl))
 
 -- each label is one
 one : (key text : List ℕ) → IsName key → IsWord text → IsLabel (pair_text key text)
-one key text named worded = inr (inl (key, (text, (named, (worded, refl)))))
+one key text named worded = inr (inl (key, text, named, worded, refl))
 
 two : (key text second other : List ℕ) → IsName key → IsWord text → IsName second → IsWord other
     → IsLabel (pairs_text key text second other)
 two key text second other named worded also too =
-    inr (inr (key, (text, (second, (other, (named, (worded, (also, (too, refl)))))))))
+    inr (inr (key, text, second, other, named, worded, also, too, refl))
 
 is_label : (label : Label) → IsLabel (label_text label)
 unfolding label_text
@@ -258,18 +258,18 @@ is_label (labels.Place place) = one (codes "place") (place_text place) refl (pla
 is_label (labels.Fault place fault) =
     two (codes "place") (place_text place) (codes "fault") (fault_word fault) refl
     (place_is_word place) refl (word _ (fault_is_word fault))
-is_label (labels.Origin number) = one (codes "origin") (decimal number) refl ([], (refl, inr (number, refl)))
+is_label (labels.Origin number) = one (codes "origin") (decimal number) refl ([], refl, inr (number, refl))
 
 -- texts of lines, one after the other
 nothing : IsExposition []
-nothing = ([], (tt, refl))
+nothing = ([], tt, refl)
 
 single : (line : List ℕ) → IsHelp line ⊎ (IsType line ⊎ IsSample line) → IsExposition line
-single line known = (line ∷ [], ((known, tt), sym (append-nil line)))
+single line known = (line ∷ [], (known, tt), sym (append-nil line))
 
 both : (a b : List ℕ) → IsExposition a → IsExposition b → IsExposition (a ++ b)
-both a b (xs, (every, made)) (ys, (too, also)) =
-    (xs ++ ys, (All-append _ xs ys every too, ap₂ (λ (u v : List ℕ). u ++ v) made also ∙ sym (flat_map-append (λ line. line) xs ys)))
+both a b (xs, every, made) (ys, too, also) =
+    (xs ++ ys, All-append _ xs ys every too, ap₂ (λ (u v : List ℕ). u ++ v) made also ∙ sym (flat_map-append (λ line. line) xs ys))
 
 each : {X : Type 0} (f : X → List ℕ) → ((x : X) → IsExposition (f x)) → (xs : List X)
     → IsExposition (flat_map f xs)
@@ -279,11 +279,12 @@ each f every (x ∷ xs) = both (f x) (flat_map f xs) (every x) (each f every xs)
 -- the lines of a name, and of a number
 help_is_line : (name help : List ℕ) → IsName name → IsTrue (list_all is_help_octet help)
     → IsExposition (help_line name help)
-help_is_line name help named plain = single (help_line name help) (inl (name, (help, (named, (plain, refl)))))
+unfolding help_line
+help_is_line name help named plain = single _ (inl (name, help, named, plain, refl))
 
 type_is_line : (name : List ℕ) (kind : Kind) → IsName name → IsExposition (type_line name kind)
-type_is_line name kind named =
-    single (type_line name kind) (inr (inl (name, (kind_word kind, (named, (is_kind kind, refl))))))
+unfolding type_line
+type_is_line name kind named = single _ (inr (inl (name, kind_word kind, named, is_kind kind, refl)))
 
 head_is_lines : (name help : List ℕ) (kind : Kind) → IsName name → IsTrue (list_all is_help_octet help)
     → IsExposition (head_text name help kind)
@@ -292,10 +293,12 @@ head_is_lines name help kind named plain =
 
 number_is_line : (name : List ℕ) (label : Label) (in_thousandths : Bool) (value : ℕ) → IsName name
     → IsExposition (number_line name label in_thousandths value)
+unfolding number_line
 number_is_line name label in_thousandths value named =
-    single _ (inr (inr (name, (label_text label, (in_thousandths, (value, (named, (is_label label, refl))))))))
+    single _ (inr (inr (name, label_text label, in_thousandths, value, named, is_label label, refl)))
 
 single_is_lines : (all : Singles) (it : Single) → IsExposition (single_text all it)
+unfolding single_text
 single_is_lines all it =
     both _ _ (head_is_lines (single_name it) (single_help it) (single_kind it) (single_is_name it) (single_is_help it))
     (number_is_line (single_name it) labels.Bare (is_in_thousandths it) (value_of all it) (single_is_name it))
@@ -305,6 +308,7 @@ link_is_line column link =
     number_is_line (column_name column) (labels.Place link.place) false (link_value link column) (column_is_name column)
 
 column_is_lines : (links : List Link) (column : Column) → IsExposition (column_text links column)
+unfolding column_text
 column_is_lines links column =
     both _ _ (head_is_lines (column_name column) (column_help column) (column_kind column) (column_is_name column) (column_is_help column))
     (each (link_text column) (link_is_line column) links)
@@ -314,6 +318,7 @@ sample_is_line count sample =
     number_is_line (count_name count) sample.label false sample.value (count_is_name count)
 
 count_is_lines : (count : Count) (samples : List Sample) → IsExposition (count_text count samples)
+unfolding count_text
 count_is_lines count samples =
     both _ _ (head_is_lines (count_name count) (count_help count) (count_kind count) (count_is_name count) (count_is_help count))
     (each (sample_text count) (sample_is_line count) samples)

@@ -103,13 +103,28 @@ body_of asked.OtherMethod report = refusal_text statuses.NotAllowed
 body_of asked.TooLarge report = refusal_text statuses.TooLarge
 body_of asked.Malformed report = refusal_text statuses.BadRequest
 
--- the head of an answer, with the length of its body
-abbrev pub head_of : Status → List ℕ → ℕ → List ℕ
-head_of status type size =
-    codes "HTTP/1.0 " ▹ status_word status ▹ codes "\r\nContent-Type: " ▹ type
-    ▹ codes "\r\nContent-Length: " ▹ decimal size
-    ▹ codes "\r\nConnection: close\r\nCache-Control: no-store\r\n" ▹ status_fields status
+-- the first line of an answer
+unfoldable pub first_line : Status → List ℕ
+first_line status = codes "HTTP/1.0 " ▹ status_word status ▹ codes "\r\n"
+
+-- what a body is written in
+unfoldable pub type_field : List ℕ → List ℕ
+type_field type = codes "Content-Type: " ▹ type ▹ codes "\r\n"
+
+-- how long a body is
+unfoldable pub length_field : ℕ → List ℕ
+length_field size = codes "Content-Length: " ▹ decimal size ▹ codes "\r\n"
+
+-- the other fields, and the end of a head
+unfoldable pub last_fields : Status → List ℕ
+last_fields status =
+    codes "Connection: close\r\nCache-Control: no-store\r\n" ▹ status_fields status
     ▹ codes "\r\n"
+
+-- the head of an answer, with the length of its body
+unfoldable pub head_of : Status → List ℕ → ℕ → List ℕ
+head_of status type size =
+    first_line status ▹ type_field type ▹ length_field size ▹ last_fields status
 
 -- the body, unless it is asked for without
 abbrev pub sent_by : Method → List ℕ → List ℕ

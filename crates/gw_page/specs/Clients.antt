@@ -26,7 +26,7 @@ abbrev pub plain_text : List ℕ → List ℕ
 plain_text octets = if list_all is_plain_octet octets then octets else codes "-"
 
 -- an address: its host and its port
-abbrev pub address_text : Addr → List ℕ
+unfoldable pub address_text : Addr → List ℕ
 address_text address =
     decimal (address.host / 16777216) ▹ codes "." ▹ decimal (address.host / 65536 % 256)
     ▹ codes "." ▹ decimal (address.host / 256 % 256) ▹ codes "." ▹ decimal (address.host % 256)

@@ -76,11 +76,11 @@ label_text (labels.Fault place fault) = fault_label place fault
 label_text (labels.Origin number) = origin_label number
 
 -- what a name is
-abbrev pub help_line : List ℕ → List ℕ → List ℕ
+unfoldable pub help_line : List ℕ → List ℕ → List ℕ
 help_line name help = codes "# HELP nimhazel_" ▹ name ▹ codes " " ▹ help ▹ line_end
 
 -- whether the numbers of a name only grow
-abbrev pub type_line : List ℕ → Kind → List ℕ
+unfoldable pub type_line : List ℕ → Kind → List ℕ
 type_line name kind =
     codes "# TYPE nimhazel_" ▹ name ▹ codes " " ▹ kind_word kind ▹ line_end
 
@@ -94,12 +94,12 @@ value_text false value = codes " " ▹ decimal value ▹ line_end
 value_text true value = codes " " ▹ decimal value ▹ codes "e-3" ▹ line_end
 
 -- a number: its name, its label, its value
-abbrev pub number_line : List ℕ → Label → Bool → ℕ → List ℕ
+unfoldable pub number_line : List ℕ → Label → Bool → ℕ → List ℕ
 number_line name label in_thousandths value =
     codes "nimhazel_" ▹ name ▹ label_text label ▹ value_text in_thousandths value
 
 -- a number without a label
-abbrev pub single_text : Singles → Single → List ℕ
+unfoldable pub single_text : Singles → Single → List ℕ
 single_text all single =
     head_text (single_name single) (single_help single) (single_kind single)
     ▹ number_line (single_name single) labels.Bare (is_in_thousandths single) (value_of all single)
@@ -110,7 +110,7 @@ link_text column link =
     number_line (column_name column) (labels.Place link.place) false (link_value link column)
 
 -- this number of all places
-abbrev pub column_text : List Link → Column → List ℕ
+unfoldable pub column_text : List Link → Column → List ℕ
 column_text links column =
     head_text (column_name column) (column_help column) (column_kind column)
     ▹ flat_map (link_text column) links
@@ -120,7 +120,7 @@ abbrev pub sample_text : Count → Sample → List ℕ
 sample_text count sample = number_line (count_name count) sample.label false sample.value
 
 -- all numbers of a name
-abbrev pub count_text : Count → List Sample → List ℕ
+unfoldable pub count_text : Count → List Sample → List ℕ
 count_text count samples =
     head_text (count_name count) (count_help count) (count_kind count)
     ▹ flat_map (sample_text count) samples

@@ -18,11 +18,11 @@ use Rattle.gw_page.specs.Texts.{◌▹◌, line_end, tab}
 use Rattle.gw_page.specs.Clients.{address_text}
 
 -- a client, by its id in hexadecimal digits
-abbrev pub named_text : List ℕ → List ℕ
+unfoldable pub named_text : List ℕ → List ℕ
 named_text client = codes "client " ▹ encode_lower client
 
 -- an event on which somebody must act
-abbrev pub alarm_text : Alarm → List ℕ
+unfoldable pub alarm_text : Alarm → List ℕ
 alarm_text (alarms.OwnNumber from) =
     codes "a peer at " ▹ address_text from ▹ codes " says the number of this gateway"
 alarm_text (alarms.TwoPeers number first second) =
@@ -36,7 +36,7 @@ alarm_text alarms.NotOpened = codes "an opening was refused"
 alarm_text alarms.Begun = codes "both files were empty, and a journal is begun"
 
 -- an event at which somebody should look
-abbrev pub warning_text : Warning → List ℕ
+unfoldable pub warning_text : Warning → List ℕ
 warning_text warnings.Reopened = codes "the gateway was opened again, and all clients are disconnected"
 warning_text warnings.NotCompacted = codes "a compaction failed"
 warning_text (warnings.DeltaFull number times) =
@@ -57,12 +57,12 @@ warning_text (warnings.TurnedAway from) =
     codes "a link from " ▹ address_text from ▹ codes " was closed, as there is no place for it"
 
 -- what a digest's answer held
-abbrev pub answer_text : ℕ → ℕ → List ℕ
+unfoldable pub answer_text : ℕ → ℕ → List ℕ
 answer_text operations octets =
     decimal operations ▹ codes " operations, " ▹ decimal octets ▹ codes " octets"
 
 -- an event of a field as it should be
-abbrev pub note_text : Note → List ℕ
+unfoldable pub note_text : Note → List ℕ
 note_text (notes.LinkMade number from) =
     codes "a link to gateway " ▹ decimal number ▹ codes " at " ▹ address_text from
 note_text (notes.AnswerGiven number operations octets) =
@@ -74,7 +74,7 @@ note_text (notes.ShiftClosed shift calls thousandths) =
     ▹ decimal thousandths ▹ codes " ms to turn"
 
 -- an event of one client
-abbrev pub detail_text : Detail → List ℕ
+unfoldable pub detail_text : Detail → List ℕ
 detail_text (details.Connected client) = named_text client ▹ codes " connected"
 detail_text (details.Lost client) = named_text client ▹ codes " is lost"
 detail_text (details.TakenOver client number) =

@@ -1,7 +1,7 @@
 //! What the page answers.
 
 ghost use Rattle.std.specs.Prelude.{◌≡◌, ◌++◌, IfOk, OnOk, string_bytes};
-ghost use Rattle.gw_page.specs.Answers.{IsAnswer, reply_text, body_of, shown_text, refusal_text, health_text, complaint, head_of, sent_of, status_word, shown_status, status_of, shown_type, type_of};
+ghost use Rattle.gw_page.specs.Answers.{IsAnswer, reply_text, body_of, shown_text, refusal_text, health_text, complaint, first_line, type_field, length_field, last_fields, head_of, sent_of, status_word, shown_status, status_of, shown_type, type_of};
 ghost use Rattle.gw_page.specs.Answers as spec;
 
 use super::clients::clients;
@@ -153,18 +153,53 @@ fn complain(text: &mut String, is_wrong: bool, words: &str) -> Result<(), AllocE
 }
 
 /// The head of an answer, with the length of its body.
+#[tactic(auto, unfolding(crate::specs::Answers::head_of))]
 fn reply_head(alloc: Global, status: Status, kind: &str, size: usize) -> Result<Vec<u8>, AllocError>
     ensures { IfOk result (λ text. text.items ≡ head_of status kind.now size) }
 {
+    let mut text = String::new(alloc);
+    print_first_line(&mut text, status)?;
+    print_type(&mut text, kind)?;
+    print_length(&mut text, size)?;
+    print_last_fields(&mut text, status)?;
+    Ok(text.into_bytes())
+}
+
+/// The first line of an answer.
+#[tactic(auto, unfolding(crate::specs::Answers::first_line))]
+fn print_first_line(text: &mut String, status: Status) -> Result<(), AllocError>
+    ensures { OnOk result (string_bytes text.new ≡ string_bytes text.old ++ first_line status) }
+{
     let word = status.word();
+    write!(text, "HTTP/1.0 {word}\r\n")
+}
+
+/// What a body is written in.
+#[tactic(auto, unfolding(crate::specs::Answers::type_field))]
+fn print_type(text: &mut String, kind: &str) -> Result<(), AllocError>
+    ensures { OnOk result (string_bytes text.new ≡ string_bytes text.old ++ type_field kind.now) }
+{
+    write!(text, "Content-Type: {kind}\r\n")
+}
+
+/// How long a body is.
+#[tactic(auto, unfolding(crate::specs::Answers::length_field))]
+fn print_length(text: &mut String, size: usize) -> Result<(), AllocError>
+    ensures { OnOk result (string_bytes text.new ≡ string_bytes text.old ++ length_field size) }
+{
+    write!(text, "Content-Length: {size}\r\n")
+}
+
+/// The other fields, and the end of a head.
+#[tactic(auto, unfolding(crate::specs::Answers::last_fields))]
+fn print_last_fields(text: &mut String, status: Status) -> Result<(), AllocError>
+    ensures { OnOk result (string_bytes text.new ≡ string_bytes text.old ++ last_fields status) }
+{
     let fields = status.fields();
-    let mut text = format!(in alloc; "HTTP/1.0 {word}\r\nContent-Type: {kind}")?;
-    write!(text, "\r\nContent-Length: {size}")?;
     write!(
         text,
-        "\r\nConnection: close\r\nCache-Control: no-store\r\n{fields}\r\n"
-    )?;
-    Ok(text.into_bytes())
+        "Connection: close\r\nCache-Control: no-store\r\n{fields}\r\n"
+    )
 }
 
 /// What goes out of the body.

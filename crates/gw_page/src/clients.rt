@@ -179,6 +179,7 @@ fn print_local(text: &mut String, local: Option<LocalGlimpse>) -> Result<(), All
 }
 
 /// An address: its host and its port.
+#[tactic(auto, unfolding(crate::specs::Clients::address_text))]
 pub(crate) fn print_address(text: &mut String, address: Addr) -> Result<(), AllocError>
     ensures { OnOk result (string_bytes text.new ≡ string_bytes text.old ++ address_text
         address) }

@@ -4,7 +4,7 @@
 //! nothing else: a report has no text in its numbers.
 
 ghost use Rattle.std.specs.Prelude.{◌≡◌, ◌++◌, IfOk, OnOk, flat_map, string_bytes};
-ghost use Rattle.gw_page.specs.Expositions.{pair_text, pairs_text, label_text, head_text, value_text, number_line, sample_text, count_text, single_text, link_text, column_text, labelled_text, exposition_of};
+ghost use Rattle.gw_page.specs.Expositions.{pair_text, pairs_text, label_text, help_line, type_line, head_text, value_text, number_line, sample_text, count_text, single_text, link_text, column_text, labelled_text, exposition_of};
 ghost use Rattle.gw_page.specs.Expositions as spec;
 
 use gw_report::{
@@ -87,6 +87,7 @@ fn print_singles(
 }
 
 /// A number without a label.
+#[tactic(auto, unfolding(crate::specs::Expositions::single_text))]
 fn print_single(
     alloc: Global,
     text: &mut String,
@@ -125,6 +126,7 @@ fn print_columns(
 }
 
 /// A number of all places of links.
+#[tactic(auto, unfolding(crate::specs::Expositions::column_text))]
 fn print_column(
     alloc: Global,
     text: &mut String,
@@ -176,6 +178,7 @@ fn print_link(
 }
 
 /// All numbers of a name.
+#[tactic(auto, unfolding(crate::specs::Expositions::count_text))]
 fn print_count(
     alloc: Global,
     text: &mut String,
@@ -210,12 +213,31 @@ fn print_head(text: &mut String, name: &str, help: &str, kind: Kind) -> Result<(
     ensures { OnOk result (string_bytes text.new ≡ string_bytes text.old ++ head_text name.now
         help.now kind) }
 {
+    print_help(text, name, help)?;
+    print_type(text, name, kind)
+}
+
+/// What a name is.
+#[tactic(auto, unfolding(crate::specs::Expositions::help_line))]
+fn print_help(text: &mut String, name: &str, help: &str) -> Result<(), AllocError>
+    ensures { OnOk result (string_bytes text.new ≡ string_bytes text.old ++ help_line name.now
+        help.now) }
+{
+    writeln!(text, "# HELP nimhazel_{name} {help}")
+}
+
+/// Whether the numbers of a name only grow.
+#[tactic(auto, unfolding(crate::specs::Expositions::type_line))]
+fn print_type(text: &mut String, name: &str, kind: Kind) -> Result<(), AllocError>
+    ensures { OnOk result (string_bytes text.new ≡ string_bytes text.old ++ type_line name.now
+        kind) }
+{
     let kind = kind.word();
-    writeln!(text, "# HELP nimhazel_{name} {help}")?;
     writeln!(text, "# TYPE nimhazel_{name} {kind}")
 }
 
 /// The line of a number.
+#[tactic(auto, unfolding(crate::specs::Expositions::number_line))]
 fn print_number(
     alloc: Global,
     text: &mut String,

@@ -55,6 +55,7 @@ fn print_what(alloc: Global, text: &mut String, what: &What) -> Result<(), Alloc
 }
 
 /// A client, by its id in hexadecimal digits.
+#[tactic(auto, unfolding(crate::specs::Logs::named_text))]
 fn print_named(alloc: Global, text: &mut String, client: &ClientId) -> Result<(), AllocError>
     ensures { OnOk result (string_bytes text.new ≡ string_bytes text.old ++ named_text
         client.now) }
@@ -64,6 +65,7 @@ fn print_named(alloc: Global, text: &mut String, client: &ClientId) -> Result<()
 }
 
 /// An event on which somebody must act.
+#[tactic(auto, unfolding(crate::specs::Logs::alarm_text))]
 fn print_alarm(alloc: Global, text: &mut String, alarm: &Alarm) -> Result<(), AllocError>
     ensures { OnOk result (string_bytes text.new ≡ string_bytes text.old ++ alarm_text
         alarm.now) }
@@ -103,6 +105,7 @@ fn print_alarm(alloc: Global, text: &mut String, alarm: &Alarm) -> Result<(), Al
 }
 
 /// An event at which somebody should look.
+#[tactic(auto, unfolding(crate::specs::Logs::warning_text))]
 fn print_warning(alloc: Global, text: &mut String, warning: &Warning) -> Result<(), AllocError>
     ensures { OnOk result (string_bytes text.new ≡ string_bytes text.old ++ warning_text
         warning.now) }
@@ -144,6 +147,7 @@ fn print_warning(alloc: Global, text: &mut String, warning: &Warning) -> Result<
 }
 
 /// What a digest's answer held.
+#[tactic(auto, unfolding(crate::specs::Logs::answer_text))]
 fn print_answer(text: &mut String, operations: u64, octets: u64) -> Result<(), AllocError>
     ensures { OnOk result (string_bytes text.new ≡ string_bytes text.old ++ answer_text operations
         octets) }
@@ -152,6 +156,7 @@ fn print_answer(text: &mut String, operations: u64, octets: u64) -> Result<(), A
 }
 
 /// An event of a field as it should be.
+#[tactic(auto, unfolding(crate::specs::Logs::note_text))]
 fn print_note(text: &mut String, note: &Note) -> Result<(), AllocError>
     ensures { OnOk result (string_bytes text.new ≡ string_bytes text.old ++ note_text note.now) }
 {
@@ -188,6 +193,7 @@ fn print_note(text: &mut String, note: &Note) -> Result<(), AllocError>
 }
 
 /// An event of one client.
+#[tactic(auto, unfolding(crate::specs::Logs::detail_text))]
 fn print_detail(alloc: Global, text: &mut String, detail: &Detail) -> Result<(), AllocError>
     ensures { OnOk result (string_bytes text.new ≡ string_bytes text.old ++ detail_text
         detail.now) }
