@@ -3,7 +3,7 @@ use Rattle.std.proofs.Common.{◌≡◌, ◌⊎◌, inl, inr, ℕ, List, [], ◌
 use Rattle.std.specs.Prelude.{All, IsTrue, codes, flat_map}
 use Rattle.std.specs.List.{list_all}
 use Rattle.std.specs.Fmt.{decimal}
-use Rattle.std.proofs.lemmas.List.Elements.{All-append}
+use Rattle.std.proofs.lemmas.List.Elements.{All-nil, All-cons, All-append}
 use Rattle.std.proofs.lemmas.Grind.{flat_map-append}
 use Rattle.sn_frame.specs.declared.msg_type.MsgType.{MsgType}
 use Rattle.sn_frame.specs.declared.msg_type.MsgType.TheVariants as frames
@@ -36,7 +36,7 @@ use Rattle.gw_report.specs.Words.{kind_word, single_name, single_help, single_ki
 use Rattle.gw_report.specs.Labels.{frame_word, call_word, answer_word, fault_word, presence_word}
 use Rattle.gw_report.specs.Numbers.{value_of, link_value}
 use Rattle.gw_page.specs.Texts.{◌▹◌, line_end}
-use Rattle.gw_page.specs.Expositions.{pair_text, pairs_text, label_text, place_text, help_line, type_line, head_text, number_line, sample_text, count_text, single_text, link_text, column_text, labelled_text, exposition_of}
+use Rattle.gw_page.specs.Expositions.{pair_text, pairs_text, label_text, place_text, help_line, type_line, head_text, number_line, sample_text, count_text, single_text, link_text, column_text, traffic_text, state_text, exposition_of}
 use Rattle.gw_page.specs.Lines.{is_name_octet, is_word_octet, is_help_octet, IsName, IsWord, IsLabel, IsHelp, IsType, IsSample, IsExposition}
 
 -- each name, and each help, is one
@@ -153,6 +153,7 @@ count_is_help counts.MessagesKnown = refl
 count_is_help counts.LinkRefused = refl
 
 is_kind : (kind : Kind) → IsName (kind_word kind)
+unfolding kind_word
 is_kind kinds.Counter = refl
 is_kind kinds.Gauge = refl
 
@@ -262,14 +263,22 @@ is_label (labels.Origin number) = one (codes "origin") (decimal number) refl ([]
 
 -- texts of lines, one after the other
 nothing : IsExposition []
-nothing = ([], tt, refl)
+nothing = ([], All-nil (λ line. IsHelp line ⊎ (IsType line ⊎ IsSample line)), refl)
 
 single : (line : List ℕ) → IsHelp line ⊎ (IsType line ⊎ IsSample line) → IsExposition line
-single line known = (line ∷ [], (known, tt), sym (append-nil line))
+single line known = (
+  line ∷ [],
+  All-cons (λ it. IsHelp it ⊎ (IsType it ⊎ IsSample it)) line [] known
+      (All-nil (λ it. IsHelp it ⊎ (IsType it ⊎ IsSample it))),
+  sym (append-nil line),
+)
 
 both : (a b : List ℕ) → IsExposition a → IsExposition b → IsExposition (a ++ b)
-both a b (xs, every, made) (ys, too, also) =
-    (xs ++ ys, All-append _ xs ys every too, ap₂ (λ (u v : List ℕ). u ++ v) made also ∙ sym (flat_map-append (λ line. line) xs ys))
+both a b (xs, every, made) (ys, too, also) = (
+  xs ++ ys,
+  All-append (λ it. IsHelp it ⊎ (IsType it ⊎ IsSample it)) xs ys every too,
+  ap₂ (λ (u v : List ℕ). u ++ v) made also ∙ sym (flat_map-append (λ (line : List ℕ). line) xs ys),
+)
 
 each : {X : Type 0} (f : X → List ℕ) → ((x : X) → IsExposition (f x)) → (xs : List X)
     → IsExposition (flat_map f xs)
@@ -323,22 +332,28 @@ count_is_lines count samples =
     both _ _ (head_is_lines (count_name count) (count_help count) (count_kind count) (count_is_name count) (count_is_help count))
     (each (sample_text count) (sample_is_line count) samples)
 
-labelled_is_lines : (n : Numbers) → IsExposition (labelled_text n)
-labelled_is_lines n =
+traffic_is_lines : (n : Numbers) → IsExposition (traffic_text n)
+unfolding traffic_text
+traffic_is_lines n =
     both _ _ (count_is_lines counts.FramesReceived n.frames_received)
     (both _ _ (count_is_lines counts.DatagramsSent n.datagrams_sent)
     (both _ _ (count_is_lines counts.DatagramsUnsent n.datagrams_unsent)
-    (both _ _ (count_is_lines counts.Calls n.calls)
-    (both _ _ (count_is_lines counts.Compactions n.compactions)
+    (count_is_lines counts.Calls n.calls)))
+
+state_is_lines : (n : Numbers) → IsExposition (state_text n)
+unfolding state_text
+state_is_lines n =
+    both _ _ (count_is_lines counts.Compactions n.compactions)
     (both _ _ (count_is_lines counts.Reopenings n.reopenings)
     (both _ _ (count_is_lines counts.Clients n.clients)
     (both _ _ (count_is_lines counts.JournalOctets n.journal_octets)
-    (count_is_lines counts.MessagesKnown n.messages_known))))))))
+    (count_is_lines counts.MessagesKnown n.messages_known))))
 
 -- whatever a report has in it
 pub numbers_are_lines : (numbers : Numbers) → IsExposition (exposition_of numbers)
 numbers_are_lines n =
     both _ _ (each (single_text n.singles) (single_is_lines n.singles) all_singles)
-    (both _ _ (labelled_is_lines n)
+    (both _ _ (traffic_is_lines n)
+    (both _ _ (state_is_lines n)
     (both _ _ (each (column_text n.links) (column_is_lines n.links) all_columns)
-    (count_is_lines counts.LinkRefused n.link_refused)))
+    (count_is_lines counts.LinkRefused n.link_refused))))

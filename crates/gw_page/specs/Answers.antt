@@ -19,7 +19,7 @@ use Rattle.gw_page.specs.Clients.{clients_text}
 use Rattle.gw_page.specs.Logs.{log_text}
 
 -- a status, as its line has it
-abbrev pub status_word : Status → List ℕ
+unfoldable pub status_word : Status → List ℕ
 status_word statuses.Found = codes "200 OK"
 status_word statuses.BadRequest = codes "400 Bad Request"
 status_word statuses.NotFound = codes "404 Not Found"
@@ -28,7 +28,7 @@ status_word statuses.TooLarge = codes "431 Request Header Fields Too Large"
 status_word statuses.Unavailable = codes "503 Service Unavailable"
 
 -- the further fields of a status: which methods are allowed
-abbrev pub status_fields : Status → List ℕ
+unfoldable pub status_fields : Status → List ℕ
 status_fields statuses.NotAllowed = codes "Allow: GET, HEAD\r\n"
 status_fields status = []
 

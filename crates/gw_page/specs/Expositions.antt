@@ -125,14 +125,18 @@ count_text count samples =
     head_text (count_name count) (count_help count) (count_kind count)
     ▹ flat_map (sample_text count) samples
 
--- the numbers that have labels and are not of links
-abbrev pub labelled_text : Numbers → List ℕ
-labelled_text n =
+-- the numbers with labels that are of calls and datagrams
+unfoldable pub traffic_text : Numbers → List ℕ
+traffic_text n =
     count_text counts.FramesReceived n.frames_received
     ▹ count_text counts.DatagramsSent n.datagrams_sent
     ▹ count_text counts.DatagramsUnsent n.datagrams_unsent
     ▹ count_text counts.Calls n.calls
-    ▹ count_text counts.Compactions n.compactions
+
+-- the numbers with labels that are of the gateway
+unfoldable pub state_text : Numbers → List ℕ
+state_text n =
+    count_text counts.Compactions n.compactions
     ▹ count_text counts.Reopenings n.reopenings
     ▹ count_text counts.Clients n.clients
     ▹ count_text counts.JournalOctets n.journal_octets
@@ -142,6 +146,6 @@ labelled_text n =
 abbrev pub exposition_of : Numbers → List ℕ
 exposition_of n =
     flat_map (single_text n.singles) all_singles
-    ▹ labelled_text n
+    ▹ traffic_text n ▹ state_text n
     ▹ flat_map (column_text n.links) all_columns
     ▹ count_text counts.LinkRefused n.link_refused

@@ -32,6 +32,7 @@ pub enum Status {
 
 impl Status {
     /// How its line has it.
+    #[tactic(auto, unfolding(crate::specs::Answers::status_word))]
     pub fn word(self) -> &'static str
         ensures { result.now ≡ status_word self }
     {
@@ -46,6 +47,7 @@ impl Status {
     }
 
     /// Its further fields: which methods are allowed.
+    #[tactic(auto, unfolding(crate::specs::Answers::status_fields))]
     fn fields(self) -> &'static str
         ensures { result.now ≡ spec.status_fields self }
     {

@@ -4,7 +4,7 @@
 //! nothing else: a report has no text in its numbers.
 
 ghost use Rattle.std.specs.Prelude.{◌≡◌, ◌++◌, IfOk, OnOk, flat_map, string_bytes};
-ghost use Rattle.gw_page.specs.Expositions.{pair_text, pairs_text, label_text, help_line, type_line, head_text, value_text, number_line, sample_text, count_text, single_text, link_text, column_text, labelled_text, exposition_of};
+ghost use Rattle.gw_page.specs.Expositions.{pair_text, pairs_text, label_text, help_line, type_line, head_text, value_text, number_line, sample_text, count_text, single_text, link_text, column_text, traffic_text, state_text, exposition_of};
 ghost use Rattle.gw_page.specs.Expositions as spec;
 
 use gw_report::{
@@ -19,7 +19,8 @@ pub fn exposition(alloc: Global, numbers: &Numbers) -> Result<String, AllocError
 {
     let mut text = String::new(alloc);
     print_singles(alloc, &mut text, &SINGLES, &numbers.singles)?;
-    print_labelled(alloc, &mut text, numbers)?;
+    print_traffic(alloc, &mut text, numbers)?;
+    print_state(alloc, &mut text, numbers)?;
     print_columns(alloc, &mut text, &COLUMNS, numbers.links.as_slice())?;
     print_count(
         alloc,
@@ -30,9 +31,10 @@ pub fn exposition(alloc: Global, numbers: &Numbers) -> Result<String, AllocError
     Ok(text)
 }
 
-/// The numbers that have labels and are not of links.
-fn print_labelled(alloc: Global, text: &mut String, n: &Numbers) -> Result<(), AllocError>
-    ensures { OnOk result (string_bytes text.new ≡ string_bytes text.old ++ labelled_text n.now) }
+/// The numbers with labels that are of calls and datagrams.
+#[tactic(auto, unfolding(crate::specs::Expositions::traffic_text))]
+fn print_traffic(alloc: Global, text: &mut String, n: &Numbers) -> Result<(), AllocError>
+    ensures { OnOk result (string_bytes text.new ≡ string_bytes text.old ++ traffic_text n.now) }
 {
     print_count(
         alloc,
@@ -52,7 +54,14 @@ fn print_labelled(alloc: Global, text: &mut String, n: &Numbers) -> Result<(), A
         Count::DatagramsUnsent,
         n.datagrams_unsent.as_slice(),
     )?;
-    print_count(alloc, text, Count::Calls, n.calls.as_slice())?;
+    print_count(alloc, text, Count::Calls, n.calls.as_slice())
+}
+
+/// The numbers with labels that are of the gateway.
+#[tactic(auto, unfolding(crate::specs::Expositions::state_text))]
+fn print_state(alloc: Global, text: &mut String, n: &Numbers) -> Result<(), AllocError>
+    ensures { OnOk result (string_bytes text.new ≡ string_bytes text.old ++ state_text n.now) }
+{
     print_count(alloc, text, Count::Compactions, n.compactions.as_slice())?;
     print_count(alloc, text, Count::Reopenings, n.reopenings.as_slice())?;
     print_count(alloc, text, Count::Clients, n.clients.as_slice())?;

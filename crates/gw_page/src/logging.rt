@@ -42,6 +42,13 @@ fn print_event(alloc: Global, text: &mut String, event: &Event) -> Result<(), Al
     text.push_str("\n")
 }
 
+/// Words.
+fn print_words(text: &mut String, words: &str) -> Result<(), AllocError>
+    ensures { OnOk result (string_bytes text.new ≡ string_bytes text.old ++ words.now) }
+{
+    text.push_str(words)
+}
+
 /// What happened.
 fn print_what(alloc: Global, text: &mut String, what: &What) -> Result<(), AllocError>
     ensures { OnOk result (string_bytes text.new ≡ string_bytes text.old ++ what_text what.now) }
@@ -72,18 +79,18 @@ fn print_alarm(alloc: Global, text: &mut String, alarm: &Alarm) -> Result<(), Al
 {
     match alarm {
         Alarm::OwnNumber { from } => {
-            text.push_str("a peer at ")?;
+            print_words(text, "a peer at ")?;
             print_address(text, *from)?;
-            text.push_str(" says the number of this gateway")
+            print_words(text, " says the number of this gateway")
         }
         Alarm::TwoPeers {
             number,
             first,
             second,
         } => {
-            text.push_str("peers at ")?;
+            print_words(text, "peers at ")?;
             print_address(text, *first)?;
-            text.push_str(" and ")?;
+            print_words(text, " and ")?;
             print_address(text, *second)?;
             write!(text, " both say number {number}")
         }
@@ -98,9 +105,9 @@ fn print_alarm(alloc: Global, text: &mut String, alarm: &Alarm) -> Result<(), Al
                 ": {times} deltas of gateway {number} contradict what was taken"
             )
         }
-        Alarm::Halted => text.push_str("a write failed, and the gateway is halted"),
-        Alarm::NotOpened => text.push_str("an opening was refused"),
-        Alarm::Begun => text.push_str("both files were empty, and a journal is begun"),
+        Alarm::Halted => print_words(text, "a write failed, and the gateway is halted"),
+        Alarm::NotOpened => print_words(text, "an opening was refused"),
+        Alarm::Begun => print_words(text, "both files were empty, and a journal is begun"),
     }
 }
 
@@ -112,15 +119,21 @@ fn print_warning(alloc: Global, text: &mut String, warning: &Warning) -> Result<
 {
     match warning {
         Warning::Reopened => {
-            text.push_str("the gateway was opened again, and all clients are disconnected")
+            print_words(
+                text,
+                "the gateway was opened again, and all clients are disconnected",
+            )
         }
-        Warning::NotCompacted => text.push_str("a compaction failed"),
+        Warning::NotCompacted => print_words(text, "a compaction failed"),
         Warning::DeltaFull { number, times } => {
             write!(text, "{times} deltas of gateway {number} met a limit")
         }
         Warning::ClientFull { client } => {
             print_named(alloc, text, client)?;
-            text.push_str(" has as many waiting messages as there may be, and gets no others")
+            print_words(
+                text,
+                " has as many waiting messages as there may be, and gets no others",
+            )
         }
         Warning::TopicsNearFull { client, topics } => {
             print_named(alloc, text, client)?;
@@ -139,9 +152,9 @@ fn print_warning(alloc: Global, text: &mut String, warning: &Warning) -> Result<
             write!(text, "the link to gateway {number} is lost: {loss}")
         }
         Warning::TurnedAway { from } => {
-            text.push_str("a link from ")?;
+            print_words(text, "a link from ")?;
             print_address(text, *from)?;
-            text.push_str(" was closed, as there is no place for it")
+            print_words(text, " was closed, as there is no place for it")
         }
     }
 }
@@ -201,11 +214,11 @@ fn print_detail(alloc: Global, text: &mut String, detail: &Detail) -> Result<(),
     match detail {
         Detail::Connected { client } => {
             print_named(alloc, text, client)?;
-            text.push_str(" connected")
+            print_words(text, " connected")
         }
         Detail::Lost { client } => {
             print_named(alloc, text, client)?;
-            text.push_str(" is lost")
+            print_words(text, " is lost")
         }
         Detail::TakenOver { client, number } => {
             print_named(alloc, text, client)?;

@@ -15,7 +15,7 @@ level_number levels.Info = 6
 level_number levels.Debug = 7
 
 -- how a level is written
-abbrev pub level_word : Level → List ℕ
+unfoldable pub level_word : Level → List ℕ
 level_word levels.Error = codes "err"
 level_word levels.Warning = codes "warning"
 level_word levels.Info = codes "info"
@@ -29,7 +29,7 @@ level_of (events.Note note) = levels.Info
 level_of (events.Detail detail) = levels.Debug
 
 -- why a link is lost
-abbrev pub loss_word : Loss → List ℕ
+unfoldable pub loss_word : Loss → List ℕ
 loss_word losses.Closed = codes "it was closed"
 loss_word losses.Broken = codes "it broke"
 loss_word losses.Nonsense = codes "what came is no message"

@@ -10,7 +10,7 @@ use Rattle.gw_report.specs.declared.count.Count.{Count}
 use Rattle.gw_report.specs.declared.count.Count.TheVariants as counts
 
 -- how Prometheus writes the kind of a number
-abbrev pub kind_word : Kind → List ℕ
+unfoldable pub kind_word : Kind → List ℕ
 kind_word kinds.Counter = codes "counter"
 kind_word kinds.Gauge = codes "gauge"
 

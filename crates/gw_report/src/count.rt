@@ -14,6 +14,7 @@ pub enum Kind {
 
 impl Kind {
     /// How Prometheus writes the kind.
+    #[tactic(auto, unfolding(crate::specs::Words::kind_word))]
     pub fn word(self) -> &'static str
         ensures { result.now ≡ kind_word self }
     {

@@ -33,6 +33,7 @@ impl Level {
     }
 
     /// How it is written.
+    #[tactic(auto, unfolding(crate::specs::Events::level_word))]
     pub fn word(self) -> &'static str
         ensures { result.now ≡ level_word self }
     {
@@ -60,6 +61,7 @@ pub enum Loss {
 
 impl Loss {
     /// How it is written.
+    #[tactic(auto, unfolding(crate::specs::Events::loss_word))]
     pub fn word(self) -> &'static str
         ensures { result.now ≡ loss_word self }
     {
