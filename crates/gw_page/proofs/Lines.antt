@@ -291,14 +291,14 @@ help_is_line : (name help : List ℕ) → IsName name → IsTrue (list_all is_he
 unfolding help_line
 help_is_line name help named plain = single _ (inl (name, help, named, plain, refl))
 
-type_is_line : (name : List ℕ) (kind : Kind) → IsName name → IsExposition (type_line name kind)
+type_is_line : (name kind : List ℕ) → IsName name → IsName kind → IsExposition (type_line name kind)
 unfolding type_line
-type_is_line name kind named = single _ (inr (inl (name, kind_word kind, named, is_kind kind, refl)))
+type_is_line name kind named plain = single _ (inr (inl (name, kind, named, plain, refl)))
 
 head_is_lines : (name help : List ℕ) (kind : Kind) → IsName name → IsTrue (list_all is_help_octet help)
     → IsExposition (head_text name help kind)
 head_is_lines name help kind named plain =
-    both (help_line name help) (type_line name kind) (help_is_line name help named plain) (type_is_line name kind named)
+    both (help_line name help) (type_line name (kind_word kind)) (help_is_line name help named plain) (type_is_line name (kind_word kind) named (is_kind kind))
 
 number_is_line : (name : List ℕ) (label : Label) (in_thousandths : Bool) (value : ℕ) → IsName name
     → IsExposition (number_line name label in_thousandths value)

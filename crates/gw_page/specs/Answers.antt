@@ -116,15 +116,14 @@ unfoldable pub length_field : ℕ → List ℕ
 length_field size = codes "Content-Length: " ▹ decimal size ▹ codes "\r\n"
 
 -- the other fields, and the end of a head
-unfoldable pub last_fields : Status → List ℕ
-last_fields status =
-    codes "Connection: close\r\nCache-Control: no-store\r\n" ▹ status_fields status
-    ▹ codes "\r\n"
+unfoldable pub last_fields : List ℕ → List ℕ
+last_fields fields =
+    codes "Connection: close\r\nCache-Control: no-store\r\n" ▹ fields ▹ codes "\r\n"
 
 -- the head of an answer, with the length of its body
 unfoldable pub head_of : Status → List ℕ → ℕ → List ℕ
 head_of status type size =
-    first_line status ▹ type_field type ▹ length_field size ▹ last_fields status
+    first_line status ▹ type_field type ▹ length_field size ▹ last_fields (status_fields status)
 
 -- the body, unless it is asked for without
 abbrev pub sent_by : Method → List ℕ → List ℕ

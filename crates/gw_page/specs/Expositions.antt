@@ -80,13 +80,13 @@ unfoldable pub help_line : List ℕ → List ℕ → List ℕ
 help_line name help = codes "# HELP nimhazel_" ▹ name ▹ codes " " ▹ help ▹ line_end
 
 -- whether the numbers of a name only grow
-unfoldable pub type_line : List ℕ → Kind → List ℕ
+unfoldable pub type_line : List ℕ → List ℕ → List ℕ
 type_line name kind =
-    codes "# TYPE nimhazel_" ▹ name ▹ codes " " ▹ kind_word kind ▹ line_end
+    codes "# TYPE nimhazel_" ▹ name ▹ codes " " ▹ kind ▹ line_end
 
 -- both
 abbrev pub head_text : List ℕ → List ℕ → Kind → List ℕ
-head_text name help kind = help_line name help ▹ type_line name kind
+head_text name help kind = help_line name help ▹ type_line name (kind_word kind)
 
 -- a number, or so many thousandths
 abbrev pub value_text : Bool → ℕ → List ℕ

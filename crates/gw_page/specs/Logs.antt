@@ -2,6 +2,7 @@
 use Rattle.std.specs.Prelude.{ℕ, List, codes, flat_map}
 use Rattle.std.specs.Fmt.{decimal}
 use Rattle.hex.specs.Hex.{encode_lower}
+use Rattle.sn_local.specs.declared.config.Addr.{Addr}
 use Rattle.gw_report.specs.declared.event.Alarm.{Alarm}
 use Rattle.gw_report.specs.declared.event.Alarm.TheVariants as alarms
 use Rattle.gw_report.specs.declared.event.Warning.{Warning}
@@ -21,19 +22,50 @@ use Rattle.gw_page.specs.Clients.{address_text}
 unfoldable pub named_text : List ℕ → List ℕ
 named_text client = codes "client " ▹ encode_lower client
 
+-- a peer says the number of this gateway
+unfoldable pub own_number_text : Addr → List ℕ
+own_number_text from =
+    codes "a peer at " ▹ address_text from ▹ codes " says the number of this gateway"
+
+-- a write failed
+unfoldable pub halted_text : List ℕ
+halted_text = codes "a write failed, and the gateway is halted"
+
+-- an opening was refused
+unfoldable pub not_opened_text : List ℕ
+not_opened_text = codes "an opening was refused"
+
+-- a journal is begun
+unfoldable pub begun_text : List ℕ
+begun_text = codes "both files were empty, and a journal is begun"
+
+-- a link is gone, for this cause
+unfoldable pub lost_text : ℕ → List ℕ → List ℕ
+lost_text number cause =
+    codes "the link to gateway " ▹ decimal number ▹ codes " is lost: " ▹ cause
+
+-- an incoming link was closed
+unfoldable pub turned_away_text : Addr → List ℕ
+turned_away_text from =
+    codes "a link from " ▹ address_text from ▹ codes " was closed, as there is no place for it"
+
+-- a link is made
+unfoldable pub made_text : ℕ → Addr → List ℕ
+made_text number from =
+    codes "a link to gateway " ▹ decimal number ▹ codes " at " ▹ address_text from
+
 -- an event on which somebody must act
 unfoldable pub alarm_text : Alarm → List ℕ
-alarm_text (alarms.OwnNumber from) =
-    codes "a peer at " ▹ address_text from ▹ codes " says the number of this gateway"
+alarm_text (alarms.OwnNumber from) = own_number_text from
 alarm_text (alarms.TwoPeers number first second) =
     codes "peers at " ▹ address_text first ▹ codes " and " ▹ address_text second
     ▹ codes " both say number " ▹ decimal number
 alarm_text (alarms.Conflict client number times) =
     named_text client ▹ codes ": " ▹ decimal times ▹ codes " deltas of gateway " ▹ decimal number
     ▹ codes " contradict what was taken"
-alarm_text alarms.Halted = codes "a write failed, and the gateway is halted"
-alarm_text alarms.NotOpened = codes "an opening was refused"
-alarm_text alarms.Begun = codes "both files were empty, and a journal is begun"
+alarm_text alarms.Halted = halted_text
+alarm_text alarms.NotOpened = not_opened_text
+alarm_text alarms.Begun = begun_text
 
 -- an event at which somebody should look
 unfoldable pub warning_text : Warning → List ℕ
@@ -51,10 +83,8 @@ warning_text (warnings.Dropped times) = decimal times ▹ codes " datagrams were
 warning_text (warnings.Unsent times) = decimal times ▹ codes " datagrams could not be sent"
 warning_text (warnings.StoodStill seconds) =
     codes "the clock stood still for " ▹ decimal seconds ▹ codes " seconds"
-warning_text (warnings.LinkLost number loss) =
-    codes "the link to gateway " ▹ decimal number ▹ codes " is lost: " ▹ loss_word loss
-warning_text (warnings.TurnedAway from) =
-    codes "a link from " ▹ address_text from ▹ codes " was closed, as there is no place for it"
+warning_text (warnings.LinkLost number loss) = lost_text number (loss_word loss)
+warning_text (warnings.TurnedAway from) = turned_away_text from
 
 -- what a digest's answer held
 unfoldable pub answer_text : ℕ → ℕ → List ℕ
@@ -63,8 +93,7 @@ answer_text operations octets =
 
 -- an event of a field as it should be
 unfoldable pub note_text : Note → List ℕ
-note_text (notes.LinkMade number from) =
-    codes "a link to gateway " ▹ decimal number ▹ codes " at " ▹ address_text from
+note_text (notes.LinkMade number from) = made_text number from
 note_text (notes.AnswerGiven number operations octets) =
     codes "gateway " ▹ decimal number ▹ codes " lacked " ▹ answer_text operations octets
 note_text (notes.AnswerHad number operations octets) =

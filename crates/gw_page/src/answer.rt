@@ -163,7 +163,7 @@ fn reply_head(alloc: Global, status: Status, kind: &str, size: usize) -> Result<
     print_first_line(&mut text, status)?;
     print_type(&mut text, kind)?;
     print_length(&mut text, size)?;
-    print_last_fields(&mut text, status)?;
+    print_last_fields(&mut text, status.fields())?;
     Ok(text.into_bytes())
 }
 
@@ -194,8 +194,8 @@ fn print_length(text: &mut String, size: usize) -> Result<(), AllocError>
 
 /// The other fields, and the end of a head.
 #[tactic(auto, unfolding(crate::specs::Answers::last_fields))]
-fn print_last_fields(text: &mut String, status: Status) -> Result<(), AllocError>
-    ensures { OnOk result (string_bytes text.new ≡ string_bytes text.old ++ last_fields status) }
+fn print_last_fields(text: &mut String, fields: &str) -> Result<(), AllocError>
+    ensures { OnOk result (string_bytes text.new ≡ string_bytes text.old ++ last_fields fields.now) }
 {
     let fields = status.fields();
     write!(

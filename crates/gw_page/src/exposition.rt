@@ -223,7 +223,7 @@ fn print_head(text: &mut String, name: &str, help: &str, kind: Kind) -> Result<(
         help.now kind) }
 {
     print_help(text, name, help)?;
-    print_type(text, name, kind)
+    print_type(text, name, kind.word())
 }
 
 /// What a name is.
@@ -237,11 +237,10 @@ fn print_help(text: &mut String, name: &str, help: &str) -> Result<(), AllocErro
 
 /// Whether the numbers of a name only grow.
 #[tactic(auto, unfolding(crate::specs::Expositions::type_line))]
-fn print_type(text: &mut String, name: &str, kind: Kind) -> Result<(), AllocError>
+fn print_type(text: &mut String, name: &str, kind: &str) -> Result<(), AllocError>
     ensures { OnOk result (string_bytes text.new ≡ string_bytes text.old ++ type_line name.now
-        kind) }
+        kind.now) }
 {
-    let kind = kind.word();
     writeln!(text, "# TYPE nimhazel_{name} {kind}")
 }
 

@@ -1,12 +1,13 @@
 //! Events as lines, for the page and for the journal of the system.
 
 ghost use Rattle.std.specs.Prelude.{◌≡◌, ◌++◌, IfOk, OnOk, flat_map, string_bytes};
-ghost use Rattle.gw_page.specs.Logs.{log_text, event_text, entry_text, what_text, alarm_text, warning_text, note_text, detail_text, named_text, answer_text};
+ghost use Rattle.gw_page.specs.Logs.{log_text, event_text, entry_text, what_text, alarm_text, warning_text, note_text, detail_text, named_text, answer_text, own_number_text, halted_text, not_opened_text, begun_text, lost_text, turned_away_text, made_text};
 
 use super::clients::print_address;
 use gw_report::{Alarm, Detail, Event, Note, Warning, What};
 use octets::NoMemory;
 use rep_op::ClientId;
+use sn_local::Addr;
 use std::alloc::{AllocError, Global};
 
 /// The line of an event for the journal of the system, which takes what is in `<>` for the level.
@@ -71,6 +72,67 @@ fn print_named(alloc: Global, text: &mut String, client: &ClientId) -> Result<()
     write!(text, "client {id}")
 }
 
+/// A peer says the number of this gateway.
+#[tactic(auto, unfolding(crate::specs::Logs::own_number_text))]
+fn print_own_number(text: &mut String, from: Addr) -> Result<(), AllocError>
+    ensures { OnOk result (string_bytes text.new ≡ string_bytes text.old ++ own_number_text from) }
+{
+    print_words(text, "a peer at ")?;
+    print_address(text, from)?;
+    print_words(text, " says the number of this gateway")
+}
+
+/// A write failed.
+#[tactic(auto, unfolding(crate::specs::Logs::halted_text))]
+fn print_halted(text: &mut String) -> Result<(), AllocError>
+    ensures { OnOk result (string_bytes text.new ≡ string_bytes text.old ++ halted_text) }
+{
+    print_words(text, "a write failed, and the gateway is halted")
+}
+
+/// An opening was refused.
+#[tactic(auto, unfolding(crate::specs::Logs::not_opened_text))]
+fn print_not_opened(text: &mut String) -> Result<(), AllocError>
+    ensures { OnOk result (string_bytes text.new ≡ string_bytes text.old ++ not_opened_text) }
+{
+    print_words(text, "an opening was refused")
+}
+
+/// A journal is begun.
+#[tactic(auto, unfolding(crate::specs::Logs::begun_text))]
+fn print_begun(text: &mut String) -> Result<(), AllocError>
+    ensures { OnOk result (string_bytes text.new ≡ string_bytes text.old ++ begun_text) }
+{
+    print_words(text, "both files were empty, and a journal is begun")
+}
+
+/// A link is gone, for this cause.
+#[tactic(auto, unfolding(crate::specs::Logs::lost_text))]
+fn print_lost(text: &mut String, number: u8, cause: &str) -> Result<(), AllocError>
+    ensures { OnOk result (string_bytes text.new ≡ string_bytes text.old ++ lost_text number cause.now) }
+{
+    write!(text, "the link to gateway {number} is lost: {cause}")
+}
+
+/// An incoming link was closed.
+#[tactic(auto, unfolding(crate::specs::Logs::turned_away_text))]
+fn print_turned_away(text: &mut String, from: Addr) -> Result<(), AllocError>
+    ensures { OnOk result (string_bytes text.new ≡ string_bytes text.old ++ turned_away_text from) }
+{
+    print_words(text, "a link from ")?;
+    print_address(text, from)?;
+    print_words(text, " was closed, as there is no place for it")
+}
+
+/// A link is made.
+#[tactic(auto, unfolding(crate::specs::Logs::made_text))]
+fn print_made(text: &mut String, number: u8, from: Addr) -> Result<(), AllocError>
+    ensures { OnOk result (string_bytes text.new ≡ string_bytes text.old ++ made_text number from) }
+{
+    write!(text, "a link to gateway {number} at ")?;
+    print_address(text, from)
+}
+
 /// An event on which somebody must act.
 #[tactic(auto, unfolding(crate::specs::Logs::alarm_text))]
 fn print_alarm(alloc: Global, text: &mut String, alarm: &Alarm) -> Result<(), AllocError>
@@ -78,11 +140,7 @@ fn print_alarm(alloc: Global, text: &mut String, alarm: &Alarm) -> Result<(), Al
         alarm.now) }
 {
     match alarm {
-        Alarm::OwnNumber { from } => {
-            print_words(text, "a peer at ")?;
-            print_address(text, *from)?;
-            print_words(text, " says the number of this gateway")
-        }
+        Alarm::OwnNumber { from } => print_own_number(text, *from),
         Alarm::TwoPeers {
             number,
             first,
@@ -105,9 +163,9 @@ fn print_alarm(alloc: Global, text: &mut String, alarm: &Alarm) -> Result<(), Al
                 ": {times} deltas of gateway {number} contradict what was taken"
             )
         }
-        Alarm::Halted => print_words(text, "a write failed, and the gateway is halted"),
-        Alarm::NotOpened => print_words(text, "an opening was refused"),
-        Alarm::Begun => print_words(text, "both files were empty, and a journal is begun"),
+        Alarm::Halted => print_halted(text),
+        Alarm::NotOpened => print_not_opened(text),
+        Alarm::Begun => print_begun(text),
     }
 }
 
@@ -147,15 +205,8 @@ fn print_warning(alloc: Global, text: &mut String, warning: &Warning) -> Result<
         Warning::StoodStill { seconds } => {
             write!(text, "the clock stood still for {seconds} seconds")
         }
-        Warning::LinkLost { number, loss } => {
-            let loss = loss.word();
-            write!(text, "the link to gateway {number} is lost: {loss}")
-        }
-        Warning::TurnedAway { from } => {
-            print_words(text, "a link from ")?;
-            print_address(text, *from)?;
-            print_words(text, " was closed, as there is no place for it")
-        }
+        Warning::LinkLost { number, loss } => print_lost(text, *number, loss.word()),
+        Warning::TurnedAway { from } => print_turned_away(text, *from),
     }
 }
 
@@ -174,10 +225,7 @@ fn print_note(text: &mut String, note: &Note) -> Result<(), AllocError>
     ensures { OnOk result (string_bytes text.new ≡ string_bytes text.old ++ note_text note.now) }
 {
     match note {
-        Note::LinkMade { number, from } => {
-            write!(text, "a link to gateway {number} at ")?;
-            print_address(text, *from)
-        }
+        Note::LinkMade { number, from } => print_made(text, *number, *from),
         Note::AnswerGiven {
             number,
             operations,
