@@ -197,7 +197,6 @@ fn print_length(text: &mut String, size: usize) -> Result<(), AllocError>
 fn print_last_fields(text: &mut String, fields: &str) -> Result<(), AllocError>
     ensures { OnOk result (string_bytes text.new ≡ string_bytes text.old ++ last_fields fields.now) }
 {
-    let fields = status.fields();
     write!(
         text,
         "Connection: close\r\nCache-Control: no-store\r\n{fields}\r\n"
