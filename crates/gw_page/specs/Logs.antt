@@ -2,7 +2,6 @@
 use Rattle.std.specs.Prelude.{ℕ, List, codes, flat_map}
 use Rattle.std.specs.Fmt.{decimal}
 use Rattle.hex.specs.Hex.{encode_lower}
-use Rattle.sn_local.specs.declared.config.Addr.{Addr}
 use Rattle.gw_report.specs.declared.event.Alarm.{Alarm}
 use Rattle.gw_report.specs.declared.event.Alarm.TheVariants as alarms
 use Rattle.gw_report.specs.declared.event.Warning.{Warning}
@@ -23,9 +22,9 @@ unfoldable pub named_text : List ℕ → List ℕ
 named_text client = codes "client " ▹ encode_lower client
 
 -- a peer says the number of this gateway
-unfoldable pub own_number_text : Addr → List ℕ
-own_number_text from =
-    codes "a peer at " ▹ address_text from ▹ codes " says the number of this gateway"
+unfoldable pub own_number_text : List ℕ → List ℕ
+own_number_text address =
+    codes "a peer at " ▹ address ▹ codes " says the number of this gateway"
 
 -- a write failed
 unfoldable pub halted_text : List ℕ
@@ -45,18 +44,18 @@ lost_text number cause =
     codes "the link to gateway " ▹ decimal number ▹ codes " is lost: " ▹ cause
 
 -- an incoming link was closed
-unfoldable pub turned_away_text : Addr → List ℕ
-turned_away_text from =
-    codes "a link from " ▹ address_text from ▹ codes " was closed, as there is no place for it"
+unfoldable pub turned_away_text : List ℕ → List ℕ
+turned_away_text address =
+    codes "a link from " ▹ address ▹ codes " was closed, as there is no place for it"
 
 -- a link is made
-unfoldable pub made_text : ℕ → Addr → List ℕ
-made_text number from =
-    codes "a link to gateway " ▹ decimal number ▹ codes " at " ▹ address_text from
+unfoldable pub made_text : ℕ → List ℕ → List ℕ
+made_text number address =
+    codes "a link to gateway " ▹ decimal number ▹ codes " at " ▹ address
 
 -- an event on which somebody must act
 unfoldable pub alarm_text : Alarm → List ℕ
-alarm_text (alarms.OwnNumber from) = own_number_text from
+alarm_text (alarms.OwnNumber from) = own_number_text (address_text from)
 alarm_text (alarms.TwoPeers number first second) =
     codes "peers at " ▹ address_text first ▹ codes " and " ▹ address_text second
     ▹ codes " both say number " ▹ decimal number
@@ -84,7 +83,7 @@ warning_text (warnings.Unsent times) = decimal times ▹ codes " datagrams could
 warning_text (warnings.StoodStill seconds) =
     codes "the clock stood still for " ▹ decimal seconds ▹ codes " seconds"
 warning_text (warnings.LinkLost number loss) = lost_text number (loss_word loss)
-warning_text (warnings.TurnedAway from) = turned_away_text from
+warning_text (warnings.TurnedAway from) = turned_away_text (address_text from)
 
 -- what a digest's answer held
 unfoldable pub answer_text : ℕ → ℕ → List ℕ
@@ -93,7 +92,7 @@ answer_text operations octets =
 
 -- an event of a field as it should be
 unfoldable pub note_text : Note → List ℕ
-note_text (notes.LinkMade number from) = made_text number from
+note_text (notes.LinkMade number from) = made_text number (address_text from)
 note_text (notes.AnswerGiven number operations octets) =
     codes "gateway " ▹ decimal number ▹ codes " lacked " ▹ answer_text operations octets
 note_text (notes.AnswerHad number operations octets) =

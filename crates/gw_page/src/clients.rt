@@ -192,6 +192,15 @@ pub(crate) fn print_address(text: &mut String, address: Addr) -> Result<(), Allo
     write!(text, "{first}.{second}.{third}.{fourth}:{port}")
 }
 
+/// An address as a text of its own.
+pub(crate) fn address_of(alloc: Global, address: Addr) -> Result<String, AllocError>
+    ensures { IfOk result (λ text. string_bytes text ≡ address_text address) }
+{
+    let mut text = String::new(alloc);
+    print_address(&mut text, address)?;
+    Ok(text)
+}
+
 /// The first message that waits: its number and its origin.
 fn print_first(text: &mut String, first: Option<First>) -> Result<(), AllocError>
     ensures { OnOk result (string_bytes text.new ≡ string_bytes text.old ++ first_column first) }

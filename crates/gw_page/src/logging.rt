@@ -3,11 +3,10 @@
 ghost use Rattle.std.specs.Prelude.{◌≡◌, ◌++◌, IfOk, OnOk, flat_map, string_bytes};
 ghost use Rattle.gw_page.specs.Logs.{log_text, event_text, entry_text, what_text, alarm_text, warning_text, note_text, detail_text, named_text, answer_text, own_number_text, halted_text, not_opened_text, begun_text, lost_text, turned_away_text, made_text};
 
-use super::clients::print_address;
+use super::clients::{address_of, print_address};
 use gw_report::{Alarm, Detail, Event, Note, Warning, What};
 use octets::NoMemory;
 use rep_op::ClientId;
-use sn_local::Addr;
 use std::alloc::{AllocError, Global};
 
 /// The line of an event for the journal of the system, which takes what is in `<>` for the level.
@@ -57,7 +56,7 @@ fn print_what(alloc: Global, text: &mut String, what: &What) -> Result<(), Alloc
     match what {
         What::Alarm(alarm) => print_alarm(alloc, text, alarm),
         What::Warning(warning) => print_warning(alloc, text, warning),
-        What::Note(note) => print_note(text, note),
+        What::Note(note) => print_note(alloc, text, note),
         What::Detail(detail) => print_detail(alloc, text, detail),
     }
 }
@@ -74,12 +73,10 @@ fn print_named(alloc: Global, text: &mut String, client: &ClientId) -> Result<()
 
 /// A peer says the number of this gateway.
 #[tactic(auto, unfolding(crate::specs::Logs::own_number_text))]
-fn print_own_number(text: &mut String, from: Addr) -> Result<(), AllocError>
-    ensures { OnOk result (string_bytes text.new ≡ string_bytes text.old ++ own_number_text from) }
+fn print_own_number(text: &mut String, address: &str) -> Result<(), AllocError>
+    ensures { OnOk result (string_bytes text.new ≡ string_bytes text.old ++ own_number_text address.now) }
 {
-    print_words(text, "a peer at ")?;
-    print_address(text, from)?;
-    print_words(text, " says the number of this gateway")
+    write!(text, "a peer at {address} says the number of this gateway")
 }
 
 /// A write failed.
@@ -116,21 +113,21 @@ fn print_lost(text: &mut String, number: u8, cause: &str) -> Result<(), AllocErr
 
 /// An incoming link was closed.
 #[tactic(auto, unfolding(crate::specs::Logs::turned_away_text))]
-fn print_turned_away(text: &mut String, from: Addr) -> Result<(), AllocError>
-    ensures { OnOk result (string_bytes text.new ≡ string_bytes text.old ++ turned_away_text from) }
+fn print_turned_away(text: &mut String, address: &str) -> Result<(), AllocError>
+    ensures { OnOk result (string_bytes text.new ≡ string_bytes text.old ++ turned_away_text address.now) }
 {
-    print_words(text, "a link from ")?;
-    print_address(text, from)?;
-    print_words(text, " was closed, as there is no place for it")
+    write!(
+        text,
+        "a link from {address} was closed, as there is no place for it"
+    )
 }
 
 /// A link is made.
 #[tactic(auto, unfolding(crate::specs::Logs::made_text))]
-fn print_made(text: &mut String, number: u8, from: Addr) -> Result<(), AllocError>
-    ensures { OnOk result (string_bytes text.new ≡ string_bytes text.old ++ made_text number from) }
+fn print_made(text: &mut String, number: u8, address: &str) -> Result<(), AllocError>
+    ensures { OnOk result (string_bytes text.new ≡ string_bytes text.old ++ made_text number address.now) }
 {
-    write!(text, "a link to gateway {number} at ")?;
-    print_address(text, from)
+    write!(text, "a link to gateway {number} at {address}")
 }
 
 /// An event on which somebody must act.
@@ -140,7 +137,10 @@ fn print_alarm(alloc: Global, text: &mut String, alarm: &Alarm) -> Result<(), Al
         alarm.now) }
 {
     match alarm {
-        Alarm::OwnNumber { from } => print_own_number(text, *from),
+        Alarm::OwnNumber { from } => {
+            let address = address_of(alloc, *from)?;
+            print_own_number(text, &address)
+        }
         Alarm::TwoPeers {
             number,
             first,
@@ -206,7 +206,10 @@ fn print_warning(alloc: Global, text: &mut String, warning: &Warning) -> Result<
             write!(text, "the clock stood still for {seconds} seconds")
         }
         Warning::LinkLost { number, loss } => print_lost(text, *number, loss.word()),
-        Warning::TurnedAway { from } => print_turned_away(text, *from),
+        Warning::TurnedAway { from } => {
+            let address = address_of(alloc, *from)?;
+            print_turned_away(text, &address)
+        }
     }
 }
 
@@ -221,11 +224,14 @@ fn print_answer(text: &mut String, operations: u64, octets: u64) -> Result<(), A
 
 /// An event of a field as it should be.
 #[tactic(auto, unfolding(crate::specs::Logs::note_text))]
-fn print_note(text: &mut String, note: &Note) -> Result<(), AllocError>
+fn print_note(alloc: Global, text: &mut String, note: &Note) -> Result<(), AllocError>
     ensures { OnOk result (string_bytes text.new ≡ string_bytes text.old ++ note_text note.now) }
 {
     match note {
-        Note::LinkMade { number, from } => print_made(text, *number, *from),
+        Note::LinkMade { number, from } => {
+            let address = address_of(alloc, *from)?;
+            print_made(text, *number, &address)
+        }
         Note::AnswerGiven {
             number,
             operations,
