@@ -22,6 +22,7 @@ STEPS = [*WORDS, "sets", "step table"]
 MAY_USE = {
     "base": [],
     "words of MQTT-SN": ["base"],
+    "bridge": WORDS,
     "sets": WORDS,
     "journal": ["base", "sets"],
     "replicas": [*WORDS, "sets"],

@@ -2,14 +2,14 @@
 
 ghost use Rattle.std.specs.Prelude.{◌≡◌, ◌↔◌, IsTrue};
 ghost use Rattle.mq_packet.specs.Text.{IsText, IsFilter, IsTopic};
-ghost use Rattle.std.specs.Str as text;
-ghost use Rattle.mq_packet.specs.inner.Reading as spec;
+ghost use Rattle.mq_packet.specs.Text as spec;
+ghost use Rattle.std.specs.Str as utf8;
 
 use crate::packet::MAX_DATA;
 
 /// Whether the octets are UTF-8.
 fn is_utf8(octets: &[u8]) -> bool
-    ensures { result ≡ text.is_utf8 octets.now }
+    ensures { result ≡ utf8.is_utf8 octets.now }
 {
     match str::from_utf8(octets) {
         Ok(_) => true,
@@ -17,16 +17,17 @@ fn is_utf8(octets: &[u8]) -> bool
     }
 }
 
-/// Whether the octets are a string: UTF-8 without the octet 0.
-pub(crate) fn is_text(octets: &[u8]) -> bool
+/// Whether the octets are a string: UTF-8 without the octet 0, and at most 65,535 octets.
+pub fn is_text(octets: &[u8]) -> bool
     ensures value { result ≡ spec.is_text octets.now }
     ensures meaning { IsTrue result ↔ IsText octets.now }
 {
     octets.len() <= MAX_DATA && is_utf8(octets) && !octets.contains(&0)
 }
 
-/// Whether the octets are a string that is not empty.
-pub(crate) fn is_filter(octets: &[u8]) -> bool
+/// Whether the octets are a string that is not empty, as the filter of a subscription is. Where it
+/// has wildcards is not asked.
+pub fn is_filter(octets: &[u8]) -> bool
     ensures value { result ≡ spec.is_filter octets.now }
     ensures meaning { IsTrue result ↔ IsFilter octets.now }
 {
@@ -34,7 +35,7 @@ pub(crate) fn is_filter(octets: &[u8]) -> bool
 }
 
 /// Whether the octets are the name of a topic: such a string without a wildcard.
-pub(crate) fn is_topic(octets: &[u8]) -> bool
+pub fn is_topic(octets: &[u8]) -> bool
     ensures value { result ≡ spec.is_topic octets.now }
     ensures meaning { IsTrue result ↔ IsTopic octets.now }
 {

@@ -1,7 +1,7 @@
 -- What the readers of `decode` make of a body. They alone cite this file: `decode` is stated by the
 -- grammar.
 use Rattle.std.specs.Prelude.{◌≡◌, ◌≢◌, ℕ, ◌+◌, ◌*◌, ◌/◌, ◌%◌, ◌==◌, Bool, true, false, not, nat_lt, nat_le, ◌&&◌, ◌||◌, is_some, if◌then◌else◌, List, [], ◌∷◌, length, take, drop, Option, Some, None, option_map, Result, Ok, Err}
-use Rattle.std.specs.Str.{bytes_eq, is_utf8}
+use Rattle.std.specs.Str.{bytes_eq}
 use Rattle.mq_packet.specs.declared.fault.PacketFault.{PacketFault}
 use Rattle.mq_packet.specs.declared.fault.PacketFault.TheVariants as faults
 use Rattle.mq_packet.specs.declared.header.Header.{Header}
@@ -14,10 +14,9 @@ use Rattle.mq_packet.specs.declared.packet.Packet.{Packet}
 use Rattle.mq_packet.specs.declared.packet.Packet.TheVariants as packets
 use Rattle.mq_packet.specs.declared.packet.Qos.{Qos}
 use Rattle.mq_packet.specs.declared.packet.Qos.TheVariants as levels
-use Rattle.mq_packet.specs.declared.packet.TheConstants.{MAX_DATA}
 use Rattle.mq_packet.specs.declared.packet.Will.{Will}
 use Rattle.mq_packet.specs.Bodies.{bit, protocol, qos_number}
-use Rattle.mq_packet.specs.Text.{has_octet}
+use Rattle.mq_packet.specs.Text.{is_filter, is_text, is_topic}
 
 -- what a reader may answer, if this is what there is to read; only if there is something can it
 -- need memory
@@ -26,16 +25,6 @@ Gives there (Ok x) = there ≡ Some x
 Gives there (Err faults.Memory) = there ≢ None
 Gives there (Err faults.Body) = there ≡ None
 Gives there (Err fault) = ⊥
-
--- `IsText`, `IsFilter` and `IsTopic` as tests
-abbrev pub is_text : List ℕ → Bool
-is_text octets = nat_le (length octets) MAX_DATA && is_utf8 octets && not (has_octet 0 octets)
-
-abbrev pub is_filter : List ℕ → Bool
-is_filter octets = is_text octets && not (length octets == 0)
-
-abbrev pub is_topic : List ℕ → Bool
-is_topic octets = is_filter octets && not (has_octet 43 octets) && not (has_octet 35 octets)
 
 -- the number in two octets
 abbrev pub number : ℕ → ℕ → ℕ
@@ -84,7 +73,7 @@ qos_at n = if n == 0 then Some levels.Zero else (if n == 1 then Some levels.One 
 
 -- a return code of SUBACK
 abbrev pub grant_at : ℕ → Option (Option Qos)
-grant_at n = if n == 0x80 then Some None else option_map (λ qos. Some qos) (qos_at n)
+grant_at n = if n == 0x80 then Some None else (qos_at n >>= λ qos. Some (Some qos))
 
 -- one octet and nothing else
 abbrev pub read_octet : List ℕ → Option ℕ

@@ -1,0 +1,3 @@
+pub mod Apart
+pub mod Below
+pub mod Mapped
