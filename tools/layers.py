@@ -33,7 +33,7 @@ MAY_USE = {
     "daemon": [*STEPS, "journal", "gateway"],
     "simulator": [*STEPS, "replicas", "gateway"],
     "programs": [*STEPS, "replicas", "journal", "gateway", "daemon", "simulator"],
-    "tests and benchmarks": [*STEPS, "replicas", "journal", "gateway", "daemon", "simulator"],
+    "tests and benchmarks": [*STEPS, "bridge", "replicas", "journal", "gateway", "daemon", "simulator"],
 }
 
 # Crates that may use a further group: the clauses of gw_world about a run are proved from the laws.

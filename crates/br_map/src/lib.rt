@@ -20,6 +20,4 @@ mod prefix;
 pub use fault::PrefixFault;
 pub use filters::{apart, apart_below};
 pub use laws::{mapped_apart, mapped_topic};
-pub use mq_packet;
 pub use prefix::{MAX_PREFIX, Prefix};
-pub use sn_topic;
