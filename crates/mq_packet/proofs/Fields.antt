@@ -57,15 +57,30 @@ data_taken [] x b h = cc
 data_taken (high ∷ []) x b h = cc
 data_taken (high ∷ low ∷ rest) x b h = data_at high low rest x b h
 
+-- two pairs are the same if their parts are
+same_pair : (a b c d : List ℕ) → a ≡ c → b ≡ d → ◌≡◌ {A = Option (List ℕ × List ℕ)} (Some (a, b)) (Some (c, d))
+same_pair a b c d p q =
+    let P : List ℕ → Type 0 = λ x. ◌≡◌ {A = Option (List ℕ × List ℕ)} (Some (a, b)) (Some (x, b)) in
+    let Q : List ℕ → Type 0 = λ y. ◌≡◌ {A = Option (List ℕ × List ℕ)} (Some (a, b)) (Some (c, y)) in
+    subst Q q (subst P p refl)
+
+-- so many octets, and the others
+abbrev data_by : ℕ → List ℕ → Option (List ℕ × List ℕ)
+data_by n octets = cond (leb n (length octets)) (Some (take n octets, drop n octets)) None
+
 -- a string or data with its length reads as it, whatever follows
 pub data_again : (octets rest : List ℕ) → IsData octets → read_data (data_octets octets ++ rest) ≡ Some (octets, rest)
 data_again octets rest h =
     let size : number (length octets / 256 % 256) (length octets % 256) ≡ length octets = number-octets (length octets) (omega arith) in
     let whole = length-append octets rest in
-    let P : ℕ → Type 0 = λ n. cond (leb n (length (octets ++ rest))) (Some (take n (octets ++ rest), drop n (octets ++ rest))) None ≡ Some (octets, rest) in
+    let found : Option (List ℕ × List ℕ) = Some (octets, rest) in
+    let P : ℕ → Type 0 = λ n. data_by n (octets ++ rest) ≡ found in
+    let fits : leb (length octets) (length (octets ++ rest)) ≡ true = le-leb (length octets) (length (octets ++ rest)) (omega arith) in
     let front = take_at octets rest (length octets) refl in
     let back = drop_at octets rest (length octets) refl in
-    subst P (sym size) (chosen (leb (length octets) (length (octets ++ rest))) _ None (le-leb _ _ (omega arith)) ∙ cc)
+    subst P (sym size)
+    (chosen (leb (length octets) (length (octets ++ rest))) _ None fits
+    ∙ same_pair (take (length octets) (octets ++ rest)) (drop (length octets) (octets ++ rest)) octets rest front back)
 
 -- the octets of what the flags say is there
 abbrev pub data_if : Bool → List ℕ → List ℕ
@@ -114,11 +129,16 @@ id_taken [] x b h = cc
 id_taken (high ∷ []) x b h = cc
 id_taken (high ∷ low ∷ rest) x b h = id_at high low rest x b h
 
+abbrev id_by : ℕ → List ℕ → Option (ℕ × List ℕ)
+id_by n rest = cond (n == 0) None (Some (n, rest))
+
 pub id_again : (id : ℕ) (rest : List ℕ) → IsId id → IsNumber id → read_id (big_bytes 2 id ++ rest) ≡ Some (id, rest)
 id_again id rest some fits =
     let size : number (id / 256 % 256) (id % 256) ≡ id = number-octets id fits in
-    let P : ℕ → Type 0 = λ n. cond (n == 0) None (Some (n, rest)) ≡ Some (id, rest) in
-    subst P (sym size) (otherwise (id == 0) None _ (ne_eqb id 0 (λ e. omega arith)))
+    let found : Option (ℕ × List ℕ) = Some (id, rest) in
+    let P : ℕ → Type 0 = λ n. id_by n rest ≡ found in
+    let not_zero : (id == 0) ≡ false = ne_eqb id 0 (λ e. omega arith) in
+    subst P (sym size) (otherwise (id == 0) None _ not_zero)
 
 -- a packet id and nothing else
 pub record TakesOnly (bytes : List ℕ) (n : ℕ) : Type 0 where
