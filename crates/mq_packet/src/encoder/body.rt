@@ -56,17 +56,17 @@ fn are_logins(login: &Option<Login>) -> bool
 {
     match login {
         None => true,
-        Some(login) => is_text(login.user.as_slice()) && are_short(&login.password),
+        Some(login) => is_text(login.user.as_slice()) && are_few(&login.password),
     }
 }
 
-/// Whether data, if there is any, is short enough.
-fn are_short(data: &Option<Octets>) -> bool
-    ensures { IsTrue result ↔ IfSome data.now IsData }
+/// Whether octets, if there are any, are few enough.
+fn are_few(octets: &Option<Octets>) -> bool
+    ensures { IsTrue result ↔ IfSome octets.now IsData }
 {
-    match data {
+    match octets {
         None => true,
-        Some(data) => data.len() <= MAX_DATA,
+        Some(octets) => octets.len() <= MAX_DATA,
     }
 }
 
