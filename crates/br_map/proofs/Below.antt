@@ -1,12 +1,12 @@
 -- filters and topics that are put below a prefix
-use Rattle.std.proofs.Common.{◌≡◌, ℕ, ◌==◌, ◌||◌, ◌&&◌, not, Bool, true, false, cond, IsTrue, List, [], ◌∷◌, ◌++◌, refl, ap, sym, subst, ◌∙◌}
+use Rattle.std.proofs.Common.{◌≡◌, ℕ, ◌==◌, ◌||◌, ◌&&◌, not, Bool, true, false, cond, List, [], ◌∷◌, ◌++◌, refl, sym, subst}
 use Rattle.std.specs.List.{onto_first}
 use Rattle.std.specs.Str.{bytes_eq}
 use Rattle.std.proofs.lemmas.Bool.{and_parts, and_from, or_parts, or_from, or_right}
 use Rattle.std.proofs.lemmas.Slice.Eq.{bytes_eq-Decides}
 use Rattle.mq_packet.specs.Text.{has_octet}
 use Rattle.sn_topic.specs.Levels.{begins_with_wildcard, is_hash, is_plus, levels}
-use Rattle.sn_topic.specs.Matching.{Matches, begins_with_dollar, is_match, level_agrees, levels_match, no_level}
+use Rattle.sn_topic.specs.Matching.{Matches, begins_with_dollar, level_agrees, levels_match, no_level}
 use Rattle.sn_topic.proofs.Rule.{is_match-Matches}
 use Rattle.br_map.specs.Apart.{ends_a_level}
 use Rattle.br_map.specs.Mapping.{has_any}

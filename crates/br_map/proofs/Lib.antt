@@ -1,3 +1,3 @@
-pub mod Apart
+pub mod Meeting
 pub mod Below
 pub mod Mapped

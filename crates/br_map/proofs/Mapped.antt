@@ -1,18 +1,18 @@
 -- what a field's topic becomes
-use Rattle.std.proofs.Common.{◌≡◌, ℕ, ◌+◌, ◌*◌, ◌/◌, ◌%◌, ◌<◌, ◌≤◌, ◌==◌, ◌||◌, ◌&&◌, not, ltb, Bool, true, false, cond, IsTrue, IsFalse, List, [], ◌∷◌, ◌++◌, length, refl, ap, sym, subst, ◌∙◌, length-append, arith}
-use Rattle.std.specs.List.{AllByRecursion, list_any}
+use Rattle.std.proofs.Common.{◌≡◌, ℕ, ◌+◌, ◌*◌, ◌/◌, ◌%◌, ◌<◌, ◌≤◌, ◌==◌, ◌&&◌, not, ltb, Bool, true, false, cond, List, [], ◌∷◌, ◌++◌, length, refl, sym, subst, ◌∙◌, length-append, arith}
+use Rattle.std.specs.List.{AllByRecursion}
 use Rattle.std.specs.Str.{IsAscii, IsUtf8}
-use Rattle.std.proofs.lemmas.Bool.{and_parts, cond_both, eqb-false, ltb-true, ltb-false, ne_eqb, not-true, or_from, or_parts}
+use Rattle.std.proofs.lemmas.Bool.{and_parts, cond_both, ltb-true, ne_eqb, not-true, or_from, or_parts}
 use Rattle.std.proofs.lemmas.List.{append_cancel_left}
 use Rattle.std.proofs.lemmas.List.Folds.{list_any-append}
 use Rattle.std.proofs.lemmas.Str.{IsUtf8-append, IsUtf8-from_ascii}
 use Rattle.std.proofs.lemmas.Str.Ascii.{IsAscii-cons, IsAscii-nil}
-use Rattle.mq_packet.specs.Text.{IsData, IsFilter, IsText, IsTopic, has_octet, is_text}
+use Rattle.mq_packet.specs.Text.{IsTopic, has_octet, is_text}
 use Rattle.mq_packet.proofs.Texts.{text_from}
 use Rattle.sn_topic.specs.Levels.{has_wildcard, is_wildcard}
 use Rattle.sn_topic.specs.Matching.{begins_with_dollar}
 use Rattle.sn_topic.specs.Topics.{IsName}
-use Rattle.br_map.specs.Mapping.{IsPrefix, begins_with_tilde, broker_name, broker_topic, digit, has_any, hex, is_plain}
+use Rattle.br_map.specs.Mapping.{IsPrefix, begins_with_tilde, broker_name, broker_topic, digit, hex, is_plain}
 
 -- each octet is below 256
 abbrev pub AreOctets : List ℕ → Type 0

@@ -1,5 +1,5 @@
 -- whether two filters have no topic in common
-use Rattle.std.specs.Prelude.{ℕ, Bool, true, false, ◌==◌, ◌||◌, ◌&&◌, not, List, [], ◌∷◌, ◌++◌}
+use Rattle.std.specs.Prelude.{ℕ, Bool, true, ◌==◌, ◌||◌, ◌&&◌, not, List, [], ◌∷◌, ◌++◌}
 use Rattle.std.specs.Str.{bytes_eq}
 use Rattle.sn_topic.specs.Levels.{begins_with_wildcard, is_hash, is_plus, levels}
 use Rattle.sn_topic.specs.Matching.{begins_with_dollar, levels_match, no_level}

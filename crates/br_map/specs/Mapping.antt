@@ -1,5 +1,5 @@
 -- which broker's topic a field's topic is
-use Rattle.std.specs.Prelude.{◌≡◌, ℕ, ◌+◌, ◌/◌, ◌%◌, ◌<◌, ◌≤◌, nat_lt, ◌==◌, Bool, true, false, ◌||◌, ◌&&◌, not, if◌then◌else◌, List, [], ◌∷◌, ◌++◌, length, IsTrue, IsFalse}
+use Rattle.std.specs.Prelude.{ℕ, ◌+◌, ◌/◌, ◌%◌, ◌<◌, ◌≤◌, nat_lt, ◌==◌, Bool, false, ◌||◌, ◌&&◌, not, if◌then◌else◌, List, [], ◌∷◌, ◌++◌, length, IsTrue, IsFalse}
 use Rattle.br_map.specs.declared.fault.PrefixFault.{PrefixFault}
 use Rattle.br_map.specs.declared.fault.PrefixFault.TheVariants as faults
 use Rattle.br_map.specs.declared.prefix.TheConstants.{MAX_PREFIX}

@@ -1,6 +1,5 @@
 -- octets have one first fault
-use Rattle.std.proofs.Common.{◌≡◌, ℕ, ◌<◌, ◌≤◌, ◌⊎◌, inl, inr, List, [], ◌∷◌, length, take, refl, ap, sym, subst, arith}
-use Rattle.std.specs.Prelude.{◌≢◌}
+use Rattle.std.proofs.Common.{◌≡◌, ℕ, ◌⊎◌, inl, inr, List, [], ◌∷◌, length, refl, ap, subst, arith}
 use Rattle.mq_packet.specs.declared.fault.PacketFault.{PacketFault}
 use Rattle.mq_packet.specs.declared.fault.PacketFault.TheVariants as faults
 use Rattle.mq_packet.specs.declared.header.Header.{Header}
@@ -8,7 +7,7 @@ use Rattle.mq_packet.specs.Faults.{IsFirstFault, IsHeadFault, IsHeadThen, IsLeng
 use Rattle.mq_packet.specs.Grammar.{IsFramed, IsSaid}
 use Rattle.mq_packet.specs.Headers.{octet_of}
 use Rattle.mq_packet.proofs.Lengths.{one_said, said_or_fault}
-use Rattle.mq_packet.proofs.Refusals.{framed_fault, is_refused}
+use Rattle.mq_packet.proofs.Refusals.{framed_fault}
 
 -- how far octets are read before a fault is found
 data Found (octets : List ℕ) (e : PacketFault) : Type 0 where

@@ -1,21 +1,20 @@
 -- a packet that was read has the body that it was read from, and each packet's body reads as it
-use Rattle.std.proofs.Common.{◌≡◌, ℕ, ◌^◌, ◌<◌, ◌≤◌, ◌==◌, ◌&&◌, Bool, true, false, cond, leb, List, [], ◌∷◌, ◌++◌, length, Option, Some, None, refl, ap, sym, subst, ◌∙◌, append_assoc, arith}
+use Rattle.std.proofs.Common.{◌≡◌, ℕ, ◌^◌, ◌<◌, ◌==◌, ◌&&◌, Bool, true, false, cond, leb, List, [], ◌∷◌, ◌++◌, length, Option, Some, None, refl, ap, sym, subst, ◌∙◌, append_assoc}
 use Rattle.std.specs.Prelude.{option_map}
-use Rattle.std.proofs.lemmas.Bool.{and_parts, and_from, le-leb, leb-true, eqb-true, eq-eqb}
+use Rattle.std.proofs.lemmas.Bool.{le-leb, leb-true, eqb-true, eq-eqb}
 use Rattle.std.proofs.lemmas.List.{append-nil, nil_from_length}
 use Rattle.std.proofs.lemmas.Option.{cond_some}
 use Rattle.byteorder.specs.Endian.{big_bytes}
 use Rattle.mq_packet.specs.declared.header.Header.{Header}
 use Rattle.mq_packet.specs.declared.header.Header.TheVariants as headers
-use Rattle.mq_packet.specs.declared.packet.Delivery.{Delivery}
 use Rattle.mq_packet.specs.declared.packet.Delivery.TheVariants as deliveries
 use Rattle.mq_packet.specs.declared.packet.Packet.{Packet}
 use Rattle.mq_packet.specs.declared.packet.Packet.TheVariants as packets
 use Rattle.mq_packet.specs.declared.packet.Qos.{Qos}
-use Rattle.mq_packet.specs.Bodies.{IsAnswer, IsDelivery, IsMessage, IsSixteen, IsValue, body_of, data_octets, delivery_octets, grant_number, header_of, publication_of, qos_number}
+use Rattle.mq_packet.specs.Bodies.{IsAnswer, IsMessage, IsValue, body_of, data_octets, grant_number, header_of, qos_number}
 use Rattle.mq_packet.specs.Text.{is_filter, is_topic}
 use Rattle.mq_packet.specs.inner.Reading.{◌>>=◌, filter_first, grant_at, only_id, packet_of, publication, qos_at, read_acknowledged, read_bare, read_conn_ack, read_data, read_id, read_octet, read_once, read_sub_ack, read_subscribe, read_unsubscribe}
-use Rattle.mq_packet.proofs.Fields.{TakesId, TakesOnly, bound, data_again, data_taken, grant_again, grant_taken, id_again, id_taken, octet_taken, only_again, only_taken, qos_again, qos_taken, some_bound}
+use Rattle.mq_packet.proofs.Fields.{TakesOnly, bound, data_again, data_taken, grant_again, grant_taken, id_again, id_taken, octet_taken, only_again, only_taken, qos_again, qos_taken}
 use Rattle.mq_packet.proofs.Numbers.{IsBytes, chosen}
 use Rattle.mq_packet.proofs.ReadConnect.{connect_again, connect_taken}
 use Rattle.mq_packet.proofs.Standing.{IsOf, Stands, guarded, stands_at, stands_by}

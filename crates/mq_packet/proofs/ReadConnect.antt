@@ -1,6 +1,6 @@
 -- CONNECT: what was read has the octets that it was read from, and each reads as it
 use Rattle.std.proofs.Common.{◌≡◌, ℕ, suc, ◌+◌, ◌*◌, ◌/◌, ◌%◌, ◌^◌, ◌<◌, ◌==◌, ◌&&◌, ◌||◌, not, Bool, true, false, cond, ltb, List, [], ◌∷◌, ◌++◌, length, take, drop, Option, Some, None, refl, ap, sym, subst, ◌∙◌, append_assoc, arith}
-use Rattle.std.specs.Prelude.{IfSome, is_some, option_map}
+use Rattle.std.specs.Prelude.{IfSome, is_some}
 use Rattle.std.specs.Str.{bytes_eq}
 use Rattle.std.proofs.lemmas.Bool.{and_parts, and_from, eqb-true, le-ltb}
 use Rattle.std.proofs.lemmas.List.{append-nil, nil_from_length, take-append-drop}
@@ -15,11 +15,11 @@ use Rattle.mq_packet.specs.declared.packet.Packet.TheVariants as packets
 use Rattle.mq_packet.specs.declared.packet.Qos.{Qos}
 use Rattle.mq_packet.specs.declared.packet.Qos.TheVariants as levels
 use Rattle.mq_packet.specs.declared.packet.Will.{Will}
-use Rattle.mq_packet.specs.Bodies.{IsLogin, IsMessage, IsNumber, IsValue, IsWill, bit, body_of, data_octets, login_bits, login_octets, password_octets, protocol, will_bits, will_octets}
+use Rattle.mq_packet.specs.Bodies.{IsLogin, IsMessage, IsNumber, IsValue, IsWill, bit, body_of, data_octets, login_bits, login_octets, protocol, will_bits, will_octets}
 use Rattle.mq_packet.specs.Text.{IsData, IsText, is_text, is_topic}
 use Rattle.mq_packet.specs.inner.Reading.{◌>>=◌, Parts, are_good, connection, has_password, login_made, login_mark_bits, marks_at, marks_octet, number, past_protocol, read_connect, read_connection, read_data, read_data_if, read_marked, read_marks, read_parts, will_made, will_mark_bits}
-use Rattle.mq_packet.proofs.Fields.{TakesIf, bound, data_again, data_if, data_if_again, data_if_taken, data_taken, some_bound}
-use Rattle.mq_packet.proofs.Numbers.{IsBytes, bytes-drop, chosen, number-fits, number-octets, octets-number, otherwise}
+use Rattle.mq_packet.proofs.Fields.{bound, data_again, data_if, data_if_again, data_if_taken, data_taken, some_bound}
+use Rattle.mq_packet.proofs.Numbers.{IsBytes, chosen, number-fits, number-octets, octets-number, otherwise}
 use Rattle.mq_packet.proofs.Standing.{IsOf, Stands, stands_by}
 use Rattle.mq_packet.proofs.Texts.{text_from, text_to, topic_from, topic_to}
 

@@ -1,5 +1,5 @@
 -- what octets that spell a packet say about reading, and about refusals
-use Rattle.std.proofs.Common.{◌≡◌, ℕ, ◌≤◌, ◌⊎◌, inl, inr, List, [], ◌∷◌, ◌++◌, length, Option, Some, None, refl, ap, sym, subst, arith}
+use Rattle.std.proofs.Common.{◌≡◌, ℕ, ◌≤◌, ◌⊎◌, inl, inr, List, ◌++◌, length, Option, Some, None, refl, ap, sym, subst, arith}
 use Rattle.std.specs.Prelude.{Result, Ok, Err, IfOk, IfErr, ◌≢◌}
 use Rattle.mq_packet.specs.declared.fault.PacketFault.{PacketFault}
 use Rattle.mq_packet.specs.declared.fault.PacketFault.TheVariants as faults
@@ -7,7 +7,7 @@ use Rattle.mq_packet.specs.declared.header.Header.{Header}
 use Rattle.mq_packet.specs.declared.packet.Packet.{Packet}
 use Rattle.mq_packet.specs.Bodies.{IsMessage, IsValue, body_of, header_of}
 use Rattle.mq_packet.specs.Faults.{IsFirstFault, IsHeadFault, IsHeadThen, IsLengthFault}
-use Rattle.mq_packet.specs.Grammar.{IsFramed, IsSaid, Spells, fewest, framed_of, length_in, size_of, spelling}
+use Rattle.mq_packet.specs.Grammar.{IsFramed, IsSaid, Spells, fewest, length_in, size_of, spelling}
 use Rattle.mq_packet.specs.Headers.{octet_of}
 use Rattle.mq_packet.specs.inner.Reading.{Gives, packet_of}
 use Rattle.mq_packet.proofs.Framing.{body_bytes, one_framing, one_header}

@@ -1,9 +1,8 @@
 -- worked examples of the definitions
-use Rattle.std.proofs.Common.{◌≡◌, ℕ, true, false, [], ◌∷◌, ◌++◌, length, take, None, Some, refl, replicate, lit<, lit≤}
+use Rattle.std.proofs.Common.{◌≡◌, true, false, [], ◌∷◌, take, None, Some, refl}
 use Rattle.std.specs.Prelude.{codes}
 use Rattle.mq_packet.specs.declared.fault.PacketFault.TheVariants as faults
 use Rattle.mq_packet.specs.declared.packet.Delivery.TheVariants as deliveries
-use Rattle.mq_packet.specs.declared.packet.Packet.{Packet}
 use Rattle.mq_packet.specs.declared.packet.Packet.TheVariants as packets
 use Rattle.mq_packet.specs.declared.packet.Qos.TheVariants as levels
 use Rattle.mq_packet.specs.Faults.{refusal_of}

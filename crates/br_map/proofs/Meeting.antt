@@ -1,5 +1,5 @@
 -- filters that a topic matches overlap
-use Rattle.std.proofs.Common.{◌≡◌, ℕ, ◌<◌, ◌==◌, ◌||◌, ◌&&◌, not, Bool, true, false, cond, inl, inr, IsTrue, Bor, Option, Some, None, MatchOption, List, [], ◌∷◌, length, refl, ap, sym, subst}
+use Rattle.std.proofs.Common.{◌≡◌, ℕ, ◌<◌, ◌==◌, ◌||◌, ◌&&◌, not, Bool, true, false, cond, inl, inr, Bor, Option, Some, None, MatchOption, List, [], ◌∷◌, length, refl, ap, sym, subst}
 use Rattle.std.specs.List.{onto_first}
 use Rattle.std.specs.Option.{option_copied}
 use Rattle.std.specs.Str.{bytes_eq}
@@ -71,11 +71,11 @@ no_plus (x ∷ first) = refl
 -- so a name that is asked for by one has that level
 dollar_level : (first : List ℕ) (more given : List (List ℕ)) (hash plus : Bool) → is_hash (36 ∷ first) ≡ hash → is_plus (36 ∷ first) ≡ plus → hash ≡ false → plus ≡ false
     → levels_match ((36 ∷ first) ∷ more) given ≡ true → (others : List (List ℕ)) × (given ≡ (36 ∷ first) ∷ others)
-dollar_level first more [] hash plus e d no none h =
+dollar_level first more [] hash plus e d free none h =
     let parts = and_parts (is_hash (36 ∷ first)) (no_level more) h in
     let wrong : true ≡ false = cc in
     absurd cc
-dollar_level first more (n ∷ given) hash plus e d no none h =
+dollar_level first more (n ∷ given) hash plus e d free none h =
     elim (or_cases (is_hash (36 ∷ first) && no_level more) (level_agrees (36 ∷ first) n && levels_match more given) h) as (λ _. (others : List (List ℕ)) × (n ∷ given ≡ (36 ∷ first) ∷ others)) [
       | inl left ↦
           let parts = and_parts (is_hash (36 ∷ first)) (no_level more) left in
@@ -120,8 +120,8 @@ apart_rule f g h topic m n =
         | inr second ↦ apart_by_dollar g f topic second n m
       ]
       | inr none ↦
-          let no = not-true (overlap (levels f) (levels g)) none in
-          let yes = overlap_of (levels f) (levels g) (levels topic) (levels_of f topic m) (levels_of g topic n) in
+          let never = not-true (overlap (levels f) (levels g)) none in
+          let always = overlap_of (levels f) (levels g) (levels topic) (levels_of f topic m) (levels_of g topic n) in
           let wrong : true ≡ false = cc in
           absurd cc
     ]
