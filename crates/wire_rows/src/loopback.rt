@@ -12,6 +12,7 @@ use sn_local::Addr;
 use std::alloc::Global;
 use std::net::{Net, SocketAddr};
 use std::sync::Wait;
+use std::sync::atomic::{AtomicBool, Ordering};
 use std::thread;
 use std::thread::Threads;
 use std::time::Clock;
@@ -40,7 +41,12 @@ pub(crate) struct Questions<'a> {
 struct Asker {
     socket: UdpSocket,
     at: SocketAddr,
+    /// Whether nobody serves any more.
+    is_over: AtomicBool,
 }
+
+/// The octets that an answer has at most.
+const ROOM: usize = 64;
 
 /// Asks, prints the first answer, and tells how serving ended.
 pub(crate) fn over_sockets<T: Threads + Wait + Sync + Clock + Net>(
@@ -51,21 +57,30 @@ pub(crate) fn over_sockets<T: Threads + Wait + Sync + Clock + Net>(
     passes: Vec<Pass>,
     questions: &Questions<'_>,
 ) -> Result<Outcome, Stop> {
-    let Ok(mut socket) = Socket::bind(rt, alloc, HOME) else {
-        return Err(Stop::Line);
-    };
+    let mut socket = Socket::bind(rt, alloc, HOME)?;
     let asker = asker_of(rt, socket.local)?;
-    let (answer, outcome) = asked(rt, alloc, shift, passes, &mut socket, &asker, questions);
+    let room = Vec::from_elem(alloc, 0u8, ROOM)?;
+    let (answer, outcome) = asked(
+        rt,
+        alloc,
+        shift,
+        passes,
+        &mut socket,
+        &asker,
+        questions,
+        room,
+    );
     print_answer(alloc, text, answer)?;
     Ok(outcome)
 }
 
 /// Somebody who asks the gateway at this address.
 fn asker_of<T: Net>(rt: &T, at: SocketAddr) -> Result<Asker, Stop> {
-    match UdpSocket::bind(rt, address(HOME)) {
-        Ok(socket) => Ok(Asker { socket, at }),
-        Err(_) => Err(Stop::Line),
-    }
+    Ok(Asker {
+        socket: UdpSocket::bind(rt, address(HOME))?,
+        at,
+        is_over: AtomicBool::new(false),
+    })
 }
 
 /// The first answer to what is asked over a socket, and how serving ended.
@@ -77,12 +92,13 @@ fn asked<T: Threads + Wait + Sync + Clock>(
     socket: &mut Socket,
     asker: &Asker,
     questions: &Questions<'_>,
+    room: Vec<u8>,
 ) -> (Option<Vec<u8>>, Outcome) {
     let clock = FieldClock::new();
     let _ = clock.look(rt);
     let (mut ears, mouth) = socket.sides(&clock);
     side_by_side(
-        rt, alloc, shift, passes, &mut ears, &mouth, asker, questions,
+        rt, alloc, shift, passes, &mut ears, &mouth, asker, questions, room,
     )
 }
 
@@ -107,6 +123,7 @@ fn side_by_side<T, R, D, W, P>(
     post: &P,
     asker: &Asker,
     questions: &Questions<'_>,
+    room: Vec<u8>,
 ) -> (Option<Vec<u8>>, Outcome)
 where
     T: Threads + Wait + Sync,
@@ -120,37 +137,52 @@ where
     let second = questions.second;
     let socket = &asker.socket;
     let at = asker.at;
+    let is_over = &asker.is_over;
     thread::join(
         rt,
-        || -> Option<Vec<u8>> { ask_both(alloc, socket, at, first, second) },
-        || -> Outcome { serve_all(rt, alloc, shift, passes, wire, post, &OpenGate, TURNS) },
+        || -> Option<Vec<u8>> { ask_both(socket, at, first, second, room, is_over) },
+        || -> Outcome {
+            let outcome = serve_all(rt, alloc, shift, passes, wire, post, &OpenGate, TURNS);
+            is_over.store(true, Ordering::Release);
+            outcome
+        },
     )
 }
 
 /// Sends both, the second after the answer to the first, which is handed back.
 fn ask_both(
-    alloc: Global,
     socket: &UdpSocket,
     at: SocketAddr,
     first: &[u8],
     second: &[u8],
+    room: Vec<u8>,
+    is_over: &AtomicBool,
 ) -> Option<Vec<u8>> {
-    let answer = ask(alloc, socket, at, first);
+    let answer = ask(socket, at, first, room, is_over);
     let _ = socket.send_to(second, at);
     answer
 }
 
-/// Sends a datagram, and waits for the next that comes.
-fn ask(alloc: Global, socket: &UdpSocket, at: SocketAddr, bytes: &[u8]) -> Option<Vec<u8>> {
+/// Sends a datagram, and waits for the next that comes, for as long as somebody serves.
+fn ask(
+    socket: &UdpSocket,
+    at: SocketAddr,
+    bytes: &[u8],
+    mut room: Vec<u8>,
+    is_over: &AtomicBool,
+) -> Option<Vec<u8>> {
     if socket.send_to(bytes, at).is_err() {
         return None;
     }
-    let mut got = [0u8; 64];
     for _ in 0..LOOKS {
-        match socket.recv_from(&mut got) {
-            Ok((size, _)) => return Vec::from_slice(alloc, got.get(..size)?).ok(),
-            Err(_) => thread::yield_now(),
+        if let Ok((size, _)) = socket.recv_from(room.as_mut_slice()) {
+            room.truncate(size);
+            return Some(room);
         }
+        if is_over.load(Ordering::Acquire) {
+            return None;
+        }
+        thread::yield_now();
     }
     None
 }

@@ -2,6 +2,7 @@
 
 use octets::NoMemory;
 use std::alloc::{AllocError, AllocFailed};
+use std::io;
 use thiserror::Error;
 
 /// Why a line is not played.
@@ -30,5 +31,14 @@ impl From<NoMemory> for Stop {
 impl<T: Drop> From<AllocFailed<T>> for Stop {
     fn from(_error: AllocFailed<T>) -> Stop {
         Stop::Memory
+    }
+}
+
+impl From<io::Error> for Stop {
+    fn from(error: io::Error) -> Stop {
+        match error.kind() {
+            io::ErrorKind::OutOfMemory => Stop::Memory,
+            _ => Stop::Line,
+        }
     }
 }
