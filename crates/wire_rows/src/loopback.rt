@@ -102,14 +102,14 @@ fn asked<T: Threads + Wait + Sync + Clock>(
     )
 }
 
-/// What was answered, if anything.
+/// What was answered; the row ends if nothing was.
 fn print_answer(alloc: Global, text: &mut String, answer: Option<Vec<u8>>) -> Result<(), Stop> {
     match answer {
         Some(octets) => {
             let octets = shown(alloc, octets.as_slice())?;
             Ok(writeln!(text, "answered {octets}")?)
         }
-        None => Ok(text.push_str("not answered\n")?),
+        None => Err(Stop::Unanswered),
     }
 }
 

@@ -14,6 +14,9 @@ pub(crate) enum Stop {
     /// Memory ran out.
     #[error("out of memory")]
     Memory,
+    /// Nobody answered over a socket. A thread that is refused runs after the other one.
+    #[error("not answered: memory or a thread was refused")]
+    Unanswered,
 }
 
 impl From<AllocError> for Stop {
