@@ -71,7 +71,15 @@ pub(crate) fn over_sockets<T: Threads + Wait + Sync + Clock + Net>(
         room,
     );
     print_answer(alloc, text, answer)?;
+    if outcome.cause.is_none() && came(&outcome) < 2 {
+        return Err(Stop::TooLate);
+    }
     Ok(outcome)
+}
+
+/// How many datagrams came.
+fn came(outcome: &Outcome) -> usize {
+    outcome.taken.len().saturating_add(outcome.left.len())
 }
 
 /// Somebody who asks the gateway at this address.
@@ -109,7 +117,7 @@ fn print_answer(alloc: Global, text: &mut String, answer: Option<Vec<u8>>) -> Re
             let octets = shown(alloc, octets.as_slice())?;
             Ok(writeln!(text, "answered {octets}")?)
         }
-        None => Err(Stop::Unanswered),
+        None => Err(Stop::TooLate),
     }
 }
 

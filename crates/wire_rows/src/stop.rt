@@ -14,9 +14,10 @@ pub(crate) enum Stop {
     /// Memory ran out.
     #[error("out of memory")]
     Memory,
-    /// Nobody answered over a socket. A thread that is refused runs after the other one.
-    #[error("not answered: memory or a thread was refused")]
-    Unanswered,
+    /// A datagram, or its answer, came too late over a socket. A thread that is refused runs after
+    /// the other ones.
+    #[error("too late: memory or a thread was refused")]
+    TooLate,
 }
 
 impl From<AllocError> for Stop {
