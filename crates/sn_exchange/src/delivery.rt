@@ -57,6 +57,7 @@ fn begin(
     ensures { OnOk result (draft.new ≡ begun peer.now session.now put.now phase frame
         draft.old) }
 {
+    send(alloc, peer, frame, draft)?;
     let exchange = Outbound {
         origin: put.origin,
         seq: put.seq,
@@ -67,7 +68,6 @@ fn begin(
         exchange: Some(exchange),
         next_id: next_after(session.next_id),
     })?;
-    send(alloc, peer, frame, draft)?;
     draft.note(LocalChange::Sent {
         client: peer.client.copied(alloc)?,
         moment: peer.moment,
@@ -140,12 +140,13 @@ fn register_first(
         draft.ack(put.seq, put.origin)?;
         return Ok(false);
     };
+    let ToldId { id, change } = told;
+    draft.change_if(change)?;
     let frame = Frame::Register {
-        topic_id: told.id,
+        topic_id: id,
         msg_id: session.next_id,
         name: Octets::from_slice(alloc, put.topic.bytes())?,
     };
-    draft.change_if(told.change)?;
     begin(alloc, peer, session, put, Phase::Registering, frame, draft)?;
     Ok(true)
 }

@@ -71,7 +71,15 @@ pub(crate) fn over_sockets<T: Threads + Wait + Sync + Clock + Net>(
         room,
     );
     print_answer(alloc, text, answer)?;
+    if outcome.cause.is_none() && came(&outcome) < 2 {
+        return Err(Stop::TooLate);
+    }
     Ok(outcome)
+}
+
+/// How many datagrams came.
+fn came(outcome: &Outcome) -> usize {
+    outcome.taken.len().saturating_add(outcome.left.len())
 }
 
 /// Somebody who asks the gateway at this address.
@@ -102,14 +110,14 @@ fn asked<T: Threads + Wait + Sync + Clock>(
     )
 }
 
-/// What was answered, if anything.
+/// What was answered; the row ends if nothing was.
 fn print_answer(alloc: Global, text: &mut String, answer: Option<Vec<u8>>) -> Result<(), Stop> {
     match answer {
         Some(octets) => {
             let octets = shown(alloc, octets.as_slice())?;
             Ok(writeln!(text, "answered {octets}")?)
         }
-        None => Ok(text.push_str("not answered\n")?),
+        None => Err(Stop::TooLate),
     }
 }
 

@@ -14,6 +14,10 @@ pub(crate) enum Stop {
     /// Memory ran out.
     #[error("out of memory")]
     Memory,
+    /// A datagram, or its answer, came too late over a socket. A thread that is refused runs after
+    /// the other ones.
+    #[error("too late: memory or a thread was refused")]
+    TooLate,
 }
 
 impl From<AllocError> for Stop {
