@@ -1,2 +1,3 @@
 -- What proofs stand on and no public clause cites.
+pub mod Naming
 pub mod Stopping

@@ -4,6 +4,7 @@ ghost use Rattle.std.specs.Prelude.{◌≡◌, ◌≢◌, ◌≤◌, ◌==◌, I
 ghost use Rattle.std.specs.List.{list_all};
 ghost use Rattle.jr_journal.specs.Faults.{fault_of};
 ghost use Rattle.jr_read.specs.Places.{slots_of, octets_in, IsTold};
+ghost use Rattle.jr_mend.specs.inner.Naming.{ending_of};
 ghost use Rattle.jr_mend.specs.Mending as spec;
 
 use jr_disk::Slot;
@@ -26,7 +27,7 @@ pub struct Cut {
 impl Cut {
     /// How the name of its file ends.
     pub(crate) fn ending(self) -> u8
-        ensures { result ≤ 1 }
+        ensures { result ≡ ending_of self.slot }
     {
         match self.slot {
             Slot::First => 0,

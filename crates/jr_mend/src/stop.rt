@@ -1,6 +1,7 @@
 //! Why nothing was mended.
 
 ghost use Rattle.std.specs.Prelude.{◌≡◌};
+ghost use Rattle.jr_mend.specs.declared.stop.Stop.TheVariants.{Memory};
 ghost use Rattle.jr_mend.specs.inner.Stopping as spec;
 
 use std::alloc::{AllocError, AllocFailed};
@@ -50,12 +51,16 @@ impl Stop {
 }
 
 impl From<AllocError> for Stop {
+    ghost from_gives = { λ _ e. e ≡ Memory };
+
     fn from(_error: AllocError) -> Stop {
         Stop::Memory
     }
 }
 
 impl<T: Drop> From<AllocFailed<T>> for Stop {
+    ghost from_gives = { λ _ e. e ≡ Memory };
+
     fn from(_error: AllocFailed<T>) -> Stop {
         Stop::Memory
     }
