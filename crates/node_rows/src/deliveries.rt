@@ -171,10 +171,12 @@ fn heard(
     bytes: &[u8],
 ) -> Result<Draft, Stop> {
     let frame = frame_of(alloc, bytes)?;
-    match &frame {
+    let draft = match &frame {
         Frame::PubRel { msg_id } => released(alloc, peer, session, *msg_id),
         frame => acknowledged(alloc, peer, session, pending, frame),
-    }
+    };
+    drop(frame);
+    draft
 }
 
 /// The frame that octets spell, of which nothing more is said.

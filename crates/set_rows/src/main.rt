@@ -154,6 +154,7 @@ use rep_plain::Plain;
 use rep_state::Folded;
 use std::alloc::{AllocError, Global};
 use std::io::{self, Write};
+use std::mem;
 use std::process::ExitCode;
 
 /// What stands in front of a row's name.
@@ -282,8 +283,8 @@ fn begin_row<R: Replica>(
     page: &mut Page<R>,
     line: &str,
 ) -> Result<(), Stop> {
-    page.datagrams = datagrams::begin(alloc)?;
-    page.row = begin(alloc)?;
+    drop(mem::replace(&mut page.datagrams, datagrams::begin(alloc)?));
+    drop(mem::replace(&mut page.row, begin(alloc)?));
     Ok(writeln!(text, "{line}")?)
 }
 
