@@ -206,7 +206,7 @@ fn play_octets<R: Replica>(
 ) -> Result<(), Stop> {
     match first {
         "octets" => {
-            row.octets = names::octets(alloc, names, rest)?;
+            drop(mem::replace(&mut row.octets, names::octets(alloc, names, rest)?));
             Ok(())
         }
         "behind" => deltas::behind(alloc, names, &mut row.octets, rest),
