@@ -20,9 +20,9 @@ use std::fs::{File, Files};
 use std::io::{Eprint, ErrorKind, Print};
 use std::net::{Net, TcpListener, TcpStream};
 use std::sync::{Mutex, Wait};
-use std::thread;
 use std::thread::Threads;
 use std::time::{Clock, Duration};
+use std::{mem, thread};
 
 /// Works so many shifts. The sockets are open from before the first to after the last.
 pub(crate) fn run<T, R, D>(
@@ -39,10 +39,61 @@ where
     R::Staged: Send,
     D: Disk + Drop + Send,
 {
-    let socket = match Socket::bind(rt, alloc, settings.listen) {
-        Ok(socket) => socket,
-        Err(error) => return Err(no_socket(rt, "listen", error.kind())),
+    let mut opened = open_all(rt, alloc, settings)?;
+    let place = Mutex::new(Some(node));
+    let over = Stage::new(0, 0);
+    let worked = run_beside(
+        rt,
+        alloc,
+        settings,
+        &place,
+        &mut opened.inlet,
+        shifts,
+        opened.doors.as_mut_slice(),
+        &opened.listener,
+        &opened.pool,
+        &over,
+    );
+    drop(place);
+    drop(opened);
+    worked
+}
+
+/// What a gateway is reached by: open from before its first shift to after its last.
+#[derive(Drop)]
+struct Opened {
+    inlet: Inlet,
+    listener: TcpListener,
+    pool: Pool<TcpStream>,
+    doors: Vec<Door>,
+}
+
+/// Opens all that a gateway is reached by.
+fn open_all<T>(rt: &T, alloc: Global, settings: &Settings) -> Result<Opened, Stop>
+where
+    T: Eprint + Net<Listener = TcpListener, Stream = TcpStream>,
+{
+    let inlet = inlet_of(rt, alloc, settings)?;
+    let listener = listener_of(rt, settings)?;
+    let Some(pool) = Pool::new(alloc, settings.peers.len(), settings.numbers.as_slice()) else {
+        return Err(Stop::Memory);
     };
+    let Some(doors) = doors_of(alloc, settings) else {
+        return Err(Stop::Memory);
+    };
+    Ok(Opened {
+        inlet,
+        listener,
+        pool,
+        doors,
+    })
+}
+
+/// The listener of links.
+fn listener_of<T>(rt: &T, settings: &Settings) -> Result<TcpListener, Stop>
+where
+    T: Eprint + Net<Listener = TcpListener, Stream = TcpStream>,
+{
     let listener = match TcpListener::bind(rt, address(settings.link)) {
         Ok(listener) => listener,
         Err(error) => return Err(no_socket(rt, "link", error.kind())),
@@ -50,31 +101,15 @@ where
     if listener.set_nonblocking(true).is_err() {
         return Err(Stop::Socket);
     }
-    let Some(pool) = Pool::new(alloc, settings.peers.len(), settings.numbers.as_slice()) else {
-        return Err(Stop::Memory);
-    };
-    let Some(mut doors) = doors_of(alloc, settings) else {
-        return Err(Stop::Memory);
-    };
-    let mut inlet = inlet_of(alloc, settings, socket)?;
-    let place = Mutex::new(Some(node));
-    let over = Stage::new(0, 0);
-    run_beside(
-        rt,
-        alloc,
-        settings,
-        &place,
-        &mut inlet,
-        shifts,
-        doors.as_mut_slice(),
-        &listener,
-        &pool,
-        &over,
-    )
+    Ok(listener)
 }
 
 /// Where datagrams come from, and go to.
-fn inlet_of(alloc: Global, settings: &Settings, socket: Socket) -> Result<Inlet, Stop> {
+fn inlet_of<T: Eprint + Net>(rt: &T, alloc: Global, settings: &Settings) -> Result<Inlet, Stop> {
+    let socket = match Socket::bind(rt, alloc, settings.listen) {
+        Ok(socket) => socket,
+        Err(error) => return Err(no_socket(rt, "listen", error.kind())),
+    };
     let Some(late) = Late::none(alloc) else {
         return Err(Stop::Memory);
     };
@@ -184,9 +219,18 @@ where
         begin_anew(rt, alloc, &worked.node, pool, worked.tended);
         let _ = println!(rt; "shift {} steps {}", number + 1, steps);
         let node = go_on(rt, alloc, worked, inlet, pool, &mut keeper)?;
-        *place.lock(rt) = Some(node);
+        put_back(rt, place, node);
     }
     Ok(())
+}
+
+/// Puts a gateway into its place.
+fn put_back<T: Wait, R: Replica, D: Disk + Drop>(
+    rt: &T,
+    place: &Mutex<Option<Node<R, D>>>,
+    node: Node<R, D>,
+) {
+    drop(mem::replace(&mut *place.lock(rt), Some(node)));
 }
 
 /// Tends a gateway after its shift, if it was halted, or its journal has grown. If its writes fail
@@ -272,19 +316,36 @@ where
     let Some(mut node) = place.lock(rt).take() else {
         return Ok(());
     };
+    let written = write_anew(rt, alloc, &mut node, inlet, pool, keeper);
+    put_back(rt, place, node);
+    written
+}
+
+/// Tries to write what was read until it is written.
+fn write_anew<T, R, D>(
+    rt: &T,
+    alloc: Global,
+    node: &mut Node<R, D>,
+    inlet: &mut Inlet,
+    pool: &Pool<TcpStream>,
+    keeper: &mut Keeper<'_>,
+) -> Result<(), Stop>
+where
+    T: Wait + Clock + Print + Files<File = File>,
+    R: Replica,
+    D: Disk + Drop,
+{
     if node.records() == 0 {
-        *place.lock(rt) = Some(node);
         return Ok(());
     }
     for _ in rt.forever() {
-        let tended = tend_behind(rt, alloc, &mut node, pool, keeper)?;
+        let tended = tend_behind(rt, alloc, node, pool, keeper)?;
         if is_written(tended) {
             keeper.note_written();
-            *place.lock(rt) = Some(node);
             return Ok(());
         }
         if tended == Tended::Starved {
-            tell(rt, alloc, &node);
+            tell(rt, alloc, node);
         }
         let silence = keeper.wait_longer();
         be_silent(rt, inlet, &pool.clock, silence);

@@ -4,9 +4,9 @@ use crate::fields::{digits, host, number};
 use crate::options::begin_on;
 use crate::pipe::{Pipe, Place};
 use crate::printing::{print_answer, print_over, shown};
-use crate::serving::{Gateway, Shared, close, shift_of};
+use crate::serving::{Gateway, Over, Shared, close, shift_of};
 use crate::stop::Stop;
-use gw_link::{End, Link, Origin, Phase, call, talk};
+use gw_link::{End, Link, Origin, Phase, Stage, call, talk};
 use gw_node::{Answer, Step};
 use gw_run::{Pool, Seat, sit};
 use gw_shift::Pass;
@@ -15,6 +15,7 @@ use octets::{Octets, read_u32};
 use sn_local::Addr;
 use std::alloc::{AllocError, Global};
 use std::collections::VecDeque;
+use std::mem;
 use std::sync::{Arc, Wait};
 use std::time::Clock;
 
@@ -118,19 +119,47 @@ pub(crate) fn meet<T: Wait + Clock>(
     let mut first = side_of(alloc, text, 1)?;
     let mut second = side_of(alloc, text, 2)?;
     let mut third = side_of(alloc, &mut aside, 3)?;
-    join(rt, alloc, &mut first, &mut second, &near, &far)?;
-    if deeds.iter().any(|deed| deed.gateway == 3) {
-        text.push_str(aside.as_str())?;
-        join(rt, alloc, &mut second, &mut third, &inner, &outer)?;
+    let mut played = join(rt, alloc, &mut first, &mut second, &near, &far);
+    if played.is_ok() && deeds.iter().any(|deed| deed.gateway == 3) {
+        played = join_aside(
+            rt,
+            alloc,
+            text,
+            aside.as_str(),
+            &mut second,
+            &mut third,
+            &inner,
+            &outer,
+        );
     }
-    let played = happen_all(rt, alloc, text, &mut first, &mut second, &mut third, deeds);
+    if played.is_ok() {
+        played = happen_all(rt, alloc, text, &mut first, &mut second, &mut third, deeds);
+    }
     let are_spared = are_spared(&mut first, &mut second, &mut third);
+    drop(first);
+    drop(second);
+    drop(third);
     let said_all = !near.is_short() && !far.is_short() && !inner.is_short() && !outer.is_short();
     if said_all && are_spared {
         played
     } else {
         Err(Stop::Memory)
     }
+}
+
+/// The third gateway has a link too, and what its opening printed counts.
+fn join_aside<'a, T: Wait>(
+    rt: &'a T,
+    alloc: Global,
+    text: &mut String,
+    aside: &str,
+    second: &mut Side<'a, T>,
+    third: &mut Side<'a, T>,
+    inner: &'a Place,
+    outer: &'a Place,
+) -> Result<(), Stop> {
+    text.push_str(aside)?;
+    join(rt, alloc, second, third, inner, outer)
 }
 
 /// All that happens, in its order.
@@ -309,7 +338,7 @@ fn ask<'a, T: Wait>(
         return Err(Stop::Line);
     };
     let (pass, answered) = call(rt, alloc, &shift, pass, step, &place.stage);
-    side.open = Some(OpenShift { shift, pass, seat });
+    put_back(side, OpenShift { shift, pass, seat });
     print_asked(alloc, text, side.number, answered)
 }
 
@@ -345,12 +374,25 @@ fn talk_all<'a, T: Wait + Clock>(
 ) -> Result<(), Stop> {
     for _ in 0..side.ties.len() {
         let mut tie = take_first(side)?;
-        let end = talk_over(rt, alloc, side, &mut tie, phase)?;
-        print_said(rt, alloc, text, side.number, &tie)?;
-        print_end(text, side.number, end)?;
+        let talked = talk_once(rt, alloc, text, side, &mut tie, phase);
         put_last(side, tie)?;
+        talked?;
     }
     Ok(())
+}
+
+/// A link of a gateway talks, and what it said is printed.
+fn talk_once<'a, T: Wait + Clock>(
+    rt: &T,
+    alloc: Global,
+    text: &mut String,
+    side: &mut Side<'a, T>,
+    tie: &mut Tie<'a, T>,
+    phase: Phase,
+) -> Result<(), Stop> {
+    let end = talk_over(rt, alloc, side, tie, phase)?;
+    print_said(rt, alloc, text, side.number, tie)?;
+    print_end(text, side.number, end)
 }
 
 /// A link of a gateway talks from a phase of the shift on, to the end of the shift. Says why it
@@ -382,11 +424,12 @@ fn talk_over<'a, T: Wait + Clock>(
         stage,
         &side.pool.relay,
     );
-    side.open = Some(OpenShift { shift, pass, seat });
+    put_back(side, OpenShift { shift, pass, seat });
     if end == End::Full {
-        tie.link = Some(link);
+        drop(mem::replace(&mut tie.link, Some(link)));
     } else {
         side.pool.relay.leave(rt, link.place);
+        drop(link);
     }
     Ok(end)
 }
@@ -460,6 +503,19 @@ fn sit_down<'a, T: Wait + Clock>(
     side: &mut Side<'a, T>,
 ) -> Result<(), Stop> {
     let mut tie = take_first(side)?;
+    let sat = sit_with(rt, alloc, text, side, &mut tie);
+    put_last(side, tie)?;
+    sat
+}
+
+/// A link of a gateway talks at a seat, and then it is closed.
+fn sit_with<'a, T: Wait + Clock>(
+    rt: &T,
+    alloc: Global,
+    text: &mut String,
+    side: &mut Side<'a, T>,
+    tie: &mut Tie<'a, T>,
+) -> Result<(), Stop> {
     let Some(link) = tie.link.take() else {
         return Err(Stop::Line);
     };
@@ -468,25 +524,39 @@ fn sit_down<'a, T: Wait + Clock>(
     if is_closed(rt, &side.pool, origin) {
         return Err(Stop::Memory);
     }
+    let end = serve_seat(rt, alloc, side, &tie.place.stage)?;
+    print_said(rt, alloc, text, side.number, tie)?;
+    if let Some(end) = end {
+        print_end(text, side.number, end)?;
+    }
+    print_room(rt, text, side.number, &side.pool, origin)?;
+    side.pool.close_all(rt);
+    print_room(rt, text, side.number, &side.pool, origin)
+}
+
+/// Serves the first seat of a gateway's pool. Says why its link stopped, if it did.
+fn serve_seat<'a, T: Wait + Clock>(
+    rt: &T,
+    alloc: Global,
+    side: &mut Side<'a, T>,
+    stage: &Stage,
+) -> Result<Option<End>, Stop> {
     let Some(OpenShift { shift, pass, seat }) = side.open.take() else {
         return Err(Stop::Line);
     };
-    let stage = &tie.place.stage;
     stage.go_to(rt, Phase::Serving);
     let seat = Seat {
         pass: seat,
         end: None,
     };
     let Seat { pass: seat, end } = sit(rt, alloc, &shift, seat, &side.pool, side.number, stage);
-    side.open = Some(OpenShift { shift, pass, seat });
-    print_said(rt, alloc, text, side.number, &tie)?;
-    if let Some(end) = end {
-        print_end(text, side.number, end)?;
-    }
-    print_room(rt, text, side.number, &side.pool, origin)?;
-    side.pool.close_all(rt);
-    print_room(rt, text, side.number, &side.pool, origin)?;
-    put_last(side, tie)
+    put_back(side, OpenShift { shift, pass, seat });
+    Ok(end)
+}
+
+/// Puts a gateway's shift back, from which something was taken.
+fn put_back<'a, T: Wait>(side: &mut Side<'a, T>, opened: OpenShift) {
+    drop(mem::replace(&mut side.open, Some(opened)));
 }
 
 /// Whether a link that was dialled is closed: a pool closes one that it has no memory for.
@@ -523,16 +593,33 @@ fn turn<'a, T: Wait>(
     let Some(OpenShift { shift, pass, seat }) = side.open.take() else {
         return Err(Stop::Line);
     };
+    let over = close(shift, both(alloc, pass, seat)?);
+    let printed = print_turn(alloc, text, side.number, &over);
+    open_next(alloc, side, over)?;
+    side.pool.begin_shift(rt);
+    begin_links(side)?;
+    printed
+}
+
+/// Both passes.
+fn both(alloc: Global, pass: Pass, seat: Pass) -> Result<Vec<Pass>, Stop> {
     let mut passes = Vec::new(alloc);
     passes.push(pass)?;
     passes.push(seat)?;
-    let over = close(shift, passes);
-    let number = side.number;
+    Ok(passes)
+}
+
+/// How a gateway's shift went.
+fn print_turn(alloc: Global, text: &mut String, number: u8, over: &Over) -> Result<(), Stop> {
     write!(text, "{number} ")?;
-    print_over(alloc, text, &over)?;
-    side.open = Some(open_shift(alloc, over.node)?);
-    side.pool.begin_shift(rt);
-    begin_links(side)
+    print_over(alloc, text, over)
+}
+
+/// The next shift of a gateway is opened.
+fn open_next<'a, T: Wait>(alloc: Global, side: &mut Side<'a, T>, over: Over) -> Result<(), Stop> {
+    let opened = open_shift(alloc, over.node)?;
+    put_back(side, opened);
+    Ok(())
 }
 
 /// The next shift begins for the links of a gateway.
