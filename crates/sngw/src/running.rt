@@ -73,7 +73,7 @@ fn open_all<T>(rt: &T, alloc: Global, settings: &Settings) -> Result<Opened, Sto
 where
     T: Eprint + Net<Listener = TcpListener, Stream = TcpStream>,
 {
-    let inlet = inlet_of(rt, alloc, settings)?;
+    let socket = socket_of(rt, alloc, settings)?;
     let listener = listener_of(rt, settings)?;
     let Some(pool) = Pool::new(alloc, settings.peers.len(), settings.numbers.as_slice()) else {
         return Err(Stop::Memory);
@@ -81,12 +81,21 @@ where
     let Some(doors) = doors_of(alloc, settings) else {
         return Err(Stop::Memory);
     };
+    let inlet = inlet_of(alloc, settings, socket)?;
     Ok(Opened {
         inlet,
         listener,
         pool,
         doors,
     })
+}
+
+/// The socket of datagrams.
+fn socket_of<T: Eprint + Net>(rt: &T, alloc: Global, settings: &Settings) -> Result<Socket, Stop> {
+    match Socket::bind(rt, alloc, settings.listen) {
+        Ok(socket) => Ok(socket),
+        Err(error) => Err(no_socket(rt, "listen", error.kind())),
+    }
 }
 
 /// The listener of links.
@@ -105,11 +114,7 @@ where
 }
 
 /// Where datagrams come from, and go to.
-fn inlet_of<T: Eprint + Net>(rt: &T, alloc: Global, settings: &Settings) -> Result<Inlet, Stop> {
-    let socket = match Socket::bind(rt, alloc, settings.listen) {
-        Ok(socket) => socket,
-        Err(error) => return Err(no_socket(rt, "listen", error.kind())),
-    };
+fn inlet_of(alloc: Global, settings: &Settings, socket: Socket) -> Result<Inlet, Stop> {
     let Some(late) = Late::none(alloc) else {
         return Err(Stop::Memory);
     };
@@ -211,17 +216,46 @@ where
             return Ok(());
         };
         know_clients(alloc, settings, &node, inlet, pool.clock.second());
-        let worked = work(rt, alloc, settings, node, inlet, pool, number)?;
-        if let Some(other) = pool.relay.found_by(rt) {
-            return Err(used(rt, settings.gateway, other));
-        }
-        let steps = worked.steps;
-        begin_anew(rt, alloc, &worked.node, pool, worked.tended);
-        let _ = println!(rt; "shift {} steps {}", number + 1, steps);
-        let node = go_on(rt, alloc, worked, inlet, pool, &mut keeper)?;
-        put_back(rt, place, node);
+        let mut worked = work(rt, alloc, settings, node, inlet, pool, number)?;
+        let gone = end_shift(
+            rt,
+            alloc,
+            settings,
+            &mut worked,
+            inlet,
+            pool,
+            number + 1,
+            &mut keeper,
+        );
+        put_back(rt, place, worked.node);
+        gone?;
     }
     Ok(())
+}
+
+/// Tells of the shift of this number, from 1 on, which is over, and tends the gateway.
+fn end_shift<T, R, D>(
+    rt: &T,
+    alloc: Global,
+    settings: &Settings,
+    worked: &mut Worked<R, D>,
+    inlet: &mut Inlet,
+    pool: &Pool<TcpStream>,
+    number: u64,
+    keeper: &mut Keeper<'_>,
+) -> Result<(), Stop>
+where
+    T: Wait + Clock + Print + Eprint + Files<File = File>,
+    R: Replica,
+    D: Disk + Drop,
+{
+    if let Some(other) = pool.relay.found_by(rt) {
+        return Err(used(rt, settings.gateway, other));
+    }
+    let steps = worked.steps;
+    begin_anew(rt, alloc, &worked.node, pool, worked.tended);
+    let _ = println!(rt; "shift {} steps {}", number, steps);
+    go_on(rt, alloc, worked, inlet, pool, keeper)
 }
 
 /// Puts a gateway into its place.
@@ -238,30 +272,23 @@ fn put_back<T: Wait, R: Replica, D: Disk + Drop>(
 fn go_on<T, R, D>(
     rt: &T,
     alloc: Global,
-    worked: Worked<R, D>,
+    worked: &mut Worked<R, D>,
     inlet: &mut Inlet,
     pool: &Pool<TcpStream>,
     keeper: &mut Keeper<'_>,
-) -> Result<Node<R, D>, Stop>
+) -> Result<(), Stop>
 where
     T: Wait + Clock + Print + Files<File = File>,
     R: Replica,
     D: Disk + Drop,
 {
-    let Worked {
-        mut node,
-        steps: _,
-        tended,
-        has_written,
-        has_recorded,
-    } = worked;
-    let has_failed = tended == Tended::Reopened || node.is_halted();
-    if has_failed || (has_written && keeper.is_grown(rt, alloc)) {
-        tend_behind(rt, alloc, &mut node, pool, keeper)?;
+    let has_failed = worked.tended == Tended::Reopened || worked.node.is_halted();
+    if has_failed || (worked.has_written && keeper.is_grown(rt, alloc)) {
+        tend_behind(rt, alloc, &mut worked.node, pool, keeper)?;
     }
-    let silence = keeper.silence_after(has_recorded, has_failed);
+    let silence = keeper.silence_after(worked.has_recorded, has_failed);
     be_silent(rt, inlet, &pool.clock, silence);
-    Ok(node)
+    Ok(())
 }
 
 /// From now on the clients that the gateway knows are no newcomers. If memory runs out, some of
