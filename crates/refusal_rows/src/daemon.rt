@@ -71,10 +71,10 @@ fn begin_once(alloc: Global, said: &mut Said) -> Result<(), Stop> {
 /// The status of a start that is refused.
 fn begun(alloc: Global, out: &mut Page, err: &mut Page) -> Result<Option<u8>, Stop> {
     let read = beside(settings(alloc, LONG))?;
-    match begin::<Folded, _, Page, Page>(alloc, &read, MemoryDisk::new(alloc), out, err) {
-        Ok(_) => Ok(None),
-        Err(status) => Ok(Some(status)),
-    }
+    let begun = begin::<Folded, _, Page, Page>(alloc, &read, MemoryDisk::new(alloc), out, err);
+    let status = begun.err();
+    drop(read);
+    Ok(status)
 }
 
 /// Looks at what a refused start prints. The disk, which begins empty, is gone then.

@@ -22,10 +22,10 @@ pub(crate) struct Deltas {
 
 impl Calls for Deltas {
     fn make(alloc: Global, _call: &str, _is_second: bool) -> Result<Deltas, Stop> {
+        let out = front(alloc)?;
+        let octets = octets_of(alloc, &FIRST)?;
         let client = client(alloc)?;
         let delta = delta(alloc, &FIRST)?;
-        let octets = octets_of(alloc, &FIRST)?;
-        let out = front(alloc)?;
         Ok(Deltas {
             client,
             delta,
@@ -48,14 +48,19 @@ impl Calls for Deltas {
                 given(alloc, said, read, memory)
             }
             "Delta::copy" => given(alloc, said, self.delta.copy(alloc), memory),
-            "Delta::encode" => {
-                let done = self.delta.encode(alloc, &mut self.out);
-                written(said, done, memory, self.out.as_slice())?;
-                said.octets(self.out.as_slice());
-                Ok(())
-            }
+            "Delta::encode" => self.write(alloc, said),
             _ => Err(Stop::Row),
         }
+    }
+}
+
+impl Deltas {
+    /// Writes the delta.
+    fn write(&mut self, alloc: Global, said: &mut Said) -> Result<(), Stop> {
+        let done = self.delta.encode(alloc, &mut self.out);
+        written(said, done, OpsFault::Memory, self.out.as_slice())?;
+        said.octets(self.out.as_slice());
+        Ok(())
     }
 }
 

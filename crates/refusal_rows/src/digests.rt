@@ -20,16 +20,18 @@ pub(crate) struct Digests<R: Replica> {
 
 impl<R: Replica> Calls for Digests<R> {
     fn make(alloc: Global, call: &str, is_second: bool) -> Result<Digests<R>, Stop> {
-        if call == "answer" && !is_second {
-            let replica = first(alloc)?;
-            let digest = digest_of_none::<R>(alloc)?;
-            return made_of(alloc, replica, digest);
-        }
-        if call == "answer" || (call == "digest_of" && !is_second) {
-            made(alloc, first(alloc)?)
+        let is_answer = call == "answer";
+        let replica: R = if is_answer || (call == "digest_of" && !is_second) {
+            first(alloc)?
         } else {
-            made(alloc, filled(alloc)?)
-        }
+            filled(alloc)?
+        };
+        let digest = if is_answer && !is_second {
+            digest_of_none::<R>(alloc)
+        } else {
+            digest(alloc, &replica)
+        };
+        made_of(alloc, replica, digest?)
     }
 
     fn call_once(&mut self, alloc: Global, said: &mut Said, call: &str) -> Result<(), Stop> {
@@ -53,12 +55,6 @@ impl<R: Replica> Calls for Digests<R> {
             _ => Err(Stop::Row),
         }
     }
-}
-
-/// A replica with its own digest.
-fn made<R: Replica>(alloc: Global, replica: R) -> Result<Digests<R>, Stop> {
-    let digest = digest(alloc, &replica)?;
-    made_of(alloc, replica, digest)
 }
 
 /// A replica with a digest.

@@ -48,8 +48,8 @@ impl Calls for Frames {
 /// What is read and written.
 fn made(alloc: Global, digits: &[&str], size: usize) -> Result<Frames, Stop> {
     let datagram = octets_of(alloc, digits)?;
-    let frame = publish(alloc, size)?;
     let out = front(alloc)?;
+    let frame = publish(alloc, size)?;
     Ok(Frames {
         datagram,
         frame,

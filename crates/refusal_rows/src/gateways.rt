@@ -103,20 +103,31 @@ fn made<R: Replica>(
 fn with_disk<R: Replica>(alloc: Global, is_second: bool) -> Result<Gateways<R>, Stop> {
     let mut made = made(alloc, Step::Digest, b"", true)?;
     if is_second {
-        made.disk = connected::<R>(alloc)?.into_disk();
+        made.put_disk(alloc)?;
     }
     Ok(made)
 }
 
 impl<R: Replica> Gateways<R> {
+    /// Puts the disk of another gateway into the place of the empty one.
+    fn put_disk(&mut self, alloc: Global) -> Result<(), Stop> {
+        let node = connected::<R>(alloc)?;
+        drop(mem::replace(&mut self.disk, node.into_disk()));
+        Ok(())
+    }
+
     /// Opens another gateway.
     fn open(&mut self, alloc: Global, said: &mut Said) -> Result<(), Stop> {
         let config = config(alloc, 1)?;
         let disk = mem::replace(&mut self.disk, MemoryDisk::new(alloc));
         match open::<R>(alloc, config, disk) {
-            Ok(node) => show_opened(alloc, said, &node),
+            Ok(node) => {
+                let shown = show_opened(alloc, said, &node);
+                drop(node);
+                shown
+            }
             Err((disk, fault)) => {
-                self.disk = disk;
+                drop(mem::replace(&mut self.disk, disk));
                 Err(look_closed(said, self.disk.starved(), fault))
             }
         }
@@ -126,7 +137,9 @@ impl<R: Replica> Gateways<R> {
     fn look(&mut self, alloc: Global, said: &mut Said, answer: Answer) -> Result<(), Stop> {
         match answer {
             Ok(out) => {
-                show_out(alloc, said, &out)?;
+                let shown = show_out(alloc, said, &out);
+                drop(out);
+                shown?;
                 let octets = kept(alloc, &self.node)?;
                 said.octets(octets.as_slice());
                 Ok(())
@@ -160,7 +173,8 @@ impl<R: Replica> Gateways<R> {
     /// Puts a gateway as it was in the place of a halted one.
     fn revive(&mut self, alloc: Global) -> Result<(), Stop> {
         if self.node.is_halted() {
-            self.node = before(alloc, self.is_new)?;
+            let node = before(alloc, self.is_new)?;
+            drop(mem::replace(&mut self.node, node));
         }
         Ok(())
     }
@@ -250,9 +264,19 @@ fn new<R: Replica>(alloc: Global) -> Result<Gateway<R>, Stop> {
 /// A gateway at which the client is connected.
 pub(crate) fn connected<R: Replica>(alloc: Global) -> Result<Gateway<R>, Stop> {
     let mut node = new(alloc)?;
-    let step = frame(alloc, CONNECT)?;
-    beside(called(alloc, &mut node, &step))?;
+    connect(alloc, &mut node)?;
     Ok(node)
+}
+
+/// The client connects at a gateway.
+fn connect<R: Replica>(alloc: Global, node: &mut Gateway<R>) -> Result<(), Stop> {
+    let step = frame(alloc, CONNECT)?;
+    let refused = beside(called(alloc, node, &step)).err();
+    drop(step);
+    match refused {
+        None => Ok(()),
+        Some(stop) => Err(stop),
+    }
 }
 
 /// What a row begins with.

@@ -111,11 +111,23 @@ where
         said.page.clear();
         played = play_row(rt, alloc, &mut said, name);
     }
+    print(out, err, name, &said, beside, ending(name, played))
+}
+
+/// Prints what a row says, and how often memory was refused to it.
+fn print<O: Write, E: Write>(
+    out: &mut O,
+    err: &mut E,
+    name: &str,
+    said: &Said,
+    beside: u32,
+    ending: &str,
+) -> Result<()> {
     out.write_all(b"== ")?;
     out.write_all(name.as_bytes())?;
     out.write_all(b"\n")?;
     out.write_all(said.page.as_slice())?;
-    out.write_all(ending(name, played).as_bytes())?;
+    out.write_all(ending.as_bytes())?;
     let (refused, disk) = (said.refused, said.disk);
     writeln!(err, "refused {refused} disk {disk} beside {beside}")?;
     Ok(())

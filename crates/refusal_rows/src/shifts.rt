@@ -8,6 +8,7 @@ use gw_shift::{CallFault, Pass, Shift, ShiftFault};
 use jr_journal::MemoryDisk;
 use rep_state::Folded;
 use std::alloc::Global;
+use std::mem;
 use std::sync::{Arc, Wait};
 
 /// A shift of a gateway on a disk in memory.
@@ -30,13 +31,16 @@ impl Calls for Shifts {
             return Err(Stop::Other);
         };
         match open(alloc, node, 2) {
-            Ok((_, passes)) => {
-                said.number("passes", passes.len());
+            Ok((shift, passes)) => {
+                let count = passes.len();
+                drop(passes);
+                drop(shift);
+                said.number("passes", count);
                 Ok(())
             }
             Err((node, ShiftFault::Memory)) => {
                 said.keep(!node.is_halted());
-                self.node = Some(node);
+                drop(mem::replace(&mut self.node, Some(node)));
                 Err(Stop::Refused)
             }
         }
@@ -84,18 +88,40 @@ pub(crate) fn play<W: Wait>(
     call: &str,
 ) -> Result<(), Stop> {
     let mut work = at_work(alloc)?;
+    let played = play_at(rt, alloc, said, &mut work, call);
+    if played.is_ok() && call == "Shift::call" {
+        return close(alloc, said, work);
+    }
+    drop(work);
+    played
+}
+
+/// Plays a row of a shift that is opened, up to its end.
+fn play_at<W: Wait>(
+    rt: &W,
+    alloc: Global,
+    said: &mut Said,
+    work: &mut Work,
+    call: &str,
+) -> Result<(), Stop> {
     let step = Arc::new(alloc, frame(alloc, SUBSCRIBE)?)?;
     match call {
-        "Shift::call" => {
-            call_again(rt, alloc, said, &mut work, &step)?;
-            close(alloc, said, work)
-        }
-        "Shift::after" => {
-            beside(work.call(rt, alloc, &mut Said::new(), step))?;
-            work.ask_again(rt, alloc, said)
-        }
+        "Shift::call" => call_again(rt, alloc, said, work, &step),
+        "Shift::after" => call_before(rt, alloc, said, work, step),
         _ => Err(Stop::Row),
     }
+}
+
+/// Makes a call through a shift beside the row, and asks for the deltas that it made.
+fn call_before<W: Wait>(
+    rt: &W,
+    alloc: Global,
+    said: &mut Said,
+    work: &mut Work,
+    step: Arc<Step>,
+) -> Result<(), Stop> {
+    beside(work.call(rt, alloc, &mut Said::new(), step))?;
+    work.ask_again(rt, alloc, said)
 }
 
 /// Makes a call through a shift, and makes it again if it is refused memory.
@@ -202,15 +228,35 @@ fn made<W: Wait>(rt: &W, alloc: Global, shift: &Shared, pass: &Pass) -> Result<u
 /// Ends a shift: its pass has all calls.
 fn close(alloc: Global, said: &mut Said, work: Work) -> Result<(), Stop> {
     let Work { shift, pass, calls } = work;
+    let counted = match passes_of(alloc, pass) {
+        Ok(passes) => count_in(shift, passes),
+        Err(stop) => {
+            drop(shift);
+            Err(stop)
+        }
+    };
+    said.keep(counted? == calls);
+    Ok(())
+}
+
+/// The pass, if it is there.
+fn passes_of(alloc: Global, pass: Option<Pass>) -> Result<Vec<Pass>, Stop> {
     let mut passes = Vec::new(alloc);
     if let Some(pass) = pass {
         passes.push(pass)?;
     }
-    match shift.end().close(passes) {
-        Ok(closed) => {
-            said.keep(closed.history.len() as u64 == calls);
-            Ok(())
+    Ok(passes)
+}
+
+/// How many calls the history of a shift has, which ends.
+fn count_in(shift: Shared, passes: Vec<Pass>) -> Result<u64, Stop> {
+    let closed = shift.end().close(passes).ok();
+    match closed {
+        Some(closed) => {
+            let count = closed.history.len() as u64;
+            drop(closed);
+            Ok(count)
         }
-        Err(_) => Err(Stop::Other),
+        None => Err(Stop::Other),
     }
 }

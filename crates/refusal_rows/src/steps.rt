@@ -92,10 +92,10 @@ impl<R: Replica> Calls for Steps<R> {
 
 /// A gateway that has heard nothing.
 fn fresh<R: Replica>(alloc: Global, digits: &str) -> Result<Steps<R>, Stop> {
+    let datagram = octets_of(alloc, &[digits])?;
+    let client = client(alloc)?;
     let config = config(alloc, 1)?;
     let replica = new(alloc)?;
-    let client = client(alloc)?;
-    let datagram = octets_of(alloc, &[digits])?;
     Ok(Steps {
         config,
         replica,
@@ -141,7 +141,9 @@ impl<R: Replica> Steps<R> {
     fn hear(&mut self, alloc: Global, word: &str) -> Result<(), Stop> {
         let plan = self.planned(alloc, word)?;
         let delta = beside(Delta::from_ops(alloc, plan.ops.into_vec()))?;
-        take(alloc, &mut self.replica, &delta)?;
+        let taken = take(alloc, &mut self.replica, &delta);
+        drop(delta);
+        taken?;
         beside(change(&mut self.dialogs, plan.local))
     }
 

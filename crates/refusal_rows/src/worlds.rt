@@ -60,6 +60,17 @@ fn show<R: Replica>(
     ran: Result<World<Gateway<R>>, WorldFault>,
 ) -> Result<(), Stop> {
     let world = asked(ran, WorldFault::Memory)?;
+    let shown = show_world(alloc, said, &world);
+    drop(world);
+    shown
+}
+
+/// Prints how much there is in a world, and what each of its gateways keeps.
+fn show_world<R: Replica>(
+    alloc: Global,
+    said: &mut Said,
+    world: &World<Gateway<R>>,
+) -> Result<(), Stop> {
     said.number("answers", world.answers.len());
     said.number("deltas", world.deltas.len());
     for node in world.gateways.as_slice() {
