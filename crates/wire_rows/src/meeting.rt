@@ -20,7 +20,7 @@ use std::sync::{Arc, Wait};
 use std::time::Clock;
 
 /// Something that happens at one of the gateways.
-#[derive(Debug, Drop)]
+#[derive(Drop)]
 pub(crate) struct Deed {
     /// The number of the gateway, 1 to 3.
     gateway: u64,
@@ -28,7 +28,7 @@ pub(crate) struct Deed {
 }
 
 /// What happens.
-#[derive(Debug, Drop)]
+#[derive(Drop)]
 enum Act {
     /// A datagram of these octets comes, from port 1 of a host.
     Ask(u32, Vec<u8>),
@@ -205,29 +205,41 @@ fn is_spared<'a, T: Wait>(side: &mut Side<'a, T>) -> bool {
 
 /// Ends a shift: whether no memory was refused in the disk of its gateway.
 fn end_spared(opened: OpenShift) -> bool {
-    let OpenShift { shift, .. } = opened;
-    !shift.end().node.starved()
+    let OpenShift { shift, pass, seat } = opened;
+    drop(pass);
+    drop(seat);
+    let ended = shift.end();
+    let is_spared = !ended.node.starved();
+    drop(ended);
+    is_spared
 }
 
 /// A gateway of this number on an empty disk, without a link.
 fn side_of<'a, T: Wait>(alloc: Global, text: &mut String, number: u8) -> Result<Side<'a, T>, Stop> {
-    let mut toml = String::new(alloc);
-    writeln!(toml, "gateway = {number}")?;
-    toml.push_str("listen = \"127.0.0.1:1\"\nlink = \"127.0.0.1:2\"\njournal = \"j\"\n")?;
-    let begun = begin_on(alloc, text, toml.as_str(), MemoryDisk::new(alloc))?;
-    // Nothing else refuses on an empty disk in memory.
-    let Some(node) = begun else {
-        return Err(Stop::Memory);
-    };
+    let opened = open_shift(alloc, node_of(alloc, text, number)?)?;
     let Some(pool) = Pool::new(alloc, 1, &[]) else {
         return Err(Stop::Memory);
     };
     Ok(Side {
         number,
-        open: Some(open_shift(alloc, node)?),
+        open: Some(opened),
         pool,
         ties: VecDeque::new(alloc),
     })
+}
+
+/// A gateway of this number on an empty disk.
+fn node_of(alloc: Global, text: &mut String, number: u8) -> Result<Gateway, Stop> {
+    let mut toml = String::new(alloc);
+    writeln!(toml, "gateway = {number}")?;
+    toml.push_str("listen = \"127.0.0.1:1\"\nlink = \"127.0.0.1:2\"\njournal = \"j\"\n")?;
+    let begun = begin_on(alloc, text, toml.as_str(), MemoryDisk::new(alloc));
+    drop(toml);
+    match begun? {
+        Some(node) => Ok(node),
+        // Nothing else refuses on an empty disk in memory.
+        None => Err(Stop::Memory),
+    }
 }
 
 /// A link between two gateways, which the first one dialled.
@@ -296,19 +308,27 @@ fn happen<'a, T: Wait + Clock>(
 ) -> Result<(), Stop> {
     match act {
         Act::Ask(host, octets) => ask(rt, alloc, text, side, *host, octets.as_slice()),
-        Act::Come(octets) => come(rt, alloc, place_of(side)?, octets.as_slice()),
         Act::Talk => talk_all(rt, alloc, text, side, Phase::Serving),
         Act::Last => talk_all(rt, alloc, text, side, Phase::Quiet),
         Act::Sit => sit_down(rt, alloc, text, side),
         Act::Turn => turn(rt, alloc, text, side),
+        _ => happen_to(rt, alloc, place_of(side)?, act),
+    }
+}
+
+/// Something happens to the first link of a gateway, which has no part in it.
+fn happen_to<T: Wait>(rt: &T, alloc: Global, place: &Place, act: &Act) -> Result<(), Stop> {
+    match act {
+        Act::Come(octets) => come(rt, alloc, place, octets.as_slice()),
         Act::Idle(count) => {
-            place_of(side)?.set_idle(*count);
+            place.set_idle(*count);
             Ok(())
         }
         Act::Takes(count) => {
-            place_of(side)?.set_takes(*count);
+            place.set_takes(*count);
             Ok(())
         }
+        _ => Err(Stop::Line),
     }
 }
 
@@ -321,25 +341,30 @@ fn ask<'a, T: Wait>(
     host: u32,
     octets: &[u8],
 ) -> Result<(), Stop> {
+    let place = place_of(side)?;
+    let step = step_of(alloc, host, octets)?;
+    let Some(OpenShift { shift, pass, seat }) = side.open.take() else {
+        return Err(Stop::Line);
+    };
+    let (pass, answered) = call(rt, alloc, &shift, pass, step, &place.stage);
+    put_back(side, OpenShift { shift, pass, seat });
+    let printed = print_asked(alloc, text, side.number, &answered);
+    drop(answered);
+    printed
+}
+
+/// The call of a datagram.
+fn step_of(alloc: Global, host: u32, octets: &[u8]) -> Result<Arc<Step>, Stop> {
     let from = Addr { host, port: 1 };
     let bytes = Octets::from_slice(alloc, octets)?;
-    let Ok(step) = Arc::new(
+    Ok(Arc::new(
         alloc,
         Step::Frame {
             from,
             bytes,
             now: 5,
         },
-    ) else {
-        return Err(Stop::Memory);
-    };
-    let place = place_of(side)?;
-    let Some(OpenShift { shift, pass, seat }) = side.open.take() else {
-        return Err(Stop::Line);
-    };
-    let (pass, answered) = call(rt, alloc, &shift, pass, step, &place.stage);
-    put_back(side, OpenShift { shift, pass, seat });
-    print_asked(alloc, text, side.number, answered)
+    )?)
 }
 
 /// Octets come to an end of the link.
@@ -353,11 +378,11 @@ fn print_asked(
     alloc: Global,
     text: &mut String,
     number: u8,
-    answered: Result<Answer, End>,
+    answered: &Result<Answer, End>,
 ) -> Result<(), Stop> {
     write!(text, "{number} was asked")?;
     match answered {
-        Ok(answer) => print_answer(alloc, text, &answer)?,
+        Ok(answer) => print_answer(alloc, text, answer)?,
         Err(End::Memory) => return Err(Stop::Memory),
         Err(end) => write!(text, ": {end}")?,
     }
