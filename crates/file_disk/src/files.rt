@@ -3,7 +3,7 @@
 ghost use Rattle.std.specs.Prelude.{◌≡◌, ◌+◌, IfOk};
 
 use crate::file::SlotFile;
-use crate::names::{FileDiskFault, existing, is_lost, or_made, sync_folder};
+use crate::names::{FileDiskFault, existing, is_lost, made_durable};
 use crate::slots::FileSlots;
 use jr_disk::{Disk, DiskFault, Failures, Short, Slot};
 use std::alloc::Global;
@@ -36,10 +36,8 @@ impl FileDisk<File> {
         if is_lost(&first, &second) {
             return Err(FileDiskFault::Lost);
         }
-        let first = or_made(first, rt, alloc, path, "0")?;
-        sync_folder(rt, path)?;
-        let second = or_made(second, rt, alloc, path, "1")?;
-        sync_folder(rt, path)?;
+        let first = made_durable(first, rt, alloc, path, "0")?;
+        let second = made_durable(second, rt, alloc, path, "1")?;
         Ok(FileDisk::over(first, second))
     }
 }

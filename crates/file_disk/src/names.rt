@@ -40,7 +40,9 @@ pub(crate) fn existing<R: Files<File = File>>(
     ending: &str,
 ) -> Result<Option<File>, FileDiskFault> {
     let name = name_of(alloc, path, ending)?;
-    match opened(rt, name.as_str(), false) {
+    let opened = opened(rt, name.as_str(), false);
+    drop(name);
+    match opened {
         Ok(file) => Ok(Some(mine(file)?)),
         Err(error) if error.kind() == ErrorKind::NotFound => Ok(None),
         Err(error) => Err(FileDiskFault::Files(error.kind())),
@@ -48,7 +50,7 @@ pub(crate) fn existing<R: Files<File = File>>(
 }
 
 /// The file of a slot, which is made where nothing was found.
-pub(crate) fn or_made<R: Files<File = File>>(
+fn or_made<R: Files<File = File>>(
     found: Option<File>,
     rt: &R,
     alloc: Global,
@@ -59,10 +61,25 @@ pub(crate) fn or_made<R: Files<File = File>>(
         return Ok(file);
     }
     let name = name_of(alloc, path, ending)?;
-    match opened(rt, name.as_str(), true) {
+    let opened = opened(rt, name.as_str(), true);
+    drop(name);
+    match opened {
         Ok(file) => mine(file),
         Err(error) => Err(FileDiskFault::Files(error.kind())),
     }
+}
+
+/// The file of a slot, which is made where nothing was found. Its name is durable then.
+pub(crate) fn made_durable<R: Files<File = File>>(
+    found: Option<File>,
+    rt: &R,
+    alloc: Global,
+    path: &str,
+    ending: &str,
+) -> Result<File, FileDiskFault> {
+    let file = or_made(found, rt, alloc, path, ending)?;
+    sync_folder(rt, path)?;
+    Ok(file)
 }
 
 /// Whether a file was lost. The name of the first one is made, and made durable, before the second,
@@ -122,7 +139,7 @@ fn apart(file: File) -> Result<File, FileDiskFault> {
 }
 
 /// Makes the names of new files durable: the folder is synced.
-pub(crate) fn sync_folder<R: Files<File = File>>(rt: &R, path: &str) -> Result<(), FileDiskFault> {
+fn sync_folder<R: Files<File = File>>(rt: &R, path: &str) -> Result<(), FileDiskFault> {
     let folder = match path.rfind('/') {
         None => ".",
         Some(0) => "/",

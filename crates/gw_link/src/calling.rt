@@ -108,6 +108,13 @@ pub fn dropped(fault: &NodeFault) -> Result<(), NoMemory>
     }
 }
 
+/// The same, as the end of what asked.
+pub(crate) fn passed_over(fault: NodeFault) -> Result<(), End> {
+    let is_dropped = dropped(&fault);
+    drop(fault);
+    Ok(is_dropped?)
+}
+
 /// Whether the gateway refused since it is halted.
 pub fn is_halted(fault: &NodeFault) -> bool
     ensures { result ≡ says_halted (Err (told fault.now)) }

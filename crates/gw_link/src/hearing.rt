@@ -5,7 +5,7 @@ ghost use Rattle.std.specs.Arc.{arc_value};
 ghost use Rattle.gw_link.specs.Adding.{Adds, is_of_link};
 ghost use Rattle.gw_link.specs.inner.Calling as spec;
 
-use crate::calling::{End, call, dropped};
+use crate::calling::{End, call, passed_over};
 use crate::link::{Heard, Link};
 use crate::outgoing::is_nothing;
 use crate::relay::{Relay, weight, weight_of_digest};
@@ -14,7 +14,7 @@ use crate::stage::Stage;
 use crate::trouble::trouble_of;
 use gw_net::{LinkFault, LinkMessage};
 use gw_relay::is_gone;
-use gw_shift::gw_node::{NodeFault, Out, Step};
+use gw_shift::gw_node::{Answer, NodeFault, Out, Step};
 use gw_shift::{Pass, Shift};
 use jr_disk::Disk;
 use rep_model::Replica;
@@ -289,20 +289,42 @@ fn work_on<T: Wait, R: Replica, D: Disk + Drop, S: Drop>(
 {
     let news = match news_of(rt, link, &step, relay) {
         Ok(news) => news,
-        Err(end) => return (pass, Err(end)),
+        Err(end) => {
+            drop(step);
+            return (pass, Err(end));
+        }
     };
     stage.keep(rt, octets_of(&step));
     let (pass, answered) = call(rt, alloc, shift, pass, step, stage);
+    let heard = follow_answer(rt, alloc, link, stage, relay, news, answered);
+    (pass, heard)
+}
+
+/// What follows on the gateway's answer: a refusal that an operator should hear of is noted.
+fn follow_answer<T: Wait, S: Drop>(
+    rt: &T,
+    alloc: Global,
+    link: &mut Link<S>,
+    stage: &Stage,
+    relay: &Relay,
+    news: Option<Arc<Step>>,
+    answered: Result<Answer, End>,
+) -> Result<(), End> {
     match answered {
-        Err(end) => (pass, Err(end)),
-        Ok(Err(fault)) => {
-            note_refusal(rt, link, relay, &fault);
-            match dropped(&fault) {
-                Ok(()) => (pass, Ok(())),
-                Err(_) => (pass, Err(End::Memory)),
-            }
+        Err(end) => {
+            drop(news);
+            Err(end)
         }
-        Ok(Ok(out)) => (pass, follow(rt, alloc, link, stage, relay, news, &out)),
+        Ok(Err(fault)) => {
+            drop(news);
+            note_refusal(rt, link, relay, &fault);
+            passed_over(fault)
+        }
+        Ok(Ok(out)) => {
+            let followed = follow(rt, alloc, link, stage, relay, news, &out);
+            drop(out);
+            followed
+        }
     }
 }
 

@@ -50,11 +50,13 @@ pub(crate) fn is_nothing(error: &Error) -> bool {
 pub(crate) fn say<S: Drop>(
     alloc: Global,
     link: &mut Link<S>,
-    message: &LinkMessage,
+    message: LinkMessage,
 ) -> Result<(), End>
-    requires { IsNumbered message.now }
+    requires { IsNumbered message }
 {
-    say_spelled(link, spelled(alloc, message)?)
+    let octets = spelled(alloc, &message);
+    drop(message);
+    say_spelled(link, octets?)
 }
 
 /// The octets of a message. The number of a hello is not 0.

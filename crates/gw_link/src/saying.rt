@@ -3,7 +3,7 @@
 ghost use Rattle.std.specs.Prelude.{◌≡◌, IfOk};
 ghost use Rattle.gw_link.specs.Adding.{Adds, is_of_link};
 
-use crate::calling::{End, call, dropped};
+use crate::calling::{End, call, passed_over};
 use crate::hearing::second_of;
 use crate::link::Link;
 use crate::outgoing::{is_behind, say, say_spelled, spelled};
@@ -12,7 +12,7 @@ use crate::stage::Stage;
 use crate::trouble::Trouble;
 use gw_net::LinkMessage;
 use gw_relay::{PIECE, fits, goes_on, is_quiet};
-use gw_shift::gw_node::{Out, Step};
+use gw_shift::gw_node::{Answer, Out, Step};
 use gw_shift::{CallFault, Pass, Shift};
 use jr_disk::Disk;
 use octets::NoMemory;
@@ -46,7 +46,7 @@ fn say_hello<S: Drop>(alloc: Global, link: &mut Link<S>, gateway: u8) -> Result<
     if gateway == 0 {
         return Err(End::Lost);
     }
-    say(alloc, link, &LinkMessage::Hello(gateway))
+    say(alloc, link, LinkMessage::Hello(gateway))
 }
 
 /// An equal digest, by its octets. These are read again, so nothing but memory can be wanting.
@@ -66,7 +66,7 @@ fn equal(alloc: Global, digest: &Digest) -> Result<Digest, NoMemory>
 /// Says a digest.
 fn say_digest<S: Drop>(alloc: Global, link: &mut Link<S>, digest: &Digest) -> Result<(), End> {
     let digest = equal(alloc, digest)?;
-    say(alloc, link, &LinkMessage::Digest(digest))
+    say(alloc, link, LinkMessage::Digest(digest))
 }
 
 /// Says what the other end lacks, in pieces. Nothing else is to go out then, where that is
@@ -121,15 +121,23 @@ fn say_piece<S: Drop>(
 ) -> Result<usize, End> {
     let mut count = most.min(ops.len()).max(1);
     for _ in 0..MOST_HALVES {
-        let message = LinkMessage::Delta(delta_of(alloc, front(ops, count))?);
-        let octets = spelled(alloc, &message)?;
+        let octets = spelled_delta(alloc, front(ops, count))?;
         if fits(octets.len(), count) {
             say_spelled(link, octets)?;
             return Ok(count);
         }
+        drop(octets);
         count = (count / 2).max(1);
     }
     Err(End::Lost)
+}
+
+/// The octets of a message that tells operations.
+fn spelled_delta(alloc: Global, ops: &[Op]) -> Result<Vec<u8>, End> {
+    let message = LinkMessage::Delta(delta_of(alloc, ops)?);
+    let octets = spelled(alloc, &message);
+    drop(message);
+    octets
 }
 
 /// The first operations, so many.
@@ -194,13 +202,22 @@ pub(crate) fn greet<T: Wait + Clock, R: Replica, D: Disk + Drop, S: Drop>(
         return (pass, Err(End::Memory));
     };
     let (pass, answered) = call(rt, alloc, shift, pass, step, stage);
+    let said = match out_of(answered) {
+        Ok(out) => say_greeting(rt, alloc, link, stage, relay, out),
+        Err(end) => Err(end),
+    };
+    (pass, said)
+}
+
+/// What the gateway worked out, unless it refused.
+fn out_of(answered: Result<Answer, End>) -> Result<Option<Arc<Out>>, End> {
     match answered {
-        Err(end) => (pass, Err(end)),
-        Ok(Ok(out)) => (pass, say_greeting(rt, alloc, link, stage, relay, Some(out))),
-        Ok(Err(fault)) => match dropped(&fault) {
-            Ok(()) => (pass, say_greeting(rt, alloc, link, stage, relay, None)),
-            Err(_) => (pass, Err(End::Memory)),
-        },
+        Err(end) => Err(end),
+        Ok(Ok(out)) => Ok(Some(out)),
+        Ok(Err(fault)) => {
+            passed_over(fault)?;
+            Ok(None)
+        }
     }
 }
 
@@ -365,18 +382,30 @@ pub(crate) fn tell_all<T: Wait, R: Replica, D: Disk + Drop, S: Drop>(
     relay: &Relay,
 ) -> Result<(), End> {
     for _ in rt.forever() {
-        let made = match shift.after(rt, alloc, pass, link.told, AT_ONCE) {
-            Ok(made) => made,
-            Err(CallFault::Behind { .. }) => return Err(End::Behind),
-            Err(CallFault::Memory) => return Err(End::Memory),
-            Err(CallFault::ShiftFull | CallFault::Node { .. }) => unreachable!(),
-        };
+        let made = made_after(rt, alloc, shift, pass, link.told)?;
         if made.is_empty() {
+            drop(made);
             return Ok(());
         }
         tell_some(rt, alloc, link, made, relay)?;
     }
     unreachable!()
+}
+
+/// The deltas of some calls after this one, with the numbers of these.
+fn made_after<T: Wait, R: Replica, D: Disk + Drop>(
+    rt: &T,
+    alloc: Global,
+    shift: &Shift<R, D>,
+    pass: &Pass,
+    told: u64,
+) -> Result<Vec<(u64, Delta)>, End> {
+    match shift.after(rt, alloc, pass, told, AT_ONCE) {
+        Ok(made) => Ok(made),
+        Err(CallFault::Behind { .. }) => Err(End::Behind),
+        Err(CallFault::Memory) => Err(End::Memory),
+        Err(CallFault::ShiftFull | CallFault::Node { .. }) => unreachable!(),
+    }
 }
 
 /// Tells of these deltas, which calls of these numbers made.
@@ -392,7 +421,7 @@ fn tell_some<T: Wait, S: Drop>(
             return Err(End::Lost);
         }
         relay.note_made(rt, alloc, number, &delta);
-        say(alloc, link, &LinkMessage::Delta(delta))?;
+        say(alloc, link, LinkMessage::Delta(delta))?;
         link.told = number;
     }
     Ok(())
@@ -428,7 +457,7 @@ fn hand<S: Drop>(alloc: Global, link: &mut Link<S>, step: &Step) -> Result<(), E
         return Err(End::Lost);
     }
     match step {
-        Step::Take { delta } => say(alloc, link, &LinkMessage::Delta(delta.copied(alloc)?)),
+        Step::Take { delta } => say(alloc, link, LinkMessage::Delta(delta.copied(alloc)?)),
         _ => Ok(()),
     }
 }

@@ -1,5 +1,5 @@
 -- From what the parts of a call come to, to the call.
-use Rattle.std.proofs.Common.{◌≡◌, ◌≢◌, ℕ, ◌==◌, false, List, [], ◌∷◌, ◌++◌, length, Some, Result, Ok, Err, refl, ap, inl, inr}
+use Rattle.std.proofs.Common.{◌≡◌, ◌≢◌, ℕ, ◌==◌, false, List, [], ◌∷◌, ◌++◌, length, Some, Result, Ok, Err, ◌⊎◌, refl, ap, inl, inr}
 use Rattle.rep_op.specs.declared.op.Op.{Op}
 use Rattle.rep_ops.specs.Deltas.{IsDelta}
 use Rattle.rep_ops.specs.Making.{AreApart, IsDeltaOf}
@@ -76,6 +76,11 @@ module _ {D : Type 0} {G : Ghosts D} where
   no_room old new plan excuse delta (refusals.Disk given) d h u = absurd h
   no_room old new plan excuse delta refusals.Exhausted d h u = absurd h
   no_room old new plan excuse delta (refusals.Journal fault) d h u = absurd h
+
+  -- operations that make no delta, or one that cannot be taken
+  pub not_ready : (old new : State G) (plan : Plan) (excuse : Out) (refusal : Refusal) → HaveNoDelta plan.ops refusal ⊎ ((delta : List Op) × IsDeltaOf plan.ops delta × IsMisfit old.kept delta refusal) → IsUnchanged old new → CarriedOut old plan excuse (Err refusal) new
+  not_ready old new plan excuse refusal (inl h) u = no_delta old new plan excuse refusal h u
+  not_ready old new plan excuse refusal (inr (delta, d, h)) u = no_room old new plan excuse delta refusal d h u
 
   -- the journal refused the delta of a plan
   pub given_up : (old new : State G) (plan : Plan) (excuse : Out) (delta : List Op) (fault : JournalFault) → plan.ops ≢ [] → excuse ≡ only_sends excuse.sends → AreApart plan.ops → IsDeltaOf plan.ops delta → IsWithinLimit delta → Fits old.kept delta

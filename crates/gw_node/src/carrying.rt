@@ -1,12 +1,14 @@
 //! A plan is carried out, and a delta is taken: room, delta, journal, replica, local state, in this
 //! order. What can be refused is refused before the journal is written; after it nothing can be.
 
-ghost use Rattle.std.specs.Prelude.{◌≡◌, ◌≢◌, ◌++◌, [], IfOk, IfErr, OnOk, OnErr, unwrap_or};
+ghost use Rattle.std.specs.Prelude.{◌≡◌, ◌≢◌, ◌⊎◌, ◌++◌, List, [], length, IfOk, IfErr, OnOk, OnErr, unwrap_or};
+ghost use Rattle.rep_op.specs.declared.op.Op.{Op};
 ghost use Rattle.rep_ops.specs.Deltas.{IsDelta};
 ghost use Rattle.rep_ops.specs.Making.{AreApart, IsDeltaOf};
 ghost use Rattle.rep_ops.specs.Spelling.{IsWithinLimit};
 ghost use Rattle.rep_model.specs.Taking.{Fits};
 ghost use Rattle.rep_model.specs.Keep.{IsKeptOf};
+ghost use Rattle.sn_local.specs.Locals.{IsRoomFor};
 ghost use Rattle.gw_node.specs.Parts.{state_of, IsUnchanged};
 ghost use Rattle.gw_answer.specs.Answers.{only_sends};
 ghost use Rattle.gw_node.specs.Plans.{IsMisfit};
@@ -22,6 +24,7 @@ use jr_journal::{Disk, Journal, JournalFault};
 use octets::{NoMemory, Sequence};
 use rep_model::{Replica, TakeFault};
 use rep_ops::{Delta, Op, OpsFault};
+use sn_local::{Dialogs, LocalChange, Send};
 use sn_plan::Plan;
 use std::alloc::Global;
 
@@ -159,6 +162,78 @@ pub(crate) fn note<R: Replica, D: Disk + Drop>(
     Ok(answer)
 }
 
+/// Makes ready to take the delta of these operations and to note these changes. Nothing of it is
+/// done yet.
+fn make_ready<R: Replica>(
+    alloc: Global,
+    replica: &mut R,
+    dialogs: &mut Dialogs,
+    ops: Vec<Op>,
+    local: &[LocalChange],
+) -> Result<(R::Staged, Delta), Refusal>
+    ensures unchanged { R.kept replica.new ≡ R.kept replica.old }
+    ensures local { dialogs.new.local ≡ dialogs.old.local }
+    ensures room { OnOk result (IsRoomFor (length local.now) dialogs.new.room) }
+    ensures apart { OnOk result (AreApart ops.items) }
+    ensures delta { IfOk result (λ ready. IsDeltaOf ops.items ready.1) }
+    ensures limit { IfOk result (λ ready. IsWithinLimit ready.1) }
+    ensures writable { IfOk result (λ ready. IsWritable ready.1) }
+    ensures fits { IfOk result (λ ready. Fits (R.kept replica.old) ready.1) }
+    ensures ready { IfOk result (λ ready. R.ready replica.new ready.0) }
+    ensures taken { IfOk result (λ ready. IsKeptOf (R.kept replica.old ++ ready.1)
+        (R.after replica.new ready.0)) }
+    ensures err { IfErr result (λ refusal. HaveNoDelta ops.items refusal
+        ⊎ ((delta : List Op) × IsDeltaOf ops.items delta
+        × IsMisfit (R.kept replica.old) delta refusal)) }
+{
+    let Ok(()) = dialogs.prepare(local) else {
+        drop(ops);
+        return Err(Refusal::Memory);
+    };
+    let delta = match delta_of(alloc, ops) {
+        Ok(delta) => delta,
+        Err(refusal) => return Err(refusal),
+    };
+    match prepare(alloc, replica, &delta) {
+        Ok(staged) => Ok((staged, delta)),
+        Err(refusal) => {
+            drop(delta);
+            Err(refusal)
+        }
+    }
+}
+
+/// Shares of what is answered, and of what is where the journal cannot be written.
+fn shares_of(alloc: Global, out: Out, excuse: Out) -> Result<(Shares, Shares), NoMemory>
+    ensures answer { IfOk result (λ shares. shares.0 ≡ out) }
+    ensures excuse { IfOk result (λ shares. shares.1 ≡ excuse) }
+{
+    let Ok(excuse) = Shares::new(alloc, excuse) else {
+        drop(out);
+        return Err(NoMemory);
+    };
+    let Ok(answer) = Shares::new(alloc, out) else {
+        drop(excuse);
+        return Err(NoMemory);
+    };
+    Ok((answer, excuse))
+}
+
+/// A refusal of a plan, of which nothing is sent or noted.
+fn refuse(
+    refusal: Refusal,
+    sends: Sequence<Send>,
+    local: Sequence<LocalChange>,
+    excuse: Out,
+) -> Refusal
+    ensures { result ≡ refusal }
+{
+    drop(sends);
+    drop(local);
+    drop(excuse);
+    refusal
+}
+
 /// Carries out a plan with operations: they become one delta, which is written to the journal and
 /// taken, and what the plan notes is noted. `excuse` is answered where the journal cannot be
 /// written.
@@ -176,16 +251,24 @@ pub(crate) fn carry_out<R: Replica, D: Disk + Drop>(
     let tidy = node.tidy;
     node.idle = None;
     node.tidy = false;
-    node.dialogs.prepare(local.as_slice())?;
-    let delta = match delta_of(alloc, ops.into_vec()) {
-        Ok(delta) => delta,
-        Err(refusal) => return Err(refusal),
+    let (staged, delta) = match make_ready(
+        alloc,
+        &mut node.replica,
+        &mut node.dialogs,
+        ops.into_vec(),
+        local.as_slice(),
+    ) {
+        Ok(ready) => ready,
+        Err(refusal) => return Err(refuse(refusal, sends, local, excuse)),
     };
-    let staged = prepare(alloc, &mut node.replica, &delta)?;
-    let excuse = Shares::new(alloc, excuse)?;
-    let answer = Shares::new(alloc, Out::of_plan(alloc, sends, delta))?;
+    let Ok((answer, excuse)) = shares_of(alloc, Out::of_plan(alloc, sends, delta), excuse) else {
+        drop(staged);
+        drop(local);
+        return Err(Refusal::Memory);
+    };
     match write_if_made(alloc, &mut node.journal, &answer.out().made) {
         Ok(()) => {
+            drop(excuse);
             node.replica.commit(staged);
             let made = ops_of(&answer.out().made);
             node.tidy = note_taken(
@@ -198,7 +281,12 @@ pub(crate) fn carry_out<R: Replica, D: Disk + Drop>(
             );
             Ok(answer)
         }
-        Err(fault) => Err(refused(fault, excuse)),
+        Err(fault) => {
+            drop(answer);
+            drop(staged);
+            drop(local);
+            Err(refused(fault, excuse))
+        }
     }
 }
 

@@ -84,6 +84,6 @@ pub(crate) fn excuses(
 {
     match excuse_of(frame, sends) {
         None => Ok(Sequence::empty(alloc)),
-        Some(excuse) => Ok(plan_without(alloc, Draft::reply(alloc, from, &excuse)?).sends),
+        Some(excuse) => Ok(plan_without(alloc, Draft::reply(alloc, from, excuse)?).sends),
     }
 }

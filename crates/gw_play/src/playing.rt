@@ -64,8 +64,14 @@ fn outcome<R: Replica>(alloc: Global, text: &[u8]) -> Result<(String, u8), Alloc
         Err(ScriptFault::Line { number }) => return Ok((print_bad_line(alloc, number)?, 1)),
         Err(ScriptFault::Memory) => return Err(AllocError),
     };
-    match run::<R>(alloc, script.configs.as_slice(), script.events.as_slice()) {
-        Ok(world) => Ok((print_answers(alloc, world.answers.as_slice())?, 0)),
+    let ran = run::<R>(alloc, script.configs.as_slice(), script.events.as_slice());
+    drop(script);
+    match ran {
+        Ok(world) => {
+            let printed = print_answers(alloc, world.answers.as_slice());
+            drop(world);
+            Ok((printed?, 0))
+        }
         Err(fault) => Ok((print_world_fault(alloc, fault)?, 1)),
     }
 }

@@ -56,7 +56,9 @@ impl Listed {
         let bit = bit_of(gateway);
         let any = draw.is_once_in(10);
         let open = self.open(alloc, bit, any)?;
-        let Some(index) = draw.one_of(open.as_slice()).copied() else {
+        let chosen = draw.one_of(open.as_slice()).copied();
+        drop(open);
+        let Some(index) = chosen else {
             return Ok(None);
         };
         if let Some(holders) = self.holders.get_mut(index) {

@@ -8,6 +8,7 @@ use gw_world::{Answer, Event};
 use octets::NoMemory;
 use rep_model::Replica;
 use std::alloc::Global;
+use std::mem;
 
 /// How often all events are looked at.
 const PASSES: u8 = 4;
@@ -76,13 +77,26 @@ fn compared<R: Replica>(
     events: &[Event],
 ) -> Result<Outcome, NoMemory> {
     let shown = with_shows(alloc, events)?;
-    let Some(played) = field.play::<R>(alloc, shown.as_slice())? else {
+    let outcome = compared_shown::<R>(alloc, field, shown.as_slice());
+    drop(shown);
+    outcome
+}
+
+/// What comes of events that show what gateways show.
+fn compared_shown<R: Replica>(
+    alloc: Global,
+    field: &Field,
+    shown: &[Event],
+) -> Result<Outcome, NoMemory> {
+    let Some(played) = field.play::<R>(alloc, shown)? else {
         return Ok(Outcome::Stuck);
     };
-    match judged::<R>(alloc, field, shown.as_slice(), &played)? {
+    let found = judged::<R>(alloc, field, shown, &played);
+    drop(played);
+    match found? {
         None => Ok(Outcome::Same),
         Some(found) => Ok(Outcome::Differs(Difference {
-            at: place_of(shown.as_slice(), found.at),
+            at: place_of(shown, found.at),
             ..found
         })),
     }
@@ -128,7 +142,20 @@ pub(crate) fn shortened<R: Replica>(
 /// Leaves out each event once, where the script still differs without it.
 fn pass<R: Replica>(alloc: Global, field: &Field, short: &mut Short) -> Result<(), NoMemory> {
     let counts = counts::<R>(alloc, field, short.events.as_slice())?;
-    for (index, (first, count)) in counts.as_slice().iter().enumerate().rev() {
+    let done = leave_out_each::<R>(alloc, field, short, counts.as_slice());
+    drop(counts);
+    done
+}
+
+/// The same with these counts: for each event, how many deltas there are before it, and how many it
+/// adds.
+fn leave_out_each<R: Replica>(
+    alloc: Global,
+    field: &Field,
+    short: &mut Short,
+    counts: &[(u64, u64)],
+) -> Result<(), NoMemory> {
+    for (index, (first, count)) in counts.iter().enumerate().rev() {
         let is_left_out = leave_out::<R>(alloc, field, short, index, *first, *count)?;
         if !is_left_out && *count > 0 {
             leave_out::<R>(alloc, field, short, index, *first, 0)?;
@@ -179,11 +206,12 @@ fn leave_out<R: Replica>(
         return Ok(false);
     }
     fewer.truncate(difference.at.saturating_add(1));
-    *short = Short {
+    let shorter = Short {
         events: fewer,
         all: events,
         difference,
     };
+    drop(mem::replace(short, shorter));
     Ok(true)
 }
 

@@ -143,9 +143,12 @@ fn tick_once<T: Wait, R: Replica, D: Disk + Drop, P: Post>(
         Err(end) => (pass, Err(end)),
         Ok(Ok(out)) => {
             send_all(post, &out);
-            (pass, Ok(gives(&out)))
+            let gave = gives(&out);
+            drop(out);
+            (pass, Ok(gave))
         }
         Ok(Err(fault)) if is_halted(&fault) => {
+            drop(fault);
             let (pass, end) = open_anew(rt, alloc, shift, pass, stage);
             (pass, Err(end))
         }

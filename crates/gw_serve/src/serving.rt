@@ -185,6 +185,7 @@ where
         wire,
         buffer.as_mut_slice(),
     );
+    drop(buffer);
     let mut gathered = gather(alloc, sender, root, slots, back);
     let rest = drain(rt, receiver, root, &mut gathered.left);
     match first_cause(reading.fault, first_trouble(gathered.fault, rest)) {

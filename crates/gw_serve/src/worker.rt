@@ -237,6 +237,7 @@ fn handle<T: Wait, R: Replica, D: Disk + Drop, P: Post, G: Gate>(
         moment,
     } = datagram;
     let Ok(bytes) = Octets::new(bytes) else {
+        drop(turn);
         return (pass, Handled::Failed(Trouble::Memory));
     };
     let frame = Step::Frame {
@@ -245,12 +246,14 @@ fn handle<T: Wait, R: Replica, D: Disk + Drop, P: Post, G: Gate>(
         now: moment,
     };
     let Ok(step) = Arc::new(alloc, frame) else {
+        drop(turn);
         return (pass, Handled::Failed(Trouble::Memory));
     };
     match shift.call(rt, alloc, pass, step) {
         Ok((pass, out, made)) => {
             let _ = MutexGuard::unlock(turn);
             send_all(post, gate, number, &out);
+            drop(out);
             (pass, Handled::Stepped(made))
         }
         Err((pass, fault)) => {

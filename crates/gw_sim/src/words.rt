@@ -51,10 +51,30 @@ fn reason(error: &Error) -> Stop {
 
 /// The command line that the program reads.
 fn command_line<'a>(alloc: Global) -> Result<Command<'a>, AllocError> {
-    let events = events(alloc)?;
-    let gateways = gateways(alloc)?;
-    let options = [plain(alloc), rows(alloc), seed(alloc), events, gateways];
-    Command::new(alloc, "gw_sim").args(Vec::from_array(alloc, options)?)
+    let options = all_options(alloc)?;
+    Command::new(alloc, "gw_sim").args(options)
+}
+
+/// All options.
+fn all_options<'a>(alloc: Global) -> Result<Vec<Arg<'a>>, AllocError> {
+    let mut options = Vec::new(alloc);
+    add_options(alloc, &mut options)?;
+    Ok(options)
+}
+
+/// Adds all options.
+fn add_options<'a>(alloc: Global, options: &mut Vec<Arg<'a>>) -> Result<(), AllocError> {
+    add(options, plain(alloc))?;
+    add(options, rows(alloc))?;
+    add(options, seed(alloc))?;
+    add(options, events(alloc)?)?;
+    add(options, gateways(alloc)?)
+}
+
+/// Adds an option.
+fn add<'a>(options: &mut Vec<Arg<'a>>, option: Arg<'a>) -> Result<(), AllocError> {
+    options.push(option)?;
+    Ok(())
 }
 
 /// The option `--plain`.

@@ -192,15 +192,17 @@ pub fn fail_at<R: Replica>(
 }
 
 /// What is said where a call was refused for want of memory.
-pub(crate) fn want_of_memory(fault: &NodeFault) -> NoMemory
-    requires { told fault.now ≡ refusals.Memory }
+pub(crate) fn want_of_memory(fault: NodeFault) -> NoMemory
+    requires { told fault ≡ refusals.Memory }
 {
-    match fault {
+    let want = match &fault {
         NodeFault::Memory => NoMemory,
         NodeFault::Frame { .. } | NodeFault::Halted | NodeFault::Disk { .. } => unreachable!(),
         NodeFault::Conflict { .. } | NodeFault::Full | NodeFault::Exhausted => unreachable!(),
         NodeFault::Journal { .. } => unreachable!(),
-    }
+    };
+    drop(fault);
+    want
 }
 
 /// A gateway stops, with so many bytes of each slot left that were not synced, and is opened again.
@@ -221,15 +223,19 @@ fn open_again<R: Replica>(
     match Node::open(alloc, config, disk) {
         Ok(opened) => {
             if opened.starved() {
+                drop(opened);
                 return Err(NoMemory);
             }
             Ok(opened)
         }
         Err((disk, fault)) => {
             if disk.starved() {
+                drop(disk);
+                drop(fault);
                 return Err(NoMemory);
             }
-            Err(want_of_memory(&fault))
+            drop(disk);
+            Err(want_of_memory(fault))
         }
     }
 }
@@ -266,7 +272,7 @@ fn answer_of<R: Replica>(
 {
     match peer.answer(alloc, digest) {
         Ok(out) => Ok(out),
-        Err(fault) => Err(want_of_memory(&fault)),
+        Err(fault) => Err(want_of_memory(fault)),
     }
 }
 
@@ -317,7 +323,7 @@ fn view_of<R: Replica>(
             Some(view) => Ok(view.copied(alloc)?),
             None => unreachable!(),
         },
-        Err(fault) => Err(want_of_memory(&fault)),
+        Err(fault) => Err(want_of_memory(fault)),
     }
 }
 

@@ -312,15 +312,19 @@ fn new_node<R: Replica>(alloc: Global, config: &Config) -> Result<Node<R, Memory
     match Node::open(alloc, config.copied(alloc)?, MemoryDisk::new(alloc)) {
         Ok(node) => {
             if node.starved() {
+                drop(node);
                 return Err(NoMemory);
             }
             Ok(node)
         }
         Err((disk, fault)) => {
             if disk.starved() {
+                drop(disk);
+                drop(fault);
                 return Err(NoMemory);
             }
-            Err(want_of_memory(&fault))
+            drop(disk);
+            Err(want_of_memory(fault))
         }
     }
 }

@@ -10,11 +10,12 @@ use std::alloc::AllocError;
 /// The lines of an operation.
 pub(crate) fn operation(text: &mut String, op: &Op) -> Result<(), AllocError> {
     let client = Name(op.client().bytes());
-    operation_of(text, client, op)
+    write!(text, "  client {client} ")?;
+    operation_of(text, op)
 }
 
-/// The lines of an operation of a client.
-fn operation_of(text: &mut String, client: Name<'_>, op: &Op) -> Result<(), AllocError> {
+/// The lines of an operation after its client.
+fn operation_of(text: &mut String, op: &Op) -> Result<(), AllocError> {
     match op {
         Op::Session {
             stamp,
@@ -25,16 +26,10 @@ fn operation_of(text: &mut String, client: Name<'_>, op: &Op) -> Result<(), Allo
             let epoch = stamp.epoch;
             let gateway = stamp.gateway;
             let counter = *counter;
-            write!(
-                text,
-                "  client {client} stamp {epoch}.{gateway} change {counter}: "
-            )?;
+            write!(text, "stamp {epoch}.{gateway} change {counter}: ")?;
             session_change(text, change)
         }
-        Op::Put { put, .. } => {
-            write!(text, "  client {client} ")?;
-            waiting(text, put)
-        }
+        Op::Put { put, .. } => waiting(text, put),
         Op::Ack {
             origin,
             first,
@@ -42,10 +37,7 @@ fn operation_of(text: &mut String, client: Name<'_>, op: &Op) -> Result<(), Allo
             ..
         } => {
             let (origin, first, last) = (*origin, *first, *last);
-            writeln!(
-                text,
-                "  client {client} has messages {first} to {last} of gateway {origin}"
-            )
+            writeln!(text, "has messages {first} to {last} of gateway {origin}")
         }
     }
 }

@@ -78,16 +78,9 @@ pub(crate) fn session(text: &mut String, seen: &Session) -> Result<(), AllocErro
     )?;
     topics(text, seen)?;
     subscriptions(text, seen)?;
-    if let Some(told) = &seen.will {
-        last_will(text, told)?;
-    }
+    last_will(text, &seen.will)?;
     received(text, seen)?;
-    if let Some(outbound) = &seen.outbound {
-        text.push_str("    ")?;
-        exchange(text, *outbound)?;
-        text.push_str("\n")?;
-    }
-    Ok(())
+    last_exchange(text, &seen.outbound)
 }
 
 /// A line for each topic id.
@@ -108,8 +101,21 @@ fn subscriptions(text: &mut String, seen: &Session) -> Result<(), AllocError> {
     Ok(())
 }
 
-/// The lines of a will.
-fn last_will(text: &mut String, told: &Will) -> Result<(), AllocError> {
+/// The line of an exchange, if one is not over.
+fn last_exchange(text: &mut String, begun: &Option<Outbound>) -> Result<(), AllocError> {
+    let Some(outbound) = begun else {
+        return Ok(());
+    };
+    text.push_str("    ")?;
+    exchange(text, *outbound)?;
+    text.push_str("\n")
+}
+
+/// The lines of a will, if there is one.
+fn last_will(text: &mut String, told: &Option<Will>) -> Result<(), AllocError> {
+    let Some(told) = told else {
+        return Ok(());
+    };
     text.push_str("    ")?;
     will(text, told.topic.bytes(), told.qos, told.retain)?;
     let body = Body(told.message.as_slice());

@@ -61,9 +61,19 @@ fn look<T: Env + Files<File = File>, O: Write>(
     let Some(asked) = asked(rt, alloc) else {
         return Err(Stop::Arguments);
     };
-    let seen = findings(rt, alloc, &asked)?;
-    print(alloc, out, &seen, asked.is_json)?;
-    Ok(seen.fault.is_none())
+    let is_json = asked.is_json;
+    let seen = findings(rt, alloc, &asked);
+    drop(asked);
+    show(alloc, out, seen?, is_json)
+}
+
+/// Prints what was found. Says whether an opening would take the journal.
+fn show<O: Write>(alloc: Global, out: &mut O, seen: Findings, is_json: bool) -> Result<bool, Stop> {
+    let is_sound = seen.fault.is_none();
+    let printed = print(alloc, out, &seen, is_json);
+    drop(seen);
+    printed?;
+    Ok(is_sound)
 }
 
 /// Reads both files, and finds what there is to show.

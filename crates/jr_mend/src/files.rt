@@ -75,11 +75,12 @@ fn open_one<T: Files<File = File>>(
     ending: u8,
 ) -> Result<File, Stop> {
     let name = format!(in alloc; "{path}.{ending}")?;
-    let file = match File::options()
+    let opened = File::options()
         .read(true)
         .write(true)
-        .open(rt, name.as_str())
-    {
+        .open(rt, name.as_str());
+    drop(name);
+    let file = match opened {
         Ok(file) => file,
         Err(error) => return Err(Stop::File(ending, error.kind())),
     };
@@ -126,6 +127,7 @@ fn copy_one<T: Files<File = File>>(
         .create(true)
         .truncate(true)
         .open(rt, name.as_str());
+    drop(name);
     let mut file = match opened {
         Ok(file) => file,
         Err(_) => return Err(Stop::Copy),

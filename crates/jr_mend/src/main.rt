@@ -13,7 +13,7 @@ mod files;
 mod mending;
 mod stop;
 
-use crate::files::{Pair, copy_both, cut_file, end_in_zero, open_both, read_both};
+use crate::files::{Both, Pair, copy_both, cut_file, end_in_zero, open_both, read_both};
 use crate::mending::{Cut, find_cut, number_in};
 use crate::stop::Stop;
 use std::alloc::Global;
@@ -43,11 +43,48 @@ fn mend<T: Env + Files<File = File>, O: Write>(
     out: &mut O,
 ) -> Result<(), Stop> {
     let path = path_in(rt, alloc)?;
-    let both = open_both(rt, alloc, path.as_str())?;
-    if !end_in_zero(&both)? {
-        return Ok(());
+    let done = mend_at(rt, alloc, path.as_str(), out);
+    drop(path);
+    done
+}
+
+/// Mends the journal at a path, if it is to be mended.
+fn mend_at<T: Files<File = File>, O: Write>(
+    rt: &T,
+    alloc: Global,
+    path: &str,
+    out: &mut O,
+) -> Result<(), Stop> {
+    let both = open_both(rt, alloc, path)?;
+    match end_in_zero(&both) {
+        Ok(true) => read_and_mend(rt, alloc, path, both, out),
+        Ok(false) => Ok(()),
+        Err(stop) => Err(stop),
     }
+}
+
+/// Reads both files, and mends the journal.
+fn read_and_mend<T: Files<File = File>, O: Write>(
+    rt: &T,
+    alloc: Global,
+    path: &str,
+    both: Both,
+    out: &mut O,
+) -> Result<(), Stop> {
     let pair = read_both(alloc, both)?;
+    let done = mend_pair(rt, alloc, path, &pair, out);
+    drop(pair);
+    done
+}
+
+/// Mends a journal that both files were read of, if it is to be mended.
+fn mend_pair<T: Files<File = File>, O: Write>(
+    rt: &T,
+    alloc: Global,
+    path: &str,
+    pair: &Pair,
+    out: &mut O,
+) -> Result<(), Stop> {
     let Some(gateway) = number_in(pair.first.as_slice(), pair.second.as_slice()) else {
         return Ok(());
     };
@@ -59,7 +96,7 @@ fn mend<T: Env + Files<File = File>, O: Write>(
     );
     match found {
         Ok(None) => Ok(()),
-        Ok(Some(cut)) => cut_off(rt, alloc, path.as_str(), &pair, cut, out),
+        Ok(Some(cut)) => cut_off(rt, alloc, path, pair, cut, out),
         Err(fault) => Err(Stop::Journal(fault.number())),
     }
 }

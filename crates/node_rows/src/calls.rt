@@ -76,7 +76,10 @@ pub(crate) fn call_once<R: Replica>(
 ) -> Result<(), Stop> {
     let step = step(alloc, names, words)?;
     let answer = call(alloc, node, &step);
-    print_called(text, &answer, node.starved())
+    drop(step);
+    let printed = print_called(text, &answer, node.starved());
+    drop(answer);
+    printed
 }
 
 /// What a gateway answered, unless memory ran out.
@@ -109,7 +112,10 @@ pub(crate) fn call_thrice<R: Replica>(
 ) -> Result<(), Stop> {
     let step = step(alloc, names, words)?;
     let answers = thrice(alloc, node, &step);
-    print_answers(text, &answers, node.starved())
+    drop(step);
+    let printed = print_answers(text, &answers, node.starved());
+    drop(answers);
+    printed
 }
 
 /// A call as a value, with its answer three times.

@@ -45,10 +45,13 @@ fn play_for<R: Replica>(
     first: &str,
     bytes: &[u8],
 ) -> Result<(), Stop> {
-    match seen(alloc, node, &peer.client) {
+    let answer = seen(alloc, node, &peer.client);
+    let played = match &answer {
         Ok(out) => play_seen(alloc, text, peer, &out.view, first, bytes),
         Err(_) => Err(Stop::Memory),
-    }
+    };
+    drop(answer);
+    played
 }
 
 /// The answer with a client's view. Of the call nothing is said here, so that who makes it carries
@@ -171,10 +174,12 @@ fn heard(
     bytes: &[u8],
 ) -> Result<Draft, Stop> {
     let frame = frame_of(alloc, bytes)?;
-    match &frame {
+    let draft = match &frame {
         Frame::PubRel { msg_id } => released(alloc, peer, session, *msg_id),
         frame => acknowledged(alloc, peer, session, pending, frame),
-    }
+    };
+    drop(frame);
+    draft
 }
 
 /// The frame that octets spell, of which nothing more is said.

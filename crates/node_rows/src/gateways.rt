@@ -43,13 +43,13 @@ pub(crate) fn taken<R: Replica>(store: &mut Store<R>) -> Result<Node<R, MemoryDi
 
 /// This gateway is the one that is open.
 pub(crate) fn keep<R: Replica>(store: &mut Store<R>, node: Node<R, MemoryDisk>) {
-    store.node = Some(node);
+    drop(mem::replace(&mut store.node, Some(node)));
 }
 
 /// The disk; a gateway that is open on it is closed.
 fn closed<R: Replica>(store: &mut Store<R>) -> &mut MemoryDisk {
     if let Some(node) = store.node.take() {
-        store.disk = node.into_disk();
+        drop(mem::replace(&mut store.disk, node.into_disk()));
     }
     &mut store.disk
 }
@@ -62,8 +62,10 @@ pub(crate) fn open<R: Replica>(
     store: &mut Store<R>,
     fields: &[&str],
 ) -> Result<(), Stop> {
-    let config = copy_of(alloc, &config(alloc, fields)?)?;
-    start(alloc, text, store, config)
+    let config = config(alloc, fields)?;
+    let copy = copy_of(alloc, &config);
+    drop(config);
+    start(alloc, text, store, copy?)
 }
 
 /// A copy of what a gateway is told.
@@ -85,12 +87,14 @@ fn start<R: Replica>(
     match node_on(alloc, config, disk) {
         Ok(node) => {
             let records = node.records();
-            store.node = Some(node);
+            keep(store, node);
             Ok(writeln!(text, "records {records}")?)
         }
         Err((disk, fault)) => {
-            store.disk = disk;
-            print_refused(text, &fault, store.disk.starved())
+            drop(mem::replace(&mut store.disk, disk));
+            let printed = print_refused(text, &fault, store.disk.starved());
+            drop(fault);
+            printed
         }
     }
 }

@@ -161,7 +161,9 @@ pub(crate) fn within(
     };
     let room = usize::from(number(far)?);
     let message = message(alloc, names, rest)?;
-    print_written(text, go_out(alloc, &mut Full { room }, &message))
+    let written = go_out(alloc, &mut Full { room }, &message);
+    drop(message);
+    print_written(text, written)
 }
 
 /// Whether a message went out.

@@ -127,6 +127,7 @@ use rep_plain::Plain;
 use rep_state::Folded;
 use std::alloc::{AllocError, Global};
 use std::io::{self, Input, Write};
+use std::mem;
 use std::process::ExitCode;
 use std::sync::Wait;
 use std::thread::Threads;
@@ -208,7 +209,10 @@ fn print_difference(text: &mut String, plain: &str) -> Result<(), AllocError> {
 fn play_all<R: Replica>(alloc: Global, text: &mut String, lines: &[String]) -> Result<(), Stop> {
     let mut row: Row<R> = begin(alloc);
     let mut names = names::none(alloc);
-    play_lines(alloc, text, &mut row, &mut names, lines)
+    let played = play_lines(alloc, text, &mut row, &mut names, lines);
+    drop(row);
+    drop(names);
+    played
 }
 
 /// Plays lines, one after the other.
@@ -249,7 +253,7 @@ fn begin_row<R: Replica>(
     row: &mut Row<R>,
     name: &str,
 ) -> Result<(), Stop> {
-    *row = begin(alloc);
+    drop(mem::replace(row, begin(alloc)));
     Ok(writeln!(text, "== {name}")?)
 }
 

@@ -8,6 +8,7 @@ use crate::stop::Stop;
 use crate::works;
 use rep_plain::Plain;
 use std::alloc::Global;
+use std::mem;
 use std::sync::Wait;
 use std::thread::Threads;
 use std::time::Clock;
@@ -22,14 +23,24 @@ struct Page {
     shifts: Shifts,
 }
 
-/// Plays lines, one after the other.
+/// Plays lines, one after the other, on a page of their own.
 pub(crate) fn play_once<T>(rt: &T, text: &mut String, lines: &[String]) -> Result<(), Stop>
 where
     T: Threads + Wait + Sync + Clock + Eprint + AllocGlobal,
 {
     let mut page = blank(rt.alloc());
+    let played = play_lines(rt, text, &mut page, lines);
+    drop(page);
+    played
+}
+
+/// Plays lines, one after the other, and leaves the shift that is open after the last.
+fn play_lines<T>(rt: &T, text: &mut String, page: &mut Page, lines: &[String]) -> Result<(), Stop>
+where
+    T: Threads + Wait + Sync + Clock + Eprint + AllocGlobal,
+{
     for line in lines {
-        answer(rt, text, &mut page, line.as_str())?;
+        answer(rt, text, page, line.as_str())?;
     }
     shifts::leave_open(&mut page.shifts)
 }
@@ -74,8 +85,8 @@ where
 /// A row of this name begins.
 fn begin_row(alloc: Global, text: &mut String, page: &mut Page, name: &str) -> Result<(), Stop> {
     shifts::leave_open(&mut page.shifts)?;
-    page.row = begin(alloc);
-    page.shifts = shifts::none(alloc);
+    drop(mem::replace(&mut page.row, begin(alloc)));
+    drop(mem::replace(&mut page.shifts, shifts::none(alloc)));
     Ok(writeln!(text, "== {name}")?)
 }
 

@@ -108,8 +108,9 @@ fn begin(
     let (passes, steps) = (place(passes)?, u64::from(number(steps)?));
     let (shift, passes) = shift_of(alloc, taken(store)?, passes, steps)?;
     let before = mem::replace(&mut shifts.open, Some(shift));
+    let left = leave(before);
     seated(&mut shifts.seats, passes)?;
-    leave(before)
+    left
 }
 
 /// Leaves a shift that nobody ends. Ends the program if memory was refused in its disk.
@@ -141,11 +142,15 @@ pub(crate) fn shift_of(
     steps: u64,
 ) -> Result<(Shared, Vec<Pass>), Stop> {
     if passes == 0 || steps == 0 || steps > 4096 {
+        drop(node);
         return Err(Stop::Line);
     }
     match Shift::open(alloc, node, passes, steps) {
         Ok(opened) => Ok(opened),
-        Err(_) => Err(Stop::Memory),
+        Err(refused) => {
+            drop(refused);
+            Err(Stop::Memory)
+        }
     }
 }
 
@@ -194,9 +199,30 @@ fn call_by<T: Wait + AllocGlobal>(
     };
     let at = place(at)?;
     let step = shared(rt.alloc(), names, words)?;
-    let shift = opened(&shifts.open)?;
-    let called = call_from(rt, shift, seat_at(shifts.seats.as_mut_slice(), at)?, step)?;
-    print_called(text, &called)
+    let called = call_at(rt, shifts, at, step)?;
+    let printed = print_called(text, &called);
+    drop(called);
+    printed
+}
+
+/// The pass at a place makes a call, and sits down again.
+fn call_at<T: Wait + AllocGlobal>(
+    rt: &T,
+    shifts: &mut Shifts,
+    at: usize,
+    step: Arc<Step>,
+) -> Result<Called, Stop> {
+    let Some(shift) = &shifts.open else {
+        drop(step);
+        return Err(Stop::Line);
+    };
+    match shifts.seats.as_mut_slice().get_mut(at) {
+        Some(seat) => call_from(rt, shift, seat, step),
+        None => {
+            drop(step);
+            Err(Stop::Line)
+        }
+    }
 }
 
 /// The pass in a seat makes a call, and sits down again.
@@ -241,10 +267,22 @@ fn call_often<T: Wait + AllocGlobal>(
     };
     let (at, count) = (place(at)?, place(count)?);
     let step = shared(rt.alloc(), names, words)?;
+    let answered = answered_at(rt, shifts, at, &step, count);
+    drop(step);
+    Ok(print_answers(text, answered?)?)
+}
+
+/// The pass at a place makes a call so many times: how many were answered.
+fn answered_at<T: Wait + AllocGlobal>(
+    rt: &T,
+    shifts: &mut Shifts,
+    at: usize,
+    step: &Arc<Step>,
+    count: usize,
+) -> Result<u64, Stop> {
     let shift = opened(&shifts.open)?;
     let seat = seat_at(shifts.seats.as_mut_slice(), at)?;
-    let answered = sit(rt, rt.alloc(), shift, seat, &step, count)?;
-    Ok(print_answers(text, answered)?)
+    sit(rt, rt.alloc(), shift, seat, step, count)
 }
 
 /// `together PLACE COUNT CALL`: the passes from this place on make a call so many times each, all
@@ -301,16 +339,52 @@ where
     };
     let (first, second) = (place(first)?, place(second)?);
     let steps = planned(&mut shifts.planned)?;
-    let shift = opened(&shifts.open)?;
-    let one = pass_at(shifts.seats.as_mut_slice(), first)?;
-    let other = pass_at(shifts.seats.as_mut_slice(), second)?;
-    let (one, other) = side_by_side(rt, rt.alloc(), shift, (one, other), steps);
-    print_and_sit(
-        text,
-        shifts.seats.as_mut_slice(),
-        (first, one),
-        (second, other),
-    )
+    call_two(rt, text, shifts, first, second, steps)
+}
+
+/// The passes at two places make these calls, each in a thread of its own, and sit down again.
+fn call_two<T>(
+    rt: &T,
+    text: &mut String,
+    shifts: &mut Shifts,
+    first: usize,
+    second: usize,
+    steps: Steps,
+) -> Result<(), Stop>
+where
+    T: Threads + Wait + Sync + AllocGlobal,
+{
+    let Some(shift) = &shifts.open else {
+        drop(steps);
+        return Err(Stop::Line);
+    };
+    match two_at(shifts.seats.as_mut_slice(), first, second) {
+        Ok(passes) => {
+            let (one, other) = side_by_side(rt, rt.alloc(), shift, passes, steps);
+            print_and_sit(
+                text,
+                shifts.seats.as_mut_slice(),
+                (first, one),
+                (second, other),
+            )
+        }
+        Err(stop) => {
+            drop(steps);
+            Err(stop)
+        }
+    }
+}
+
+/// The passes at two places, which get up.
+fn two_at(seats: &mut [Option<Pass>], first: usize, second: usize) -> Result<(Pass, Pass), Stop> {
+    let one = pass_at(seats, first)?;
+    match pass_at(seats, second) {
+        Ok(other) => Ok((one, other)),
+        Err(stop) => {
+            drop(one);
+            Err(stop)
+        }
+    }
 }
 
 /// Prints what two passes made, and seats them where they were.
@@ -320,12 +394,46 @@ fn print_and_sit(
     (first, one): (usize, Result<Made, Stop>),
     (second, other): (usize, Result<Made, Stop>),
 ) -> Result<(), Stop> {
-    let one = one?;
-    let other = other?;
-    print_beside(text, &one, &other)?;
-    *seat_at(seats, first)? = Some(one.0);
-    *seat_at(seats, second)? = Some(other.0);
-    Ok(())
+    match print_both(text, &one, &other) {
+        Ok(()) => {
+            let sat = sit_down(seats, first, one);
+            sit_down(seats, second, other)?;
+            sat
+        }
+        Err(stop) => {
+            drop(one);
+            drop(other);
+            Err(stop)
+        }
+    }
+}
+
+/// Prints what two passes made, where both made something.
+fn print_both(
+    text: &mut String,
+    one: &Result<Made, Stop>,
+    other: &Result<Made, Stop>,
+) -> Result<(), Stop> {
+    match (one, other) {
+        (Ok(one), Ok(other)) => Ok(print_beside(text, one, other)?),
+        (Err(stop), _) | (Ok(_), Err(stop)) => Err(*stop),
+    }
+}
+
+/// A pass that made something sits down where it was.
+fn sit_down(seats: &mut [Option<Pass>], at: usize, made: Result<Made, Stop>) -> Result<(), Stop> {
+    let (pass, out, _number, _before) = made?;
+    drop(out);
+    match seat_at(seats, at) {
+        Ok(seat) => {
+            drop(mem::replace(seat, Some(pass)));
+            Ok(())
+        }
+        Err(stop) => {
+            drop(pass);
+            Err(stop)
+        }
+    }
 }
 
 /// `after PLACE NUMBER MOST`: the pass at this place asks for the deltas of the calls above a
@@ -345,7 +453,9 @@ fn ask_after<T: Wait + AllocGlobal>(
         return Err(Stop::Line);
     };
     let made = after(rt, shift, pass, above, most);
-    print_made(text, &made)
+    let printed = print_made(text, &made);
+    drop(made);
+    printed
 }
 
 /// The pass that sits at a place.
@@ -374,9 +484,9 @@ fn end(shifts: &mut Shifts) -> Result<(), Stop> {
         return Err(Stop::Line);
     };
     let over = shift.end();
-    check_disk(&over)?;
-    shifts.over = Some(over);
-    Ok(())
+    let checked = check_disk(&over);
+    drop(mem::replace(&mut shifts.over, Some(over)));
+    checked
 }
 
 /// `close PLACE ..`: the shift is closed with the passes at these places.
@@ -412,14 +522,17 @@ fn close_with(
     passes: Vec<Pass>,
 ) -> Result<(), Stop> {
     let Some(over) = shifts.over.take() else {
+        drop(passes);
         return Err(Stop::Line);
     };
     match close_by(over, passes) {
         Ok(closed) => go_on(text, store, closed),
         Err((over, passes, fault)) => {
-            shifts.over = Some(over);
-            print_unclosed(text, &fault)?;
-            seated(&mut shifts.seats, passes)
+            drop(mem::replace(&mut shifts.over, Some(over)));
+            let printed = print_unclosed(text, &fault);
+            drop(fault);
+            seated(&mut shifts.seats, passes)?;
+            Ok(printed?)
         }
     }
 }

@@ -95,7 +95,12 @@ fn entry_in<R: Replica>(
 {
     match replica.view_of(client) {
         Some(view) => Ok(entry_of(alloc, client, view, acks)?),
-        None => Ok(entry_of(alloc, client, &unseen(alloc), acks)?),
+        None => {
+            let view = unseen(alloc);
+            let entry = entry_of(alloc, client, &view, acks);
+            drop(view);
+            Ok(entry?)
+        }
     }
 }
 

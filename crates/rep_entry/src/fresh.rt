@@ -1,7 +1,7 @@
 //! What a delta changes of one client, operation by operation. What it does not touch is not
 //! copied.
 
-ghost use Rattle.std.specs.Prelude.{◌≡◌, ◌+◌, ◌==◌, ◌≤◌, ◌||◌, [], ℕ, List, IsTrue, false, is_some, length, vec_capacity, IfOk, OnOk};
+ghost use Rattle.std.specs.Prelude.{◌≡◌, ◌+◌, ◌==◌, ◌≤◌, ◌||◌, [], ℕ, List, IsTrue, false, is_some, length, vec_capacity, filter, IfOk, OnOk};
 ghost use Rattle.std.specs.List.{list_any};
 ghost use Rattle.std.specs.FinMap.{find};
 ghost use Rattle.rep_op.specs.declared.op.Op.TheVariants.{Session as OfSession, Put as OfPut, Ack};
@@ -10,7 +10,8 @@ ghost use Rattle.rep_op.specs.WellMade.{is_well_made};
 ghost use Rattle.rep_shared.specs.Rows.{IsOwnOp};
 ghost use Rattle.rep_entry.specs.declared.entry.Entry.{Entry as AnEntry};
 ghost use Rattle.rep_log.specs.Logs.{known_on, whole_of};
-ghost use Rattle.rep_log.specs.Mail.{covers, put_named, Rising};
+ghost use Rattle.rep_log.specs.Mail.{covers, put_named, Rising, is_left, weave};
+ghost use Rattle.rep_entry.specs.Spans.{AreFreeOutside};
 ghost use Rattle.rep_log.specs.Origins.{ranges_in, origins_after};
 ghost use Rattle.rep_entry.specs.Entries.{whole_after};
 ghost use Rattle.rep_entry.specs.inner.Entries.{parked_on, exceptions_on, HasLogRoom};
@@ -27,6 +28,7 @@ use rep_model::Puts;
 use rep_ops::{Op, Put, Stamp};
 use sn_session::SessionOp;
 use std::alloc::Global;
+use std::mem;
 
 /// What a delta changes of one client: the log and the acknowledgements as they will be, where
 /// something came for them, the messages that are new, and the sequence numbers that are
@@ -102,10 +104,17 @@ impl Fresh {
             return Ok(());
         }
         let change = change.copied(alloc)?;
-        let mut log = begun(alloc, entry, self.log.take())?;
-        log.note(alloc, &entry.known, name, change)?;
-        self.log = Some(log);
-        Ok(())
+        match begun(alloc, entry, self.log.take()) {
+            Ok(mut log) => {
+                let noted = log.note(alloc, &entry.known, name, change);
+                drop(mem::replace(&mut self.log, Some(log)));
+                Ok(noted?)
+            }
+            Err(fault) => {
+                drop(change);
+                Err(fault)
+            }
+        }
     }
 
     /// The acknowledgements of the messages first to last of an origin more.
@@ -176,25 +185,61 @@ impl Fresh {
             span,
         } = self;
         let news = news.into_puts();
-        let waiting = entry.seen.pending.as_slice();
-        let room = room_for(alloc, waiting, news.as_slice())?;
-        let pending = count_settled(waiting, news.as_slice(), span, latest(&entry.acks, &acks))?;
-        let log_room = log_room_for(alloc, &entry.known, &log)?;
-        let parked = parked_with(entry, &log)?;
         let exceptions = exceptions_with(entry, &acks);
-        Ok(Change {
-            log,
-            log_room,
-            parked,
-            acks,
-            span,
-            exceptions,
-            news,
-            room,
-            none: Puts::new(Vec::new(alloc)),
-            pending,
-        })
+        let held = latest(&entry.acks, &acks);
+        match prepared(alloc, entry, &log, news.as_slice(), span, held) {
+            Ok((room, log_room, pending, parked)) => Ok(Change {
+                log,
+                log_room,
+                parked,
+                acks,
+                span,
+                exceptions,
+                news,
+                room,
+                none: Puts::new(Vec::new(alloc)),
+                pending,
+            }),
+            Err(fault) => {
+                drop(log);
+                drop(news);
+                drop(acks);
+                Err(fault)
+            }
+        }
     }
+}
+
+/// Room for the messages and for the session operations, and how many messages will wait, and how
+/// many session operations.
+fn prepared(
+    alloc: Global,
+    entry: &Entry,
+    log: &Option<Log>,
+    news: &[Put],
+    span: Span,
+    acks: &Acks,
+) -> Result<(Vec<Put>, Vec<NamedOp>, usize, usize), NoMemory>
+    ensures empty { IfOk result (λ made. made.0.items ≡ []) }
+    ensures room { IfOk result (λ made. (length news.now == 0) ≡ false
+        → length entry.now.seen.pending + length news.now ≤ vec_capacity made.0) }
+    ensures log_empty { IfOk result (λ made. made.1.items ≡ []) }
+    ensures log_room { IfOk result (λ made.
+        HasLogRoom entry.now.known log.now (vec_capacity made.1)) }
+    ensures pending { Rising entry.now.seen.pending
+        → Rising news.now
+        → AreFreeOutside span (ranges_in acks.now) entry.now.seen.pending
+        → AreFreeOutside span (ranges_in acks.now) news.now
+        → IfOk result (λ made. made.2 ≡ length (filter (is_left (ranges_in acks.now))
+        (weave entry.now.seen.pending news.now))) }
+    ensures parked { IfOk result (λ made. made.3 ≡ parked_on entry.now log.now) }
+{
+    let waiting = entry.seen.pending.as_slice();
+    let pending = count_settled(waiting, news, span, acks)?;
+    let parked = parked_with(entry, log)?;
+    let room = room_for(alloc, waiting, news)?;
+    let log_room = log_room_for(alloc, &entry.known, log)?;
+    Ok((room, log_room, pending, parked))
 }
 
 /// Whether an operation of that name is there.

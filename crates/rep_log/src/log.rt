@@ -176,9 +176,13 @@ impl Log {
             × (self.new.prefix ≡ self.old.prefix)
             × (self.new.session ≡ self.old.session)) }
     {
-        self.make_way(alloc, known, name)?;
-        self.more.insert(name, change)?;
-        Ok(())
+        match self.make_way(alloc, known, name) {
+            Ok(()) => Ok(self.more.insert(name, change)?),
+            Err(fault) => {
+                drop(change);
+                Err(fault)
+            }
+        }
     }
 
     /// Forgets what is below the stamp. Of what was there, the rest alone is copied.
@@ -211,6 +215,7 @@ impl Log {
             self.new.stamp) }
     {
         if is_below(name.0, self.stamp) {
+            drop(change);
             return Ok(());
         }
         self.enter(alloc, known, name, change)?;
@@ -231,7 +236,7 @@ impl Log {
             session,
         )?;
         self.prefix = prefix;
-        self.session = session;
+        drop(mem::replace(&mut self.session, session));
         Ok(())
     }
 
@@ -257,7 +262,7 @@ impl Log {
         )?;
         self.stamp = Some(stamp);
         self.prefix = prefix;
-        self.session = session;
+        drop(mem::replace(&mut self.session, session));
         Ok(())
     }
 }

@@ -62,6 +62,8 @@ fn read_ops(alloc: Global, count: u32, bytes: &[u8]) -> Result<(Vec<Op>, &[u8]),
     for _ in 0..count {
         let (op, after) = read_op(alloc, rest)?;
         if !may_follow(ops.as_slice(), &op) {
+            drop(op);
+            drop(ops);
             return Err(OpsFault::Order);
         }
         ops.push(op)?;

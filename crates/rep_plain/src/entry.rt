@@ -1,6 +1,9 @@
 //! What the replica holds of one client.
 
 ghost use Rattle.std.specs.Prelude.{◌≡◌, IfOk, [], length, List, ℕ};
+ghost use Rattle.rep_model.specs.Views.{view};
+ghost use Rattle.rep_model.specs.Limits as limits;
+ghost use Rattle.rep_shared.specs.Steps.{capped};
 
 use super::ranges::{exceptions, ranges_of};
 use super::reading::visible_stamp;
@@ -57,24 +60,48 @@ impl Entry {
         ensures ops { IfOk result (λ entry. entry.ops.items ≡ ops.items) }
         ensures worked_out { IfOk result (λ entry. IsWorkedOut client.now entry) }
     {
-        let stamp = visible_stamp(ops.as_slice(), client);
-        let known = operations_in_order(alloc, ops.as_slice(), client)?;
-        let (prefix, session) = replay(alloc, &known, stamp)?;
-        let parked = count_parked(&known, stamp, prefix);
-        let ranges = ranges_of(alloc, ops.as_slice(), client)?;
-        let exceptions = exceptions(alloc, ranges.as_slice())?;
-        let pending = waiting(alloc, ops.as_slice(), client, ranges.as_slice())?;
-        let seen = ClientView {
-            stamp,
-            prefix,
-            session,
-            pending,
-        };
-        Ok(Entry {
-            ops,
-            seen,
-            parked,
-            exceptions,
-        })
+        match counted(alloc, client, ops.as_slice()) {
+            Ok((seen, parked, exceptions)) => Ok(Entry {
+                ops,
+                seen,
+                parked,
+                exceptions,
+            }),
+            Err(fault) => {
+                drop(ops);
+                Err(fault)
+            }
+        }
     }
+}
+
+/// The view that the operations give, how many of them wait for earlier ones, and how many
+/// acknowledgements stand above a number that is not acknowledged.
+fn counted(
+    alloc: Global,
+    client: &ClientId,
+    ops: &[Op],
+) -> Result<(ClientView, usize, u64), NoMemory>
+    ensures seen { IfOk result (λ made. made.0 ≡ view client.now ops.now) }
+    ensures parked { IfOk result (λ made. made.1 ≡ length (limits.parked client.now ops.now)) }
+    ensures exceptions { IfOk result (λ made.
+        made.2 ≡ capped (limits.exceptions client.now ops.now)) }
+{
+    let stamp = visible_stamp(ops, client);
+    let ranges = ranges_of(alloc, ops, client)?;
+    let exceptions = exceptions(alloc, ranges.as_slice())?;
+    let pending = waiting(alloc, ops, client, ranges.as_slice());
+    drop(ranges);
+    let pending = pending?;
+    let known = operations_in_order(alloc, ops, client)?;
+    let (prefix, session) = replay(alloc, &known, stamp)?;
+    let parked = count_parked(&known, stamp, prefix);
+    drop(known);
+    let seen = ClientView {
+        stamp,
+        prefix,
+        session,
+        pending,
+    };
+    Ok((seen, parked, exceptions))
 }

@@ -50,10 +50,44 @@ fn add_to_group(
         (groups_of groups.new.entries)) }
 {
     let client = op.client().copied(alloc)?;
-    let mut ops = take_group(alloc, table, groups, &client)?;
-    ops.push(op)?;
-    groups.insert(client, ops)?;
-    Ok(())
+    match with_last(alloc, table, groups, &client, op) {
+        Ok(ops) => {
+            drop(groups.insert(client, ops)?);
+            Ok(())
+        }
+        Err(fault) => {
+            drop(client);
+            Err(fault)
+        }
+    }
+}
+
+/// Takes the operations of a client out of the groups, with one more after them.
+fn with_last(
+    alloc: Global,
+    table: &Table,
+    groups: &mut BTreeMap<ClientId, Vec<Op>>,
+    client: &ClientId,
+    op: Op,
+) -> Result<Vec<Op>, NoMemory>
+    ensures ops { IfOk result (λ ops. ops.items ≡ unwrap_or
+        (find client_cmp client.now (groups_of groups.old.entries))
+        (own client.now (rows_of table.now.entries)) ++ op ∷ []) }
+    ensures others { (c : List ℕ)
+        → is_eq (client_cmp client.now c) ≡ false
+        → find client_cmp c (groups_of groups.new.entries)
+        ≡ find client_cmp c (groups_of groups.old.entries) }
+{
+    match take_group(alloc, table, groups, client) {
+        Ok(mut ops) => {
+            ops.push(op)?;
+            Ok(ops)
+        }
+        Err(fault) => {
+            drop(op);
+            Err(fault)
+        }
+    }
 }
 
 /// Takes the operations of a client out of the groups, or else copies those that the table has of

@@ -36,7 +36,7 @@ fn add_place(alloc: Global, table: &mut Table, client: &ClientId) -> Result<(), 
     ensures there { OnOk result (IsSome (find client_cmp client.now (rows_of table.new.entries))) }
 {
     if !table.contains_key(client) {
-        table.insert(client.copied(alloc)?, Entry::empty(alloc))?;
+        drop(table.insert(client.copied(alloc)?, Entry::empty(alloc))?);
     }
     Ok(())
 }
@@ -59,7 +59,7 @@ fn replace(table: &mut Table, client: ClientId, entry: Entry)
     ensures { table.new.entries ≡ insert_entry client_cmp table.old.entries client entry }
 {
     match table.insert(client, entry) {
-        Ok(_) => {}
+        Ok(before) => drop(before),
         Err(_) => unreachable!(),
     }
 }

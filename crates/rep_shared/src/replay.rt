@@ -53,7 +53,7 @@ fn note_operation(
             counter,
             change,
         } if owner == client => {
-            known.insert((*stamp, *counter), change.copied(alloc)?)?;
+            drop(known.insert((*stamp, *counter), change.copied(alloc)?)?);
         }
         _ => {}
     }
@@ -73,7 +73,10 @@ pub fn changed(
         Some(mut session) => {
             match session.apply(alloc, change) {
                 Ok(()) | Err(SessionFault::Full) => Ok(Some(session)),
-                Err(SessionFault::Memory) => Err(NoMemory),
+                Err(SessionFault::Memory) => {
+                    drop(session);
+                    Err(NoMemory)
+                }
             }
         }
         None => match change {

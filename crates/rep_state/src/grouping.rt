@@ -35,9 +35,30 @@ pub(crate) fn grown(alloc: Global, table: &Table, ops: &[Op]) -> Result<Vec<Grou
         (λ g. IsFresh g.0 (held_of g.0 (by_client table.now.entries)) g.1) groups.items) }
 {
     let nothing = Entry::empty(alloc);
+    let groups = groups_of(alloc, table, &nothing, ops);
+    drop(nothing);
+    groups
+}
+
+/// The same with the entry of a client of which nothing is held.
+fn groups_of(
+    alloc: Global,
+    table: &Table,
+    nothing: &Entry,
+    ops: &[Op],
+) -> Result<Vec<Group>, NoMemory>
+    requires kept { AreKept (by_client table.now.entries) }
+    requires nothing { nothing.now ≡ nothing_held }
+    requires made { AllByRecursion (λ op. IsTrue (is_well_made op)) ops.now }
+    ensures groups { IfOk result (λ groups.
+        AreGroups (by_client table.now.entries) ops.now groups.items) }
+    ensures sorted { IfOk result (λ groups. T (is_sorted client_cmp groups.items)) }
+    ensures fresh { IfOk result (λ groups. AllByRecursion
+        (λ g. IsFresh g.0 (held_of g.0 (by_client table.now.entries)) g.1) groups.items) }
+{
     let mut groups = Vec::with_capacity(alloc, 1)?;
     for op in ops {
-        add_to_group(alloc, table, &nothing, &mut groups, op)?;
+        add_to_group(alloc, table, nothing, &mut groups, op)?;
     }
     Ok(groups)
 }
@@ -83,9 +104,16 @@ fn begun(alloc: Global, entry: &Entry, op: &Op) -> Result<Group, NoMemory>
     ensures client { IfOk result (λ group. group.0 ≡ client_of op.now) }
     ensures fresh { IfOk result (λ group. IsBegun (client_of op.now) entry.now group.1 op.now) }
 {
+    let client = op.client().copied(alloc)?;
     let mut fresh = Fresh::new(alloc);
-    fresh.note(alloc, entry, op)?;
-    Ok((op.client().copied(alloc)?, fresh))
+    match fresh.note(alloc, entry, op) {
+        Ok(()) => Ok((client, fresh)),
+        Err(fault) => {
+            drop(client);
+            drop(fresh);
+            Err(fault)
+        }
+    }
 }
 
 /// Where the group of a client stands among groups in order, or where it would go. A delta's
@@ -138,9 +166,30 @@ pub(crate) fn worked_out(
         AreWorkedOut (by_client table.now.entries) (staged_of changes.items)) }
 {
     let nothing = Entry::empty(alloc);
+    let made = changes_of(alloc, table, &nothing, groups);
+    drop(nothing);
+    made
+}
+
+/// The same with the entry of a client of which nothing is held.
+fn changes_of(
+    alloc: Global,
+    table: &Table,
+    nothing: &Entry,
+    groups: Vec<Group>,
+) -> Result<Vec<(Vec<u8>, Change)>, NoMemory>
+    requires nothing { nothing.now ≡ nothing_held }
+    requires fresh { AllByRecursion
+        (λ g. IsFresh g.0 (held_of g.0 (by_client table.now.entries)) g.1) groups.items }
+    ensures rows { IfOk result (λ changes.
+        rows_of (future (by_client table.now.entries) (staged_of changes.items))
+        ≡ fresh_rows (by_client table.now.entries) groups.items) }
+    ensures worked_out { IfOk result (λ changes.
+        AreWorkedOut (by_client table.now.entries) (staged_of changes.items)) }
+{
     let mut made = Vec::with_capacity(alloc, groups.len())?;
     for (client, fresh) in groups {
-        push_change(alloc, table, &nothing, &mut made, &client, fresh)?;
+        push_change(alloc, table, nothing, &mut made, &client, fresh)?;
     }
     Ok(made)
 }
@@ -166,7 +215,11 @@ fn push_change(
         → OnOk result (AreWorkedOut (by_client table.now.entries) (staged_of made.new.items)) }
 {
     let change = fresh.into_change(alloc, held(table, nothing, client))?;
-    let key = copy_octets(alloc, client.bytes())?;
-    made.push((key, change))?;
-    Ok(())
+    match copy_octets(alloc, client.bytes()) {
+        Ok(key) => Ok(made.push((key, change))?),
+        Err(fault) => {
+            drop(change);
+            Err(fault)
+        }
+    }
 }

@@ -61,11 +61,11 @@ fn add_place(
     if table.contains_key(client) {
         return Ok(());
     }
+    places.reserve(1)?;
     let name = named(alloc, client)?;
     let key = copy_octets(alloc, client)?;
-    places.reserve(1)?;
     let index = table.len();
-    table.insert(key, Entry::empty(alloc))?;
+    drop(table.insert(key, Entry::empty(alloc))?);
     enter(
         places,
         Place {

@@ -141,11 +141,13 @@ pub(crate) fn open(
     let disk = mem::replace(closed(store)?, MemoryDisk::new(alloc));
     match calls::open(alloc, disk, gateway) {
         Ok((journal, deltas)) => {
-            store.journal = Some(journal);
-            print_records(text, deltas.as_slice())
+            drop(mem::replace(&mut store.journal, Some(journal)));
+            let printed = print_records(text, deltas.as_slice());
+            drop(deltas);
+            printed
         }
         Err((disk, fault)) => {
-            store.disk = disk;
+            drop(mem::replace(&mut store.disk, disk));
             refused(text, fault, store.disk.starved())
         }
     }

@@ -154,6 +154,7 @@ use rep_plain::Plain;
 use rep_state::Folded;
 use std::alloc::{AllocError, Global};
 use std::io::{self, Write};
+use std::mem;
 use std::process::ExitCode;
 
 /// What stands in front of a row's name.
@@ -224,8 +225,20 @@ fn played<R: Replica>(alloc: Global, lines: &[String]) -> Result<String, Stop> {
 /// Plays the lines on a replica.
 fn play_all<R: Replica>(alloc: Global, printed: &mut String, lines: &[String]) -> Result<(), Stop> {
     let mut page: Page<R> = blank(alloc)?;
+    let played = play_lines(alloc, printed, &mut page, lines);
+    drop(page);
+    played
+}
+
+/// Plays lines, one after the other.
+fn play_lines<R: Replica>(
+    alloc: Global,
+    printed: &mut String,
+    page: &mut Page<R>,
+    lines: &[String],
+) -> Result<(), Stop> {
     for line in lines {
-        answer(alloc, printed, &mut page, line.as_str())?;
+        answer(alloc, printed, page, line.as_str())?;
     }
     Ok(())
 }
@@ -233,12 +246,18 @@ fn play_all<R: Replica>(alloc: Global, printed: &mut String, lines: &[String]) -
 /// No line has brought anything about.
 fn blank<R: Replica>(alloc: Global) -> Result<Page<R>, Stop> {
     let datagrams = datagrams::begin(alloc)?;
-    Ok(Page {
-        is_of_datagrams: false,
-        names: names::none(alloc),
-        datagrams,
-        row: begin(alloc)?,
-    })
+    match begin(alloc) {
+        Ok(row) => Ok(Page {
+            is_of_datagrams: false,
+            names: names::none(alloc),
+            datagrams,
+            row,
+        }),
+        Err(stop) => {
+            drop(datagrams);
+            Err(stop)
+        }
+    }
 }
 
 /// Plays a line; empty ones and explanations say nothing.
@@ -282,8 +301,8 @@ fn begin_row<R: Replica>(
     page: &mut Page<R>,
     line: &str,
 ) -> Result<(), Stop> {
-    page.datagrams = datagrams::begin(alloc)?;
-    page.row = begin(alloc)?;
+    drop(mem::replace(&mut page.datagrams, datagrams::begin(alloc)?));
+    drop(mem::replace(&mut page.row, begin(alloc)?));
     Ok(writeln!(text, "{line}")?)
 }
 
@@ -303,10 +322,22 @@ fn play_line<R: Replica>(
     line: &str,
 ) -> Result<(), Stop> {
     let words = fields(alloc, line)?;
+    let played = play_words(alloc, text, page, &words);
+    drop(words);
+    played
+}
+
+/// Plays the words of such a line.
+fn play_words<R: Replica>(
+    alloc: Global,
+    text: &mut String,
+    page: &mut Page<R>,
+    words: &[&str],
+) -> Result<(), Stop> {
     if page.is_of_datagrams {
-        return datagrams::play(alloc, text, &mut page.datagrams, &words);
+        return datagrams::play(alloc, text, &mut page.datagrams, words);
     }
-    match words.as_slice() {
+    match words {
         ["name", rest @ ..] => names::add(alloc, &mut page.names, rest),
         words => play(alloc, text, &mut page.row, &page.names, words),
     }

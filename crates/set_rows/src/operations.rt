@@ -91,8 +91,23 @@ pub(crate) fn put_ops(alloc: Global, ops: &mut Vec<Op>, fields: &[&str]) -> Resu
     let (origin, qos, size) = (octet(origin)?, level(qos)?, count(size)?);
     let (first, last) = (number(first)?, number(last)?);
     let said = vec![in alloc; b'a'; size]?;
+    let added = add_puts(alloc, ops, name, (origin, first, last), about, qos, &said);
+    drop(said);
+    added
+}
+
+/// Adds these messages, of an origin from a first number to a last.
+fn add_puts(
+    alloc: Global,
+    ops: &mut Vec<Op>,
+    name: &str,
+    (origin, first, last): (u8, u64, u64),
+    about: &str,
+    qos: QosLevel,
+    said: &[u8],
+) -> Result<(), Stop> {
     for seq in first..=last {
-        add_put(alloc, ops, name, (origin, seq), about, qos, &said)?;
+        add_put(alloc, ops, name, (origin, seq), about, qos, said)?;
     }
     Ok(())
 }

@@ -52,15 +52,44 @@ fn run(alloc: Global, seed: u64, times: u64, size: u64) -> Result<Counts, Stop> 
         plain: empty(alloc)?,
         folded: empty(alloc)?,
     };
+    let counts = count_all(alloc, &mut pair, seed, times, size);
+    drop(pair);
+    counts
+}
+
+/// Both replicas take one made-up delta after the other.
+fn count_all(
+    alloc: Global,
+    pair: &mut Pair,
+    seed: u64,
+    times: u64,
+    size: u64,
+) -> Result<Counts, Stop> {
     let mut counts = Counts { deltas: 0, same: 0 };
     let mut number = seed;
     for _ in 0..times {
         number = next(number);
-        if let Some(delta) = delta(alloc, number, size)? {
-            count(alloc, &mut pair, &delta, &mut counts)?;
-        }
+        count_made(alloc, pair, number, size, &mut counts)?;
     }
     Ok(counts)
+}
+
+/// Both replicas take the delta of operations that are made up of a number, if these are one.
+fn count_made(
+    alloc: Global,
+    pair: &mut Pair,
+    number: u64,
+    size: u64,
+    counts: &mut Counts,
+) -> Result<(), Stop> {
+    match delta(alloc, number, size)? {
+        None => Ok(()),
+        Some(delta) => {
+            let counted = count(alloc, pair, &delta, counts);
+            drop(delta);
+            counted
+        }
+    }
 }
 
 /// Both replicas take a delta, which is counted.
@@ -76,15 +105,27 @@ fn count(alloc: Global, pair: &mut Pair, delta: &Delta, counts: &mut Counts) -> 
 fn take(alloc: Global, pair: &mut Pair, delta: &Delta) -> Result<bool, Stop> {
     let plain = pair.plain.prepare(alloc, delta);
     let folded = pair.folded.prepare(alloc, delta);
-    if is_short(&plain) || is_short(&folded) {
-        return Err(Stop::Memory);
-    }
+    let agreed = agree(&plain, &folded);
     match (plain, folded) {
         (Ok(plain), Ok(folded)) => {
             pair.plain.commit(plain);
             pair.folded.commit(folded);
-            Ok(true)
         }
+        (plain, folded) => {
+            drop(plain);
+            drop(folded);
+        }
+    }
+    agreed
+}
+
+/// Whether both can take a delta, or refuse it alike.
+fn agree<P, F>(plain: &Result<P, TakeFault>, folded: &Result<F, TakeFault>) -> Result<bool, Stop> {
+    if is_short(plain) || is_short(folded) {
+        return Err(Stop::Memory);
+    }
+    match (plain, folded) {
+        (Ok(_), Ok(_)) => Ok(true),
         (Err(plain), Err(folded)) => Ok(plain == folded),
         _ => Ok(false),
     }

@@ -116,6 +116,23 @@ fn refused(said: &mut String, fault: JournalFault) -> Result<(), Stop> {
     Ok(write!(said, " {why}")?)
 }
 
+/// The journal of an opening that read these records.
+fn opened(
+    said: &mut String,
+    journal: Journal<OnceDisk>,
+    deltas: Vec<Delta>,
+) -> Result<Journal<OnceDisk>, Stop> {
+    let told = read(said, deltas.as_slice());
+    drop(deltas);
+    match told {
+        Ok(()) => Ok(journal),
+        Err(stop) => {
+            drop(journal);
+            Err(stop)
+        }
+    }
+}
+
 /// An opening, and another where it is refused.
 fn open(
     alloc: Global,
@@ -125,10 +142,7 @@ fn open(
 ) -> Result<Journal<OnceDisk>, Stop> {
     said.push_str("open")?;
     match calls::open(alloc, disk, gateway) {
-        Ok((journal, deltas)) => {
-            read(said, deltas.as_slice())?;
-            Ok(journal)
-        }
+        Ok((journal, deltas)) => opened(said, journal, deltas),
         Err((disk, fault)) => {
             refused(said, fault)?;
             open_again(alloc, said, disk, gateway)
@@ -144,10 +158,7 @@ fn open_again(
     gateway: u8,
 ) -> Result<Journal<OnceDisk>, Stop> {
     match calls::open(alloc, disk, gateway) {
-        Ok((journal, deltas)) => {
-            read(said, deltas.as_slice())?;
-            Ok(journal)
-        }
+        Ok((journal, deltas)) => opened(said, journal, deltas),
         Err((disk, fault)) => {
             let _why = reason(fault, disk.into_inner().starved())?;
             Err(Stop::Line)

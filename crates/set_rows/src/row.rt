@@ -73,10 +73,7 @@ fn play_session<R: Replica>(
     rest: &[&str],
 ) -> Result<(), Stop> {
     match first {
-        "session" => {
-            row.session = sessions::described(alloc, rest)?;
-            Ok(())
-        }
+        "session" => sessions::describe(alloc, &mut row.session, rest),
         "apply" => sessions::apply(alloc, text, &mut row.session, rest),
         "applies" => sessions::applies(alloc, text, &mut row.session, rest),
         _ => ask_session(alloc, text, row, names, first, rest),
@@ -209,7 +206,7 @@ fn play_octets<R: Replica>(
 ) -> Result<(), Stop> {
     match first {
         "octets" => {
-            row.octets = names::octets(alloc, names, rest)?;
+            drop(mem::replace(&mut row.octets, names::octets(alloc, names, rest)?));
             Ok(())
         }
         "behind" => deltas::behind(alloc, names, &mut row.octets, rest),

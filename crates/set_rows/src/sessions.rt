@@ -8,20 +8,24 @@ use crate::words::{Word, known_word};
 use sn_session::Session;
 use sn_tables::{QosLevel, SessionFault, TopicEntry};
 use std::alloc::{AllocError, Global};
+use std::mem;
 
 /// Where the number of a change stands that is made under each of several.
 const NUMBER: char = '%';
 
-/// `session WHERE clean SECONDS` or `kept`: a session without anything else.
-pub(crate) fn described(alloc: Global, fields: &[&str]) -> Result<Session, Stop> {
+/// `session WHERE clean SECONDS` or `kept`: the session is one without anything else.
+pub(crate) fn describe(alloc: Global, session: &mut Session, fields: &[&str]) -> Result<(), Stop> {
     let [place, kind, seconds] = fields else {
         return Err(Stop::Line);
     };
-    let mut session = Session::empty(alloc);
-    session.presence = presence(place)?;
-    session.clean = is_first(kind, "clean", "kept")?;
-    session.duration = small_number(seconds)?;
-    Ok(session)
+    let presence = presence(place)?;
+    let clean = is_first(kind, "clean", "kept")?;
+    let duration = small_number(seconds)?;
+    drop(mem::replace(session, Session::empty(alloc)));
+    session.presence = presence;
+    session.clean = clean;
+    session.duration = duration;
+    Ok(())
 }
 
 /// `apply CHANGE`: the session changes.
@@ -32,7 +36,14 @@ pub(crate) fn apply(
     fields: &[&str],
 ) -> Result<(), Stop> {
     let made = change(alloc, session, fields)?;
-    match session.apply(alloc, &made) {
+    let applied = session.apply(alloc, &made);
+    drop(made);
+    print_applied(text, applied)
+}
+
+/// Whether a session changed.
+fn print_applied(text: &mut String, applied: Result<(), SessionFault>) -> Result<(), Stop> {
+    match applied {
         Ok(()) => Ok(()),
         Err(SessionFault::Memory) => Err(Stop::Memory),
         Err(SessionFault::Full) => Ok(text.push_str("refused full\n")?),

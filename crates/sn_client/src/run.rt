@@ -13,7 +13,7 @@ use sn_frame::{EncodeFault, Frame, FrameFault, decode, encode};
 use std::alloc::{AllocError, Global};
 use std::net::Net;
 use std::time::{Clock, Duration, Instant, SystemTime};
-use std::{fmt, io};
+use std::{fmt, io, mem};
 
 /// The most octets of a datagram.
 const DATAGRAM: usize = 65_535;
@@ -111,17 +111,26 @@ pub(crate) fn converse<R: Net + Clock + Print + AllocGlobal>(
     rt: &R,
     settings: &Settings<'_>,
 ) -> Result<Outcome, Fault> {
+    let mut run = begun(rt, settings)?;
+    let outcome = run.carry_out(rt, settings);
+    drop(run);
+    outcome
+}
+
+/// A run that has said who speaks.
+fn begun<R: Net + Clock + Print + AllocGlobal>(
+    rt: &R,
+    settings: &Settings<'_>,
+) -> Result<Run, Fault> {
     let wire = opened(rt, settings)?;
     introduce(rt, settings, &wire)?;
-    let talk = talk_of(rt, settings, &CONNECT)?;
-    let mut run = Run {
+    Ok(Run {
+        talk: talk_of(rt, settings, &CONNECT)?,
         wire,
-        talk,
         pace: Pace::of(settings.wait),
         hex: settings.hex,
         is_followed: settings.connect,
-    };
-    run.carry_out(rt, settings)
+    })
 }
 
 /// The socket that the settings ask for.
@@ -166,7 +175,8 @@ impl Run {
             }
             self.is_followed = false;
         }
-        self.talk = talk_of(rt, settings, &settings.command)?;
+        let talk = talk_of(rt, settings, &settings.command)?;
+        drop(mem::replace(&mut self.talk, talk));
         self.pace = Pace::of(settings.seconds);
         self.exchange(rt, &settings.command)
     }
@@ -257,10 +267,25 @@ impl Run {
             return Ok(());
         };
         let octets = &buffer[..size];
-        match frame_of(rt.alloc(), octets) {
+        let spelled = frame_of(rt.alloc(), octets);
+        let done = self.heed(rt, command, &spelled, octets, moment);
+        drop(spelled);
+        done
+    }
+
+    /// What a datagram leads to, which spells this.
+    fn heed<R: Print + AllocGlobal>(
+        &mut self,
+        rt: &R,
+        command: &Command<'_>,
+        spelled: &Result<Frame, FrameFault>,
+        octets: &[u8],
+        moment: u64,
+    ) -> Result<(), Fault> {
+        match spelled {
             Ok(frame) => {
-                tell(rt, "<-", &frame, octets, self.hex)?;
-                self.answer(rt, command, &frame, moment)
+                tell(rt, "<-", frame, octets, self.hex)?;
+                self.answer(rt, command, frame, moment)
             }
             Err(FrameFault::Memory) => Err(Fault::Memory),
             Err(fault) => {
@@ -280,12 +305,7 @@ impl Run {
         moment: u64,
     ) -> Result<(), Fault> {
         self.acknowledge(rt, frame)?;
-        say(
-            rt,
-            &self.wire,
-            &told_will(rt.alloc(), command, frame)?,
-            self.hex,
-        )?;
+        self.tell_will(rt, command, frame)?;
         if is_farewell(frame, self.talk.awaited) {
             println!(rt;
                 "-- the gateway has no connection with this client at this port: connect"
@@ -298,6 +318,19 @@ impl Run {
     /// Sends what acknowledges a frame, if anything does.
     fn acknowledge<R: Print + AllocGlobal>(&self, rt: &R, frame: &Frame) -> Result<(), Fault> {
         say(rt, &self.wire, &acknowledgement(frame), self.hex)
+    }
+
+    /// Sends what a frame asks of a will, if it asks.
+    fn tell_will<R: Print + AllocGlobal>(
+        &self,
+        rt: &R,
+        command: &Command<'_>,
+        frame: &Frame,
+    ) -> Result<(), Fault> {
+        let told = told_will(rt.alloc(), command, frame)?;
+        let said = say(rt, &self.wire, &told, self.hex);
+        drop(told);
+        said
     }
 
     /// The exchange goes on, or ends, by a frame.

@@ -59,10 +59,10 @@ impl fmt::Display for Code {
     fn fmt<W: fmt::Write>(&self, f: &mut fmt::Formatter<W>) -> fmt::Result {
         let code = self.0;
         match code {
-            0 => write!(f, "accepted"),
-            1 => write!(f, "refused, congestion"),
-            2 => write!(f, "refused, invalid topic id"),
-            3 => write!(f, "refused, not supported"),
+            0 => f.write_str("accepted"),
+            1 => f.write_str("refused, congestion"),
+            2 => f.write_str("refused, invalid topic id"),
+            3 => f.write_str("refused, not supported"),
             _ => write!(f, "refused, return code {code}"),
         }
     }
@@ -143,7 +143,7 @@ impl fmt::Display for Told<'_> {
 /// Frames by which a gateway is found, and a connection begins, goes on and ends.
 fn connection<W: fmt::Write>(f: &mut fmt::Formatter<W>, frame: &Frame) -> fmt::Result {
     match frame {
-        Frame::SearchGw { .. } => write!(f, "SEARCHGW"),
+        Frame::SearchGw { .. } => f.write_str("SEARCHGW"),
         Frame::GwInfo { gateway, .. } => write!(f, "GWINFO: gateway {gateway}"),
         Frame::Connect {
             flags,
@@ -163,13 +163,13 @@ fn connection<W: fmt::Write>(f: &mut fmt::Formatter<W>, frame: &Frame) -> fmt::R
             let code = Code(*code);
             write!(f, "CONNACK: {code}")
         }
-        Frame::PingReq { client } if client.is_empty() => write!(f, "PINGREQ"),
+        Frame::PingReq { client } if client.is_empty() => f.write_str("PINGREQ"),
         Frame::PingReq { client } => {
             let name = Text(client.as_slice());
             write!(f, "PINGREQ as {name}")
         }
-        Frame::PingResp => write!(f, "PINGRESP: nothing else waits"),
-        Frame::Disconnect { duration: None } => write!(f, "DISCONNECT"),
+        Frame::PingResp => f.write_str("PINGRESP: nothing else waits"),
+        Frame::Disconnect { duration: None } => f.write_str("DISCONNECT"),
         Frame::Disconnect {
             duration: Some(duration),
         } => { write!(f, "DISCONNECT, asleep for {duration} s") }
@@ -240,17 +240,17 @@ fn topics<W: fmt::Write>(f: &mut fmt::Formatter<W>, frame: &Frame) -> fmt::Resul
 /// Frames about wills.
 fn wills<W: fmt::Write>(f: &mut fmt::Formatter<W>, frame: &Frame) -> fmt::Result {
     match frame {
-        Frame::WillTopicReq => write!(f, "WILLTOPICREQ: where is the will published?"),
+        Frame::WillTopicReq => f.write_str("WILLTOPICREQ: where is the will published?"),
         Frame::WillTopic { will: Some(will) } => {
             let topic = Text(will.topic.as_slice());
             let level = Level(will.flags);
             write!(f, "WILLTOPIC {topic}, {level}")
         }
-        Frame::WillMsgReq => write!(f, "WILLMSGREQ: what does it say?"),
+        Frame::WillMsgReq => f.write_str("WILLMSGREQ: what does it say?"),
         Frame::WillMsg { message } => {
             let message = Text(message.as_slice());
             write!(f, "WILLMSG {message}")
         }
-        _ => write!(f, "another frame"),
+        _ => f.write_str("another frame"),
     }
 }

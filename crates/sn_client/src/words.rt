@@ -105,10 +105,13 @@ pub(crate) enum Unread {
     Word(&'static str),
 }
 
-impl From<AllocError> for Unread {
-    fn from(error: AllocError) -> Unread {
-        Unread::Words(Error::from(error))
-    }
+/// Why a word of a command line says nothing.
+#[derive(Clone, Copy)]
+enum Slip {
+    /// What is wrong with it.
+    Word(&'static str),
+    /// Memory ran out.
+    Memory,
 }
 
 impl From<Error> for Unread {
@@ -117,12 +120,28 @@ impl From<Error> for Unread {
     }
 }
 
+impl From<Slip> for Unread {
+    fn from(slip: Slip) -> Unread {
+        match slip {
+            Slip::Word(fault) => Unread::Word(fault),
+            Slip::Memory => Unread::Words(Error::from(AllocError)),
+        }
+    }
+}
+
 /// What a command line says.
 pub(crate) fn read<'a>(alloc: Global, words: &'a [String]) -> Result<Settings<'a>, Unread> {
     let matches = matched(alloc, words)?;
+    let settings = settings_in(alloc, &matches);
+    drop(matches);
+    Ok(settings?)
+}
+
+/// What the matched words say.
+fn settings_in<'a>(alloc: Global, matches: &ArgMatches<'a>) -> Result<Settings<'a>, Slip> {
     match matches.subcommand() {
         Some((name, inner)) => settings_of(alloc, name, inner),
-        None => Err(Unread::Word("COMMAND is missing")),
+        None => Err(Slip::Word("COMMAND is missing")),
     }
 }
 
@@ -136,7 +155,7 @@ fn settings_of<'a>(
     alloc: Global,
     name: &str,
     inner: &ArgMatches<'a>,
-) -> Result<Settings<'a>, Unread> {
+) -> Result<Settings<'a>, Slip> {
     let client = client(inner)?;
     Ok(Settings {
         gateway: gateway(inner)?,
@@ -151,28 +170,24 @@ fn settings_of<'a>(
 }
 
 /// The address of the gateway.
-fn gateway(matches: &ArgMatches<'_>) -> Result<SocketAddr, Unread> {
+fn gateway(matches: &ArgMatches<'_>) -> Result<SocketAddr, Slip> {
     let Some(word) = matches.get_str("gateway") else {
-        return Err(Unread::Word(
-            "--gateway is missing: where a gateway listens, as 127.0.0.1:18841",
-        ));
+        return Err(Slip::Word("--gateway is missing: where a gateway listens, as 127.0.0.1:18841"));
     };
     match word.parse::<SocketAddr>() {
         Ok(gateway) => Ok(gateway),
-        Err(_) => Err(Unread::Word(
+        Err(_) => Err(Slip::Word(
             "--gateway is no address with a port, as 127.0.0.1:18841; names of hosts are not taken",
         )),
     }
 }
 
 /// The client's id: 1 to 23 octets.
-fn client<'a>(matches: &ArgMatches<'a>) -> Result<&'a str, Unread> {
+fn client<'a>(matches: &ArgMatches<'a>) -> Result<&'a str, Slip> {
     match matches.get_str("id") {
-        None => Err(Unread::Word("--id is missing: the client's id, as s1")),
-        Some(word) if word.is_empty() => Err(Unread::Word("--id is empty")),
-        Some(word) if word.len() > MAX_CLIENT_ID => Err(Unread::Word(
-            "--id has more than 23 octets",
-        )),
+        None => Err(Slip::Word("--id is missing: the client's id, as s1")),
+        Some(word) if word.is_empty() => Err(Slip::Word("--id is empty")),
+        Some(word) if word.len() > MAX_CLIENT_ID => Err(Slip::Word("--id has more than 23 octets")),
         Some(word) => Ok(word),
     }
 }
@@ -190,23 +205,23 @@ fn port_of(client: &str) -> u16
 }
 
 /// A number of a command line.
-fn number(matches: &ArgMatches<'_>, id: &str) -> Result<u16, Unread> {
+fn number(matches: &ArgMatches<'_>, id: &str) -> Result<u16, Slip> {
     match matches.get_one::<u16>(id) {
         Some(number) => Ok(number),
-        None => Err(Unread::Word("a number from 0 to 65535 is missing")),
+        None => Err(Slip::Word("a number from 0 to 65535 is missing")),
     }
 }
 
 /// A word of a command line.
-fn word<'a>(matches: &ArgMatches<'a>, id: &str) -> Result<&'a str, Unread> {
+fn word<'a>(matches: &ArgMatches<'a>, id: &str) -> Result<&'a str, Slip> {
     match matches.get_str(id) {
         Some(word) => Ok(word),
-        None => Err(Unread::Word("a word is missing")),
+        None => Err(Slip::Word("a word is missing")),
     }
 }
 
 /// The command and what stands after it.
-fn asked<'a>(alloc: Global, name: &str, matches: &ArgMatches<'a>) -> Result<Command<'a>, Unread> {
+fn asked<'a>(alloc: Global, name: &str, matches: &ArgMatches<'a>) -> Result<Command<'a>, Slip> {
     match name {
         "search" => Ok(Command::Search),
         "connect" => Ok(Command::Connect {
@@ -223,7 +238,7 @@ fn asked<'a>(alloc: Global, name: &str, matches: &ArgMatches<'a>) -> Result<Comm
         }),
         "publish" => publish(alloc, matches),
         "sleep" => match number(matches, "seconds")? {
-            0 => Err(Unread::Word("SECONDS is 0")),
+            0 => Err(Slip::Word("SECONDS is 0")),
             seconds => Ok(Command::Sleep { seconds }),
         },
         "wake" => Ok(Command::Wake),
@@ -233,7 +248,7 @@ fn asked<'a>(alloc: Global, name: &str, matches: &ArgMatches<'a>) -> Result<Comm
 }
 
 /// The will of a CONNECT.
-fn will<'a>(alloc: Global, matches: &ArgMatches<'a>) -> Result<Option<WillWords<'a>>, Unread> {
+fn will<'a>(alloc: Global, matches: &ArgMatches<'a>) -> Result<Option<WillWords<'a>>, Slip> {
     match (
         matches.get_str("will-topic"),
         matches.get_str("will-message"),
@@ -248,12 +263,12 @@ fn will<'a>(alloc: Global, matches: &ArgMatches<'a>) -> Result<Option<WillWords<
                 retain: matches.get_flag("retain"),
             }))
         }
-        _ => Err(Unread::Word("--will-topic and --will-message go together")),
+        _ => Err(Slip::Word("--will-topic and --will-message go together")),
     }
 }
 
 /// The words of `publish`. At QoS -1 no id can be asked for (MQTT-SN 1.2 section 6.8).
-fn publish<'a>(alloc: Global, matches: &ArgMatches<'a>) -> Result<Command<'a>, Unread> {
+fn publish<'a>(alloc: Global, matches: &ArgMatches<'a>) -> Result<Command<'a>, Slip> {
     let name = word(matches, "topic")?;
     let qos = qos(matches)?;
     let topic = if matches.get_flag("predefined") {
@@ -263,7 +278,7 @@ fn publish<'a>(alloc: Global, matches: &ArgMatches<'a>) -> Result<Command<'a>, U
         in_form(name)
     };
     if qos == Qos::MinusOne && matches!(topic, Topic::Full(_)) {
-        return Err(Unread::Word("at QoS -1 TOPIC has two octets, or is an id with --predefined"));
+        return Err(Slip::Word("at QoS -1 TOPIC has two octets, or is an id with --predefined"));
     }
     Ok(Command::Publish {
         topic,
@@ -274,35 +289,35 @@ fn publish<'a>(alloc: Global, matches: &ArgMatches<'a>) -> Result<Command<'a>, U
 }
 
 /// A quality of service.
-fn qos(matches: &ArgMatches<'_>) -> Result<Qos, Unread> {
+fn qos(matches: &ArgMatches<'_>) -> Result<Qos, Slip> {
     match matches.get_str("qos") {
         Some("0") => Ok(Qos::Zero),
         Some("1") => Ok(Qos::One),
         Some("2") => Ok(Qos::Two),
         Some("-1") => Ok(Qos::MinusOne),
-        _ => Err(Unread::Word("--qos is none of -1, 0, 1 and 2")),
+        _ => Err(Slip::Word("--qos is none of -1, 0, 1 and 2")),
     }
 }
 
 /// A predefined id.
-fn topic_of_id<'a>(word: &str) -> Result<Topic<'a>, Unread> {
+fn topic_of_id<'a>(word: &str) -> Result<Topic<'a>, Slip> {
     match word.parse::<u16>() {
         Ok(id) => Ok(Topic::Predefined(id)),
-        Err(_) => Err(Unread::Word("a predefined id is a number from 0 to 65535")),
+        Err(_) => Err(Slip::Word("a predefined id is a number from 0 to 65535")),
     }
 }
 
 /// Looks whether a topic's name is one.
-fn check_name(alloc: Global, word: &str) -> Result<(), Unread> {
+fn check_name(alloc: Global, word: &str) -> Result<(), Slip> {
     match TopicName::new(alloc, word.as_bytes()) {
         Ok(_) => Ok(()),
-        Err(TopicFault::Memory) => Err(Unread::from(AllocError)),
-        Err(_) => Err(Unread::Word("TOPIC is no name: 1 to 256 octets without a wildcard")),
+        Err(TopicFault::Memory) => Err(Slip::Memory),
+        Err(_) => Err(Slip::Word("TOPIC is no name: 1 to 256 octets without a wildcard")),
     }
 }
 
 /// A filter, or a predefined id. A filter with a wildcard is never a short name.
-fn filter<'a>(alloc: Global, matches: &ArgMatches<'a>) -> Result<Topic<'a>, Unread> {
+fn filter<'a>(alloc: Global, matches: &ArgMatches<'a>) -> Result<Topic<'a>, Slip> {
     let word = word(matches, "filter")?;
     if matches.get_flag("predefined") {
         return topic_of_id(word);
@@ -310,8 +325,8 @@ fn filter<'a>(alloc: Global, matches: &ArgMatches<'a>) -> Result<Topic<'a>, Unre
     match Filter::new(alloc, word.as_bytes()) {
         Ok(filter) if filter.has_wildcard() => Ok(Topic::Full(word)),
         Ok(_) => Ok(in_form(word)),
-        Err(TopicFault::Memory) => Err(Unread::from(AllocError)),
-        Err(_) => Err(Unread::Word("FILTER is none: + or # alone in a level, and # in the last")),
+        Err(TopicFault::Memory) => Err(Slip::Memory),
+        Err(_) => Err(Slip::Word("FILTER is none: + or # alone in a level, and # in the last")),
     }
 }
 

@@ -236,7 +236,7 @@ fn puback(
 fn send_pubrel(alloc: Global, peer: &Peer, msg_id: u16, draft: &mut Draft) -> Result<(), NoMemory>
     ensures { OnOk result (draft.new ≡ spec.pubrel_sent peer.now msg_id draft.old) }
 {
-    send(alloc, peer, &Frame::PubRel { msg_id }, draft)?;
+    send(alloc, peer, Frame::PubRel { msg_id }, draft)?;
     draft.note(LocalChange::Resent {
         client: peer.client.copied(alloc)?,
         moment: peer.moment,
@@ -294,7 +294,7 @@ fn pubrec_again(
 {
     let mut draft = Draft::new(alloc);
     match exchange {
-        None => send(alloc, peer, &Frame::PubRel { msg_id }, &mut draft)?,
+        None => send(alloc, peer, Frame::PubRel { msg_id }, &mut draft)?,
         Some(_) => send_pubrel(alloc, peer, msg_id, &mut draft)?,
     }
     Ok(draft)

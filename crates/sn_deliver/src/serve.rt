@@ -55,8 +55,9 @@ fn publish_bound<R: Replica>(
         topic,
         msg_id,
         body,
-    )?;
-    served(alloc, client, now, draft)
+    );
+    drop(empty);
+    served(alloc, client, now, draft?)
 }
 
 /// A PUBLISH that asks for a connection.
@@ -132,8 +133,9 @@ fn pubrel_bound<R: Replica>(
 {
     let empty = Session::empty(alloc);
     let session = session_or(replica, client, &empty);
-    let draft = pubrel(alloc, from, session, msg_id)?;
-    served(alloc, client, now, draft)
+    let draft = pubrel(alloc, from, session, msg_id);
+    drop(empty);
+    served(alloc, client, now, draft?)
 }
 
 /// PUBREL: a bound client will not send the message of this id again.
@@ -169,14 +171,17 @@ fn acknowledged<R: Replica>(
     let nobody = unseen(alloc);
     let session = session_or(replica, &peer.client, &empty);
     let view = view_or(replica, &peer.client, &nobody);
-    acknowledge(
+    let draft = acknowledge(
         alloc,
         &config.predefined,
         peer,
         session,
         view.pending.as_slice(),
         frame,
-    )
+    );
+    drop(empty);
+    drop(nobody);
+    draft
 }
 
 /// An acknowledgement of a bound client.

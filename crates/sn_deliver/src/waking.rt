@@ -50,7 +50,7 @@ fn has_nothing(session: &Session, pending: &[Put]) -> bool
 fn answer(alloc: Global, to: Addr, draft: &mut Draft) -> Result<(), NoMemory>
     ensures { OnOk result (draft.new ≡ spec.answered to draft.old) }
 {
-    match draft.send(alloc, to, &Frame::PingResp) {
+    match draft.send(alloc, to, Frame::PingResp) {
         Ok(()) => Ok(()),
         Err(_) => Err(NoMemory),
     }
@@ -171,7 +171,9 @@ fn woken<R: Replica>(
 {
     let nobody = unseen(alloc);
     let view = view_or(replica, client, &nobody);
-    woken_view(alloc, gateway, to, client, view, now)
+    let row = woken_view(alloc, gateway, to, client, view, now);
+    drop(nobody);
+    row
 }
 
 /// A PINGREQ without a client.

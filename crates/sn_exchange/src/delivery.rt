@@ -49,14 +49,15 @@ fn begin(
     session: &Session,
     put: &Put,
     phase: Phase,
-    frame: &Frame,
+    frame: Frame,
     draft: &mut Draft,
 ) -> Result<(), NoMemory>
-    requires message { IsMessage frame.now }
-    requires size { total_of frame.now ≤ MAX_FRAME }
-    ensures { OnOk result (draft.new ≡ begun peer.now session.now put.now phase frame.now
+    requires message { IsMessage frame }
+    requires size { total_of frame ≤ MAX_FRAME }
+    ensures { OnOk result (draft.new ≡ begun peer.now session.now put.now phase frame
         draft.old) }
 {
+    send(alloc, peer, frame, draft)?;
     let exchange = Outbound {
         origin: put.origin,
         seq: put.seq,
@@ -67,7 +68,6 @@ fn begin(
         exchange: Some(exchange),
         next_id: next_after(session.next_id),
     })?;
-    send(alloc, peer, frame, draft)?;
     draft.note(LocalChange::Sent {
         client: peer.client.copied(alloc)?,
         moment: peer.moment,
@@ -76,10 +76,10 @@ fn begin(
 }
 
 /// And then this frame to the client.
-pub fn send(alloc: Global, peer: &Peer, frame: &Frame, draft: &mut Draft) -> Result<(), NoMemory>
-    requires message { IsMessage frame.now }
-    requires size { total_of frame.now ≤ MAX_FRAME }
-    ensures { OnOk result (draft.new ≡ sent peer.now.address frame.now draft.old) }
+pub fn send(alloc: Global, peer: &Peer, frame: Frame, draft: &mut Draft) -> Result<(), NoMemory>
+    requires message { IsMessage frame }
+    requires size { total_of frame ≤ MAX_FRAME }
+    ensures { OnOk result (draft.new ≡ sent peer.now.address frame draft.old) }
 {
     match draft.send(alloc, peer.address, frame) {
         Ok(()) => Ok(()),
@@ -140,13 +140,14 @@ fn register_first(
         draft.ack(put.seq, put.origin)?;
         return Ok(false);
     };
+    let ToldId { id, change } = told;
+    draft.change_if(change)?;
     let frame = Frame::Register {
-        topic_id: told.id,
+        topic_id: id,
         msg_id: session.next_id,
         name: Octets::from_slice(alloc, put.topic.bytes())?,
     };
-    draft.change_if(told.change)?;
-    begin(alloc, peer, session, put, Phase::Registering, &frame, draft)?;
+    begin(alloc, peer, session, put, Phase::Registering, frame, draft)?;
     Ok(true)
 }
 
@@ -165,12 +166,12 @@ fn publish_now(
 {
     if put.qos.number() == 0 {
         let frame = publication(alloc, false, put, 0, form)?;
-        send(alloc, peer, &frame, draft)?;
+        send(alloc, peer, frame, draft)?;
         draft.ack(put.seq, put.origin)?;
         return Ok(false);
     }
     let frame = publication(alloc, false, put, session.next_id, form)?;
-    begin(alloc, peer, session, put, Phase::Published, &frame, draft)?;
+    begin(alloc, peer, session, put, Phase::Published, frame, draft)?;
     Ok(true)
 }
 
@@ -227,7 +228,7 @@ fn none_left(
         presence: Presence::Asleep,
         duration: session.duration,
     })?;
-    send(alloc, peer, &Frame::PingResp, draft)
+    send(alloc, peer, Frame::PingResp, draft)
 }
 
 /// And then the messages that are not acknowledged yet, until one of them stops it.

@@ -67,7 +67,10 @@ fn follow_for<R: Replica>(
     let session = session_or(replica, &peer.client, &empty);
     let view = view_or(replica, &peer.client, &nobody);
     let pending = view.pending.as_slice();
-    follow_by(alloc, predefined, peer, session, pending, draft, follow)
+    let followed = follow_by(alloc, predefined, peer, session, pending, draft, follow);
+    drop(empty);
+    drop(nobody);
+    followed
 }
 
 /// The row with what follows it, for its client at this address.

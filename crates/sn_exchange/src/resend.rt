@@ -23,11 +23,10 @@ use sn_topic::Predefined;
 use std::alloc::Global;
 
 /// And then a frame of the exchange, again. Answers that it stops.
-fn again(alloc: Global, peer: &Peer, frame: &Frame, draft: &mut Draft) -> Result<bool, NoMemory>
-    requires message { IsMessage frame.now }
-    requires size { total_of frame.now ≤ MAX_FRAME }
-    ensures { IfOk result (λ stops. (stops, draft.new) ≡ spec.again peer.now frame.now
-        draft.old) }
+fn again(alloc: Global, peer: &Peer, frame: Frame, draft: &mut Draft) -> Result<bool, NoMemory>
+    requires message { IsMessage frame }
+    requires size { total_of frame ≤ MAX_FRAME }
+    ensures { IfOk result (λ stops. (stops, draft.new) ≡ spec.again peer.now frame draft.old) }
 {
     send(alloc, peer, frame, draft)?;
     draft.note(LocalChange::Resent {
@@ -70,7 +69,7 @@ fn register_by(
                 msg_id,
                 name: Octets::from_slice(alloc, put.topic.bytes())?,
             };
-            again(alloc, peer, &frame, draft)
+            again(alloc, peer, frame, draft)
         }
     }
 }
@@ -113,7 +112,7 @@ fn publish_by(
         None => give_up(session, draft),
         Some(form) => {
             let frame = publication(alloc, true, put, msg_id, form)?;
-            again(alloc, peer, &frame, draft)
+            again(alloc, peer, frame, draft)
         }
     }
 }
@@ -157,7 +156,7 @@ fn resend_in(
     match phase {
         Phase::Registering => register_again(alloc, peer, session, msg_id, put, draft),
         Phase::Published => publish_again(alloc, predefined, peer, session, msg_id, put, draft),
-        Phase::Released => again(alloc, peer, &Frame::PubRel { msg_id }, draft),
+        Phase::Released => again(alloc, peer, Frame::PubRel { msg_id }, draft),
     }
 }
 

@@ -118,7 +118,7 @@ pub fn accept(
     draft.note(LocalChange::EndDialog {
         address: request.address,
     })?;
-    draft.send(alloc, request.address, &Frame::ConnAck { code: ACCEPTED })?;
+    draft.send(alloc, request.address, Frame::ConnAck { code: ACCEPTED })?;
     Ok(draft)
 }
 

@@ -92,7 +92,7 @@ fn ask_topic(alloc: Global, request: Request, now: u64) -> Result<Draft, NoMemor
     };
     let mut draft = Draft::new(alloc);
     draft.note(LocalChange::Ask { dialog })?;
-    draft.send(alloc, to, &Frame::WillTopicReq)?;
+    draft.send(alloc, to, Frame::WillTopicReq)?;
     Ok(draft)
 }
 
@@ -129,7 +129,7 @@ fn connect_row(
 {
     match refusal {
         Some(code) => {
-            let draft = Draft::reply(alloc, request.address, &Frame::ConnAck { code })?;
+            let draft = Draft::reply(alloc, request.address, Frame::ConnAck { code })?;
             Row::new(alloc, Follow::Nothing, &request.client, draft)
         }
         None => welcomed(alloc, request, will, view, now),
@@ -156,8 +156,9 @@ pub fn connect<R: Replica>(
     let request = request_of(alloc, from, flags, duration, client)?;
     let unseen = unseen(alloc);
     let view = view_or(replica, client, &unseen);
-    let row = connect_row(alloc, request, has_will(flags), view, now, refusal)?;
-    heard_row(alloc, dialogs.client_at(from), now, row)
+    let row = connect_row(alloc, request, has_will(flags), view, now, refusal);
+    drop(unseen);
+    heard_row(alloc, dialogs.client_at(from), now, row?)
 }
 
 /// The client says good-bye: its session stays as it is.
@@ -172,7 +173,7 @@ fn leave(alloc: Global, to: Addr, client: &ClientId, session: &Session) -> Resul
     draft.note(LocalChange::Unbind {
         client: client.copied(alloc)?,
     })?;
-    draft.send(alloc, to, &Frame::Disconnect { duration: None })?;
+    draft.send(alloc, to, Frame::Disconnect { duration: None })?;
     Ok(draft)
 }
 
@@ -185,7 +186,7 @@ fn fall_asleep(alloc: Global, to: Addr, duration: u16) -> Result<Draft, NoMemory
         presence: Presence::Asleep,
         duration,
     })?;
-    draft.send(alloc, to, &Frame::Disconnect { duration: None })?;
+    draft.send(alloc, to, Frame::Disconnect { duration: None })?;
     Ok(draft)
 }
 
@@ -220,8 +221,9 @@ fn disconnect_bound<R: Replica>(
 {
     let empty = Session::empty(alloc);
     let session = session_or(replica, client, &empty);
-    let draft = disconnect_draft(alloc, from, client, session, duration)?;
-    let row = Row::new(alloc, Follow::Nothing, client, draft)?;
+    let draft = disconnect_draft(alloc, from, client, session, duration);
+    drop(empty);
+    let row = Row::new(alloc, Follow::Nothing, client, draft?)?;
     heard_row(alloc, Some(client), now, row)
 }
 

@@ -45,7 +45,7 @@ fn accept_topic(alloc: Global, to: Addr, topic: Option<WillTopic>) -> Result<Dra
 {
     let mut draft = Draft::new(alloc);
     draft.change(SessionOp::WillTopic(topic))?;
-    draft.send(alloc, to, &Frame::WillTopicResp { code: ACCEPTED })?;
+    draft.send(alloc, to, Frame::WillTopicResp { code: ACCEPTED })?;
     Ok(draft)
 }
 
@@ -57,7 +57,7 @@ fn set_topic(alloc: Global, to: Addr, topic: Option<WillTopic>) -> Result<Draft,
         None => Draft::reply(
             alloc,
             to,
-            &Frame::WillTopicResp {
+            Frame::WillTopicResp {
                 code: NOT_SUPPORTED,
             },
         ),
@@ -96,7 +96,7 @@ fn accept_message(alloc: Global, to: Addr, message: Message) -> Result<Draft, No
 {
     let mut draft = Draft::new(alloc);
     draft.change(SessionOp::WillMsg(message))?;
-    draft.send(alloc, to, &Frame::WillMsgResp { code: ACCEPTED })?;
+    draft.send(alloc, to, Frame::WillMsgResp { code: ACCEPTED })?;
     Ok(draft)
 }
 
@@ -115,7 +115,7 @@ pub fn will_msg_update(
         None => Draft::reply(
             alloc,
             to,
-            &Frame::WillMsgResp {
+            Frame::WillMsgResp {
                 code: NOT_SUPPORTED,
             },
         ),

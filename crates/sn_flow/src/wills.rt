@@ -30,7 +30,7 @@ fn dismiss(alloc: Global, request: &Request, code: u8) -> Result<Row, NoMemory>
     let to = request.address;
     let mut draft = Draft::new(alloc);
     draft.note(LocalChange::EndDialog { address: to })?;
-    draft.send(alloc, to, &Frame::ConnAck { code })?;
+    draft.send(alloc, to, Frame::ConnAck { code })?;
     Row::new(alloc, Follow::Nothing, &request.client, draft)
 }
 
@@ -50,8 +50,9 @@ fn concluded<R: Replica>(
     }
     let unseen = unseen(alloc);
     let view = view_or(replica, &request.client, &unseen);
-    let draft = accept(alloc, request, given, view, now)?;
-    Row::new(alloc, Follow::Resend, &request.client, draft)
+    let draft = accept(alloc, request, given, view, now);
+    drop(unseen);
+    Row::new(alloc, Follow::Resend, &request.client, draft?)
 }
 
 /// Asks the client for the message of its will.
@@ -66,7 +67,7 @@ fn ask_message(alloc: Global, dialog: &WillDialog, topic: WillTopic) -> Result<R
     };
     let mut draft = Draft::new(alloc);
     draft.note(LocalChange::Ask { dialog: goes_on })?;
-    draft.send(alloc, to, &Frame::WillMsgReq)?;
+    draft.send(alloc, to, Frame::WillMsgReq)?;
     Row::new(alloc, Follow::Nothing, &dialog.request.client, draft)
 }
 
@@ -267,8 +268,9 @@ fn update_message<R: Replica>(
 {
     let empty = Session::empty(alloc);
     let session = session_or(replica, client, &empty);
-    let draft = draft_message(alloc, from, session, message)?;
-    let row = Row::new(alloc, Follow::Delivery, client, draft)?;
+    let draft = draft_message(alloc, from, session, message);
+    drop(empty);
+    let row = Row::new(alloc, Follow::Delivery, client, draft?)?;
     heard_row(alloc, Some(client), now, row)
 }
 

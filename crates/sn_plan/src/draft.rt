@@ -72,10 +72,10 @@ impl Draft {
     }
 
     /// A step that sends this frame and does nothing else.
-    pub fn reply(alloc: Global, to: Addr, frame: &Frame) -> Result<Draft, NoMemory>
-        requires message { IsMessage frame.now }
-        requires size { total_of frame.now ≤ MAX_FRAME }
-        ensures { IfOk result (λ draft. draft ≡ sent to frame.now nothing) }
+    pub fn reply(alloc: Global, to: Addr, frame: Frame) -> Result<Draft, NoMemory>
+        requires message { IsMessage frame }
+        requires size { total_of frame ≤ MAX_FRAME }
+        ensures { IfOk result (λ draft. draft ≡ sent to frame nothing) }
     {
         let mut draft = Draft::new(alloc);
         draft.send(alloc, to, frame)?;
@@ -152,12 +152,14 @@ impl Draft {
     }
 
     /// And then this frame.
-    pub fn send(&mut self, alloc: Global, to: Addr, frame: &Frame) -> Result<(), NoMemory>
-        requires message { IsMessage frame.now }
-        requires size { total_of frame.now ≤ MAX_FRAME }
-        ensures { OnOk result (self.new ≡ sent to frame.now self.old) }
+    pub fn send(&mut self, alloc: Global, to: Addr, frame: Frame) -> Result<(), NoMemory>
+        requires message { IsMessage frame }
+        requires size { total_of frame ≤ MAX_FRAME }
+        ensures { OnOk result (self.new ≡ sent to frame self.old) }
     {
-        let bytes = Octets::new(written(alloc, frame)?)?;
+        let bytes = written(alloc, &frame);
+        drop(frame);
+        let bytes = Octets::new(bytes?)?;
         self.sends.push(Send { to, bytes })?;
         Ok(())
     }

@@ -17,6 +17,7 @@ use sn_session::{Session, SessionOp};
 use sn_tables::SessionFault;
 use std::alloc::{AllocError, Global};
 use std::marker::Model;
+use std::mem;
 
 /// Where the client's next session operation is written, and what is written.
 #[derive(Drop)]
@@ -134,9 +135,19 @@ impl Writer {
         requires { self.old.counter < MAX_OPERATIONS }
         ensures { Becomes result self.new (Some (another client.now gateway change self.old)) }
     {
-        apply(&mut self.session, alloc, &change)?;
+        if apply(&mut self.session, alloc, &change).is_err() {
+            drop(change);
+            return Err(StepFault::Memory);
+        }
+        let client = match client.copied(alloc) {
+            Ok(client) => client,
+            Err(_) => {
+                drop(change);
+                return Err(StepFault::Memory);
+            }
+        };
         let op = Op::Session {
-            client: client.copied(alloc)?,
+            client,
             stamp: Stamp {
                 epoch: self.epoch,
                 gateway,
@@ -160,11 +171,26 @@ impl Writer {
         ensures { Becomes result self.new (taken client.now gateway session self.old) }
     {
         let Some(epoch) = self.next else {
+            drop(session);
             return Err(StepFault::Exhausted);
         };
-        self.session = session.copied(alloc)?;
+        let client = match client.copied(alloc) {
+            Ok(client) => client,
+            Err(_) => {
+                drop(session);
+                return Err(StepFault::Memory);
+            }
+        };
+        let copied = match session.copied(alloc) {
+            Ok(copied) => copied,
+            Err(_) => {
+                drop(session);
+                return Err(StepFault::Memory);
+            }
+        };
+        drop(mem::replace(&mut self.session, copied));
         let op = Op::Session {
-            client: client.copied(alloc)?,
+            client,
             stamp: Stamp { epoch, gateway },
             counter: 0,
             change: SessionOp::Take(session),
@@ -188,10 +214,20 @@ impl Writer {
         ensures { Becomes result self.new (counted client.now gateway change self.old) }
     {
         if self.counter >= MAX_OPERATIONS {
-            let session = self.session.copied(alloc)?;
-            self.take(alloc, gateway, client, session)?;
+            if let Err(fault) = self.take_again(alloc, gateway, client) {
+                drop(change);
+                return Err(fault);
+            }
         }
         self.another(alloc, gateway, client, change)
+    }
+
+    /// A Take of the session so far, under the next epoch.
+    fn take_again(&mut self, alloc: Global, gateway: u8, client: &ClientId) -> Result<(), StepFault>
+        ensures { Becomes result self.new (taken client.now gateway self.old.session self.old) }
+    {
+        let session = self.session.copied(alloc)?;
+        self.take(alloc, gateway, client, session)
     }
 
     /// One session operation more.

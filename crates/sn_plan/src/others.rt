@@ -23,7 +23,7 @@ fn searched(alloc: Global, config: &Config, to: Addr) -> Result<Row, NoMemory>
         gateway: config.gateway,
         address,
     };
-    let draft = Draft::reply(alloc, to, &answer)?;
+    let draft = Draft::reply(alloc, to, answer)?;
     Ok(Row::of_none(draft))
 }
 

@@ -88,9 +88,19 @@ pub fn plan_of<R: Replica>(
     if draft.changes_nothing() {
         return rest_of(alloc, gateway, replica, client, Vec::new(alloc), draft);
     }
-    let mut writer = writer_of(alloc, gateway, replica, client)?;
+    let mut writer = match writer_of(alloc, gateway, replica, client) {
+        Ok(writer) => writer,
+        Err(_) => {
+            drop(draft);
+            return Err(StepFault::Memory);
+        }
+    };
     let changes = draft.take_changes(alloc);
-    writer.write_all(alloc, gateway, client, changes)?;
+    if let Err(fault) = writer.write_all(alloc, gateway, client, changes) {
+        drop(writer);
+        drop(draft);
+        return Err(fault);
+    }
     rest_of(alloc, gateway, replica, client, writer.into_ops(), draft)
 }
 

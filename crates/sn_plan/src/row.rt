@@ -116,7 +116,7 @@ pub fn quiet(alloc: Global) -> Row
 pub fn turn_away(alloc: Global, to: Addr) -> Result<Row, NoMemory>
     ensures { IfOk result (λ row. row ≡ turned_away to) }
 {
-    let draft = Draft::reply(alloc, to, &Frame::Disconnect { duration: None })?;
+    let draft = Draft::reply(alloc, to, Frame::Disconnect { duration: None })?;
     Ok(Row::of_none(draft))
 }
 

@@ -59,14 +59,14 @@ fn puback(alloc: Global, to: Addr, topic_id: u16, msg_id: u16, code: u8) -> Resu
         msg_id,
         code,
     };
-    Draft::reply(alloc, to, &answer)
+    Draft::reply(alloc, to, answer)
 }
 
 /// And then a PUBREC.
 fn pubrec(alloc: Global, to: Addr, msg_id: u16, draft: &mut Draft) -> Result<(), NoMemory>
     ensures { OnOk result (draft.new ≡ sent to (PubRec msg_id) draft.old) }
 {
-    match draft.send(alloc, to, &Frame::PubRec { msg_id }) {
+    match draft.send(alloc, to, Frame::PubRec { msg_id }) {
         Ok(()) => Ok(()),
         Err(_) => Err(NoMemory),
     }
@@ -91,7 +91,7 @@ fn spread_once<R: Replica>(
         msg_id,
         code: 0,
     };
-    match draft.send(alloc, to, &answer) {
+    match draft.send(alloc, to, answer) {
         Ok(()) => Ok(draft),
         Err(_) => Err(NoMemory),
     }
@@ -113,7 +113,7 @@ fn spread_twice<R: Replica>(
         session.now topic_id msg_id body.now name.now) }
 {
     if session.is_received(msg_id) {
-        return Draft::reply(alloc, to, &Frame::PubRec { msg_id });
+        return Draft::reply(alloc, to, Frame::PubRec { msg_id });
     }
     if session.received.has_no_room(msg_id) {
         return puback(alloc, to, topic_id, msg_id, 1);
@@ -237,8 +237,9 @@ pub fn publish_unconnected<R: Replica>(
         (seen_of (R.kept replica.now)) flags.bits topic body.now) }
 {
     let session = Session::empty(alloc);
-    let meant = topic_meant(alloc, predefined, &session, flags.kind(), topic)?;
-    spread_meant(alloc, replica, body, meant)
+    let meant = topic_meant(alloc, predefined, &session, flags.kind(), topic);
+    drop(session);
+    spread_meant(alloc, replica, body, meant?)
 }
 
 /// The change of the session, where the message id was received.
@@ -258,7 +259,7 @@ pub fn pubrel(alloc: Global, to: Addr, session: &Session, msg_id: u16) -> Result
 {
     let mut draft = Draft::new(alloc);
     draft.change_if(release(session, msg_id))?;
-    match draft.send(alloc, to, &Frame::PubComp { msg_id }) {
+    match draft.send(alloc, to, Frame::PubComp { msg_id }) {
         Ok(()) => Ok(draft),
         Err(_) => Err(NoMemory),
     }

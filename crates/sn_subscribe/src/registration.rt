@@ -88,7 +88,7 @@ fn registered(
                 msg_id,
                 code: ACCEPTED,
             };
-            draft.send(alloc, to, &answer)?;
+            draft.send(alloc, to, answer)?;
             Ok(draft)
         }
     }
@@ -103,7 +103,7 @@ fn refuse(alloc: Global, to: Addr, msg_id: u16, code: u8) -> Result<Draft, NoMem
         msg_id,
         code,
     };
-    Draft::reply(alloc, to, &answer)
+    Draft::reply(alloc, to, answer)
 }
 
 /// REGISTER: the client names a topic and asks for its id, which it knows from then on. REGACK has

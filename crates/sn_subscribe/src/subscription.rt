@@ -39,7 +39,7 @@ fn suback(flags: Flags, topic_id: u16, msg_id: u16, code: u8) -> Frame
 fn refuse(alloc: Global, to: Addr, flags: Flags, msg_id: u16, code: u8) -> Result<Draft, NoMemory>
     ensures { IfOk result (λ draft. draft ≡ refused to flags.bits msg_id code) }
 {
-    Draft::reply(alloc, to, &suback(flags, 0, msg_id, code))
+    Draft::reply(alloc, to, suback(flags, 0, msg_id, code))
 }
 
 /// An id for which the session needs no change.
@@ -114,7 +114,7 @@ fn subscribed(
             let mut draft = Draft::new(alloc);
             draft.change_if(named.change)?;
             draft.change_if(subscribe_change(filter, qos, before))?;
-            draft.send(alloc, to, &suback(flags, named.id, msg_id, ACCEPTED))?;
+            draft.send(alloc, to, suback(flags, named.id, msg_id, ACCEPTED))?;
             Ok(draft)
         }
     }
@@ -223,6 +223,6 @@ pub fn unsubscribe(
     let asked = topics_asked(alloc, predefined, flags.kind(), field)?;
     let mut draft = Draft::new(alloc);
     draft.change_if(unsubscribe_asked(session, asked))?;
-    draft.send(alloc, to, &Frame::UnsubAck { msg_id })?;
+    draft.send(alloc, to, Frame::UnsubAck { msg_id })?;
     Ok(draft)
 }

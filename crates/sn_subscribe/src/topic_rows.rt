@@ -31,8 +31,9 @@ fn register_bound<R: Replica>(
 {
     let empty = Session::empty(alloc);
     let session = session_or(replica, client, &empty);
-    let draft = draft_register(alloc, from, session, msg_id, name)?;
-    let row = Row::new(alloc, Follow::Delivery, client, draft)?;
+    let draft = draft_register(alloc, from, session, msg_id, name);
+    drop(empty);
+    let row = Row::new(alloc, Follow::Delivery, client, draft?)?;
     heard_row(alloc, Some(client), now, row)
 }
 
@@ -80,8 +81,9 @@ fn subscribe_bound<R: Replica>(
         flags,
         msg_id,
         topic,
-    )?;
-    let row = Row::new(alloc, Follow::Delivery, client, draft)?;
+    );
+    drop(empty);
+    let row = Row::new(alloc, Follow::Delivery, client, draft?)?;
     heard_row(alloc, Some(client), now, row)
 }
 
@@ -133,8 +135,9 @@ fn unsubscribe_bound<R: Replica>(
         flags,
         msg_id,
         topic,
-    )?;
-    let row = Row::new(alloc, Follow::Delivery, client, draft)?;
+    );
+    drop(empty);
+    let row = Row::new(alloc, Follow::Delivery, client, draft?)?;
     heard_row(alloc, Some(client), now, row)
 }
 

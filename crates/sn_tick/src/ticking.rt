@@ -170,7 +170,7 @@ fn advertise_to(
         gateway,
         duration: advertise,
     };
-    match draft.send(alloc, to, &frame) {
+    match draft.send(alloc, to, frame) {
         Ok(()) => Ok(()),
         Err(_) => Err(NoMemory),
     }
@@ -263,7 +263,9 @@ fn plan_loss<R: Replica>(
 {
     let empty = Session::empty(alloc);
     let session = session_or(replica, client, &empty);
-    lose(alloc, replica, client, session, &mut draft)?;
+    let lost = lose(alloc, replica, client, session, &mut draft);
+    drop(empty);
+    lost?;
     plan_of(alloc, config.gateway, replica, client, draft)
 }
 

@@ -92,10 +92,14 @@ impl Admission {
         match decode(alloc, datagram) {
             Err(FrameFault::Memory) => Verdict::Comes,
             Err(_) => Verdict::Dropped,
-            Ok(frame) => match self.refusal(alloc, second, &frame) {
-                None => Verdict::Comes,
-                Some(code) => Verdict::TurnedAway(code),
-            },
+            Ok(frame) => {
+                let refusal = self.refusal(alloc, second, &frame);
+                drop(frame);
+                match refusal {
+                    None => Verdict::Comes,
+                    Some(code) => Verdict::TurnedAway(code),
+                }
+            }
         }
     }
 

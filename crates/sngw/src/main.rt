@@ -82,15 +82,38 @@ where
     let Some(asked) = asked_of(rt, alloc) else {
         return Err(Stop::Arguments);
     };
-    let settings = settings_at(rt, alloc, asked.config.as_str(), err)?;
-    let disk = disk_at(rt, alloc, &settings, err)?;
-    let Ok(node) = begin::<Folded, FileDisk, O, E>(alloc, &settings, disk, out, err) else {
+    let settings = settings_at(rt, alloc, asked.config.as_str(), err);
+    let shifts = asked.shifts;
+    drop(asked);
+    let settings = settings?;
+    let done = start_by(rt, alloc, &settings, shifts, out, err);
+    drop(settings);
+    done
+}
+
+/// Opens a gateway by its settings, and works so many shifts.
+fn start_by<T, O: Write, E: Write>(
+    rt: &T,
+    alloc: Global,
+    settings: &Settings,
+    shifts: u64,
+    out: &mut O,
+    err: &mut E,
+) -> Result<(), Stop>
+where
+    T: Files<File = File> + Print + Eprint + Threads + Wait + Sync + Clock,
+    T: Net<Listener = TcpListener, Stream = TcpStream>,
+{
+    let disk = disk_at(rt, alloc, settings, err)?;
+    let opened = begin::<Folded, FileDisk, O, E>(alloc, settings, disk, out, err).ok();
+    let Some(node) = opened else {
         return Err(Stop::Opening);
     };
-    if asked.shifts == 0 {
+    if shifts == 0 {
+        drop(node);
         return Ok(());
     }
-    run(rt, alloc, &settings, node, asked.shifts)
+    run(rt, alloc, settings, node, shifts)
 }
 
 /// What the command line asks for.

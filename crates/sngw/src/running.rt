@@ -20,9 +20,9 @@ use std::fs::{File, Files};
 use std::io::{Eprint, ErrorKind, Print};
 use std::net::{Net, TcpListener, TcpStream};
 use std::sync::{Mutex, Wait};
-use std::thread;
 use std::thread::Threads;
 use std::time::{Clock, Duration};
+use std::{mem, thread};
 
 /// Works so many shifts. The sockets are open from before the first to after the last.
 pub(crate) fn run<T, R, D>(
@@ -39,10 +39,70 @@ where
     R::Staged: Send,
     D: Disk + Drop + Send,
 {
-    let socket = match Socket::bind(rt, alloc, settings.listen) {
-        Ok(socket) => socket,
-        Err(error) => return Err(no_socket(rt, "listen", error.kind())),
+    let mut opened = open_all(rt, alloc, settings)?;
+    let place = Mutex::new(Some(node));
+    let over = Stage::new(0, 0);
+    let worked = run_beside(
+        rt,
+        alloc,
+        settings,
+        &place,
+        &mut opened.inlet,
+        shifts,
+        opened.doors.as_mut_slice(),
+        &opened.listener,
+        &opened.pool,
+        &over,
+    );
+    drop(place);
+    drop(opened);
+    worked
+}
+
+/// What a gateway is reached by: open from before its first shift to after its last.
+#[derive(Drop)]
+struct Opened {
+    inlet: Inlet,
+    listener: TcpListener,
+    pool: Pool<TcpStream>,
+    doors: Vec<Door>,
+}
+
+/// Opens all that a gateway is reached by.
+fn open_all<T>(rt: &T, alloc: Global, settings: &Settings) -> Result<Opened, Stop>
+where
+    T: Eprint + Net<Listener = TcpListener, Stream = TcpStream>,
+{
+    let socket = socket_of(rt, alloc, settings)?;
+    let listener = listener_of(rt, settings)?;
+    let Some(pool) = Pool::new(alloc, settings.peers.len(), settings.numbers.as_slice()) else {
+        return Err(Stop::Memory);
     };
+    let Some(doors) = doors_of(alloc, settings) else {
+        return Err(Stop::Memory);
+    };
+    let inlet = inlet_of(alloc, settings, socket)?;
+    Ok(Opened {
+        inlet,
+        listener,
+        pool,
+        doors,
+    })
+}
+
+/// The socket of datagrams.
+fn socket_of<T: Eprint + Net>(rt: &T, alloc: Global, settings: &Settings) -> Result<Socket, Stop> {
+    match Socket::bind(rt, alloc, settings.listen) {
+        Ok(socket) => Ok(socket),
+        Err(error) => Err(no_socket(rt, "listen", error.kind())),
+    }
+}
+
+/// The listener of links.
+fn listener_of<T>(rt: &T, settings: &Settings) -> Result<TcpListener, Stop>
+where
+    T: Eprint + Net<Listener = TcpListener, Stream = TcpStream>,
+{
     let listener = match TcpListener::bind(rt, address(settings.link)) {
         Ok(listener) => listener,
         Err(error) => return Err(no_socket(rt, "link", error.kind())),
@@ -50,27 +110,7 @@ where
     if listener.set_nonblocking(true).is_err() {
         return Err(Stop::Socket);
     }
-    let Some(pool) = Pool::new(alloc, settings.peers.len(), settings.numbers.as_slice()) else {
-        return Err(Stop::Memory);
-    };
-    let Some(mut doors) = doors_of(alloc, settings) else {
-        return Err(Stop::Memory);
-    };
-    let mut inlet = inlet_of(alloc, settings, socket)?;
-    let place = Mutex::new(Some(node));
-    let over = Stage::new(0, 0);
-    run_beside(
-        rt,
-        alloc,
-        settings,
-        &place,
-        &mut inlet,
-        shifts,
-        doors.as_mut_slice(),
-        &listener,
-        &pool,
-        &over,
-    )
+    Ok(listener)
 }
 
 /// Where datagrams come from, and go to.
@@ -176,17 +216,55 @@ where
             return Ok(());
         };
         know_clients(alloc, settings, &node, inlet, pool.clock.second());
-        let worked = work(rt, alloc, settings, node, inlet, pool, number)?;
-        if let Some(other) = pool.relay.found_by(rt) {
-            return Err(used(rt, settings.gateway, other));
-        }
-        let steps = worked.steps;
-        begin_anew(rt, alloc, &worked.node, pool, worked.tended);
-        let _ = println!(rt; "shift {} steps {}", number + 1, steps);
-        let node = go_on(rt, alloc, worked, inlet, pool, &mut keeper)?;
-        *place.lock(rt) = Some(node);
+        let mut worked = work(rt, alloc, settings, node, inlet, pool, number)?;
+        let gone = end_shift(
+            rt,
+            alloc,
+            settings,
+            &mut worked,
+            inlet,
+            pool,
+            number + 1,
+            &mut keeper,
+        );
+        put_back(rt, place, worked.node);
+        gone?;
     }
     Ok(())
+}
+
+/// Tells of the shift of this number, from 1 on, which is over, and tends the gateway.
+fn end_shift<T, R, D>(
+    rt: &T,
+    alloc: Global,
+    settings: &Settings,
+    worked: &mut Worked<R, D>,
+    inlet: &mut Inlet,
+    pool: &Pool<TcpStream>,
+    number: u64,
+    keeper: &mut Keeper<'_>,
+) -> Result<(), Stop>
+where
+    T: Wait + Clock + Print + Eprint + Files<File = File>,
+    R: Replica,
+    D: Disk + Drop,
+{
+    if let Some(other) = pool.relay.found_by(rt) {
+        return Err(used(rt, settings.gateway, other));
+    }
+    let steps = worked.steps;
+    begin_anew(rt, alloc, &worked.node, pool, worked.tended);
+    let _ = println!(rt; "shift {} steps {}", number, steps);
+    go_on(rt, alloc, worked, inlet, pool, keeper)
+}
+
+/// Puts a gateway into its place.
+fn put_back<T: Wait, R: Replica, D: Disk + Drop>(
+    rt: &T,
+    place: &Mutex<Option<Node<R, D>>>,
+    node: Node<R, D>,
+) {
+    drop(mem::replace(&mut *place.lock(rt), Some(node)));
 }
 
 /// Tends a gateway after its shift, if it was halted, or its journal has grown. If its writes fail
@@ -194,30 +272,23 @@ where
 fn go_on<T, R, D>(
     rt: &T,
     alloc: Global,
-    worked: Worked<R, D>,
+    worked: &mut Worked<R, D>,
     inlet: &mut Inlet,
     pool: &Pool<TcpStream>,
     keeper: &mut Keeper<'_>,
-) -> Result<Node<R, D>, Stop>
+) -> Result<(), Stop>
 where
     T: Wait + Clock + Print + Files<File = File>,
     R: Replica,
     D: Disk + Drop,
 {
-    let Worked {
-        mut node,
-        steps: _,
-        tended,
-        has_written,
-        has_recorded,
-    } = worked;
-    let has_failed = tended == Tended::Reopened || node.is_halted();
-    if has_failed || (has_written && keeper.is_grown(rt, alloc)) {
-        tend_behind(rt, alloc, &mut node, pool, keeper)?;
+    let has_failed = worked.tended == Tended::Reopened || worked.node.is_halted();
+    if has_failed || (worked.has_written && keeper.is_grown(rt, alloc)) {
+        tend_behind(rt, alloc, &mut worked.node, pool, keeper)?;
     }
-    let silence = keeper.silence_after(has_recorded, has_failed);
+    let silence = keeper.silence_after(worked.has_recorded, has_failed);
     be_silent(rt, inlet, &pool.clock, silence);
-    Ok(node)
+    Ok(())
 }
 
 /// From now on the clients that the gateway knows are no newcomers. If memory runs out, some of
@@ -272,19 +343,36 @@ where
     let Some(mut node) = place.lock(rt).take() else {
         return Ok(());
     };
+    let written = write_anew(rt, alloc, &mut node, inlet, pool, keeper);
+    put_back(rt, place, node);
+    written
+}
+
+/// Tries to write what was read until it is written.
+fn write_anew<T, R, D>(
+    rt: &T,
+    alloc: Global,
+    node: &mut Node<R, D>,
+    inlet: &mut Inlet,
+    pool: &Pool<TcpStream>,
+    keeper: &mut Keeper<'_>,
+) -> Result<(), Stop>
+where
+    T: Wait + Clock + Print + Files<File = File>,
+    R: Replica,
+    D: Disk + Drop,
+{
     if node.records() == 0 {
-        *place.lock(rt) = Some(node);
         return Ok(());
     }
     for _ in rt.forever() {
-        let tended = tend_behind(rt, alloc, &mut node, pool, keeper)?;
+        let tended = tend_behind(rt, alloc, node, pool, keeper)?;
         if is_written(tended) {
             keeper.note_written();
-            *place.lock(rt) = Some(node);
             return Ok(());
         }
         if tended == Tended::Starved {
-            tell(rt, alloc, &node);
+            tell(rt, alloc, node);
         }
         let silence = keeper.wait_longer();
         be_silent(rt, inlet, &pool.clock, silence);

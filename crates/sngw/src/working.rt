@@ -20,9 +20,9 @@ use rep_model::Replica;
 use std::alloc::Global;
 use std::net::TcpStream;
 use std::sync::Wait;
-use std::thread;
 use std::thread::Threads;
 use std::time::Clock;
+use std::{mem, thread};
 
 /// The passes of a shift, by what they are for.
 #[derive(Drop)]
@@ -33,6 +33,15 @@ struct Crew {
     ticking: Vec<Option<Seat>>,
     /// For links.
     linking: Vec<Option<Seat>>,
+}
+
+/// What a crew has made.
+#[derive(Drop)]
+struct Made {
+    /// The passes that made calls.
+    passes: Vec<Pass>,
+    /// Whether one of the calls opened the gateway anew.
+    tended: Tended,
 }
 
 /// A shift that was closed.
@@ -72,21 +81,48 @@ where
     let links = settings.peers.len().saturating_add(MOST_ACCEPTED);
     let steps = steps_of(settings);
     let count = workers.saturating_add(1).saturating_add(links);
-    let Ok((shift, passes)) = Shift::open(alloc, node, count, steps) else {
+    let opened = Shift::open(alloc, node, count, steps).ok();
+    let Some((shift, passes)) = opened else {
         return Err(Stop::Memory);
     };
-    let Some(mut crew) = crew_of(alloc, passes, workers) else {
-        return Err(Stop::Memory);
+    let made = match crew_of(alloc, passes, workers) {
+        Some(mut crew) => {
+            let made = work_by(rt, alloc, settings, &shift, &mut crew, inlet, pool, number);
+            drop(crew);
+            made
+        }
+        None => Err(Stop::Memory),
     };
+    close(shift, made)
+}
+
+/// A crew works a shift, and gives the passes that made its calls.
+fn work_by<T, R, D>(
+    rt: &T,
+    alloc: Global,
+    settings: &Settings,
+    shift: &Shift<R, D>,
+    crew: &mut Crew,
+    inlet: &mut Inlet,
+    pool: &Pool<TcpStream>,
+    number: u64,
+) -> Result<Made, Stop>
+where
+    T: Threads + Wait + Sync + Clock,
+    R: Replica + Send,
+    R::Staged: Send,
+    D: Disk + Drop + Send,
+{
+    let steps = steps_of(settings);
     let is_claimed = !pool.listening.is_on()
         && (steps > 1 || number % 2 == 0)
         && has_first(inlet, &pool.clock);
     let stage = Stage::new(steps, u64::from(is_claimed));
     pool.begin_shift(rt);
     work_all(
-        rt, alloc, settings, &shift, &mut crew, inlet, is_claimed, pool, &stage,
+        rt, alloc, settings, shift, crew, inlet, is_claimed, pool, &stage,
     )?;
-    close(alloc, shift, crew)
+    made_by(alloc, crew)
 }
 
 /// Whether a datagram came late, or is there already.
@@ -310,7 +346,7 @@ where
     W: Wire,
     P: Post + Sync,
 {
-    let given = std::mem::replace(passes, Vec::new(alloc));
+    let given = mem::replace(passes, Vec::new(alloc));
     if given.is_empty() {
         return Ok(());
     }
@@ -331,36 +367,47 @@ where
     }
 }
 
-/// Ends the shift, and compares its history with what its threads hold. Passes that made no call
-/// are left out: nothing of the history is theirs, and to compare what each of them holds of the
-/// opening would take as long as for the others.
-fn close<R, D>(alloc: Global, shift: Shift<R, D>, crew: Crew) -> Result<Worked<R, D>, Stop>
+/// What a crew has made. Passes that made no call are left out: nothing of the history is theirs,
+/// and to compare what each of them holds of the opening would take as long as for the others.
+fn made_by(alloc: Global, crew: &mut Crew) -> Result<Made, Stop> {
+    let tended = tended_in(crew.ticking.as_slice());
+    let mut passes = Vec::new(alloc);
+    for pass in mem::replace(&mut crew.serving, Vec::new(alloc)) {
+        keep(&mut passes, pass)?;
+    }
+    gather(&mut passes, crew.ticking.as_mut_slice())?;
+    gather(&mut passes, crew.linking.as_mut_slice())?;
+    Ok(Made { passes, tended })
+}
+
+/// Ends the shift, and compares its history with what its threads hold.
+fn close<R, D>(shift: Shift<R, D>, made: Result<Made, Stop>) -> Result<Worked<R, D>, Stop>
 where
     R: Replica,
     D: Disk + Drop,
 {
-    let tended = tended_in(crew.ticking.as_slice());
-    let mut passes = Vec::new(alloc);
-    for pass in crew.serving {
-        keep(&mut passes, pass)?;
-    }
-    gather(&mut passes, crew.ticking)?;
-    gather(&mut passes, crew.linking)?;
-    match shift.end().close(passes) {
-        Ok(Closed { node, history }) => {
-            let steps = history.len();
-            let has_written = has_written(history.as_slice());
-            let has_recorded = has_recorded(history.as_slice());
-            Ok(Worked {
-                node,
-                steps,
-                tended,
-                has_written,
-                has_recorded,
-            })
+    let Made { passes, tended } = match made {
+        Ok(made) => made,
+        Err(stop) => {
+            drop(shift);
+            return Err(stop);
         }
-        Err(_) => Err(Stop::History),
-    }
+    };
+    let closed = shift.end().close(passes).ok();
+    let Some(Closed { node, history }) = closed else {
+        return Err(Stop::History);
+    };
+    let steps = history.len();
+    let has_written = has_written(history.as_slice());
+    let has_recorded = has_recorded(history.as_slice());
+    drop(history);
+    Ok(Worked {
+        node,
+        steps,
+        tended,
+        has_written,
+        has_recorded,
+    })
 }
 
 /// Whether one of the calls put something into the journal.
@@ -402,9 +449,9 @@ fn tended_in(ticking: &[Option<Seat>]) -> Tended {
 /// Takes the passes from their seats, unless one was left for a cause that ends the program. That
 /// the gateway is halted, and refused to be opened anew, is none: that is tried once more after
 /// the shift.
-fn gather(passes: &mut Vec<Pass>, seats: Vec<Option<Seat>>) -> Result<(), Stop> {
+fn gather(passes: &mut Vec<Pass>, seats: &mut [Option<Seat>]) -> Result<(), Stop> {
     for slot in seats {
-        if let Some(seat) = slot {
+        if let Some(seat) = slot.take() {
             match seat.end {
                 None
                 | Some(End::Full)

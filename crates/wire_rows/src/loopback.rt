@@ -45,6 +45,14 @@ struct Asker {
     is_over: AtomicBool,
 }
 
+/// The socket of the gateway, somebody who asks it, and room for what it answers.
+#[derive(Drop)]
+struct Ends {
+    socket: Socket,
+    asker: Asker,
+    room: Vec<u8>,
+}
+
 /// The octets that an answer has at most.
 const ROOM: usize = 64;
 
@@ -57,9 +65,11 @@ pub(crate) fn over_sockets<T: Threads + Wait + Sync + Clock + Net>(
     passes: Vec<Pass>,
     questions: &Questions<'_>,
 ) -> Result<Outcome, Stop> {
-    let mut socket = Socket::bind(rt, alloc, HOME)?;
-    let asker = asker_of(rt, socket.local)?;
-    let room = Vec::from_elem(alloc, 0u8, ROOM)?;
+    let Ends {
+        mut socket,
+        asker,
+        room,
+    } = ends_of(rt, alloc)?;
     let (answer, outcome) = asked(
         rt,
         alloc,
@@ -70,6 +80,8 @@ pub(crate) fn over_sockets<T: Threads + Wait + Sync + Clock + Net>(
         questions,
         room,
     );
+    drop(asker);
+    drop(socket);
     print_answer(alloc, text, answer)?;
     if outcome.cause.is_none() && came(&outcome) < 2 {
         return Err(Stop::TooLate);
@@ -80,6 +92,18 @@ pub(crate) fn over_sockets<T: Threads + Wait + Sync + Clock + Net>(
 /// How many datagrams came.
 fn came(outcome: &Outcome) -> usize {
     outcome.taken.len().saturating_add(outcome.left.len())
+}
+
+/// The sockets, and room for an answer.
+fn ends_of<T: Net>(rt: &T, alloc: Global) -> Result<Ends, Stop> {
+    let socket = Socket::bind(rt, alloc, HOME)?;
+    let asker = asker_of(rt, socket.local)?;
+    let room = Vec::from_elem(alloc, 0u8, ROOM)?;
+    Ok(Ends {
+        socket,
+        asker,
+        room,
+    })
 }
 
 /// Somebody who asks the gateway at this address.

@@ -4,9 +4,9 @@ use crate::fields::{digits, host, number};
 use crate::options::begin_on;
 use crate::pipe::{Pipe, Place};
 use crate::printing::{print_answer, print_over, shown};
-use crate::serving::{Gateway, Shared, close, shift_of};
+use crate::serving::{Gateway, Over, Shared, close, shift_of};
 use crate::stop::Stop;
-use gw_link::{End, Link, Origin, Phase, call, talk};
+use gw_link::{End, Link, Origin, Phase, Stage, call, talk};
 use gw_node::{Answer, Step};
 use gw_run::{Pool, Seat, sit};
 use gw_shift::Pass;
@@ -15,11 +15,12 @@ use octets::{Octets, read_u32};
 use sn_local::Addr;
 use std::alloc::{AllocError, Global};
 use std::collections::VecDeque;
+use std::mem;
 use std::sync::{Arc, Wait};
 use std::time::Clock;
 
 /// Something that happens at one of the gateways.
-#[derive(Debug, Drop)]
+#[derive(Drop)]
 pub(crate) struct Deed {
     /// The number of the gateway, 1 to 3.
     gateway: u64,
@@ -27,7 +28,7 @@ pub(crate) struct Deed {
 }
 
 /// What happens.
-#[derive(Debug, Drop)]
+#[derive(Drop)]
 enum Act {
     /// A datagram of these octets comes, from port 1 of a host.
     Ask(u32, Vec<u8>),
@@ -118,19 +119,47 @@ pub(crate) fn meet<T: Wait + Clock>(
     let mut first = side_of(alloc, text, 1)?;
     let mut second = side_of(alloc, text, 2)?;
     let mut third = side_of(alloc, &mut aside, 3)?;
-    join(rt, alloc, &mut first, &mut second, &near, &far)?;
-    if deeds.iter().any(|deed| deed.gateway == 3) {
-        text.push_str(aside.as_str())?;
-        join(rt, alloc, &mut second, &mut third, &inner, &outer)?;
+    let mut played = join(rt, alloc, &mut first, &mut second, &near, &far);
+    if played.is_ok() && deeds.iter().any(|deed| deed.gateway == 3) {
+        played = join_aside(
+            rt,
+            alloc,
+            text,
+            aside.as_str(),
+            &mut second,
+            &mut third,
+            &inner,
+            &outer,
+        );
     }
-    let played = happen_all(rt, alloc, text, &mut first, &mut second, &mut third, deeds);
+    if played.is_ok() {
+        played = happen_all(rt, alloc, text, &mut first, &mut second, &mut third, deeds);
+    }
     let are_spared = are_spared(&mut first, &mut second, &mut third);
+    drop(first);
+    drop(second);
+    drop(third);
     let said_all = !near.is_short() && !far.is_short() && !inner.is_short() && !outer.is_short();
     if said_all && are_spared {
         played
     } else {
         Err(Stop::Memory)
     }
+}
+
+/// The third gateway has a link too, and what its opening printed counts.
+fn join_aside<'a, T: Wait>(
+    rt: &'a T,
+    alloc: Global,
+    text: &mut String,
+    aside: &str,
+    second: &mut Side<'a, T>,
+    third: &mut Side<'a, T>,
+    inner: &'a Place,
+    outer: &'a Place,
+) -> Result<(), Stop> {
+    text.push_str(aside)?;
+    join(rt, alloc, second, third, inner, outer)
 }
 
 /// All that happens, in its order.
@@ -176,29 +205,41 @@ fn is_spared<'a, T: Wait>(side: &mut Side<'a, T>) -> bool {
 
 /// Ends a shift: whether no memory was refused in the disk of its gateway.
 fn end_spared(opened: OpenShift) -> bool {
-    let OpenShift { shift, .. } = opened;
-    !shift.end().node.starved()
+    let OpenShift { shift, pass, seat } = opened;
+    drop(pass);
+    drop(seat);
+    let ended = shift.end();
+    let is_spared = !ended.node.starved();
+    drop(ended);
+    is_spared
 }
 
 /// A gateway of this number on an empty disk, without a link.
 fn side_of<'a, T: Wait>(alloc: Global, text: &mut String, number: u8) -> Result<Side<'a, T>, Stop> {
-    let mut toml = String::new(alloc);
-    writeln!(toml, "gateway = {number}")?;
-    toml.push_str("listen = \"127.0.0.1:1\"\nlink = \"127.0.0.1:2\"\njournal = \"j\"\n")?;
-    let begun = begin_on(alloc, text, toml.as_str(), MemoryDisk::new(alloc))?;
-    // Nothing else refuses on an empty disk in memory.
-    let Some(node) = begun else {
-        return Err(Stop::Memory);
-    };
+    let opened = open_shift(alloc, node_of(alloc, text, number)?)?;
     let Some(pool) = Pool::new(alloc, 1, &[]) else {
         return Err(Stop::Memory);
     };
     Ok(Side {
         number,
-        open: Some(open_shift(alloc, node)?),
+        open: Some(opened),
         pool,
         ties: VecDeque::new(alloc),
     })
+}
+
+/// A gateway of this number on an empty disk.
+fn node_of(alloc: Global, text: &mut String, number: u8) -> Result<Gateway, Stop> {
+    let mut toml = String::new(alloc);
+    writeln!(toml, "gateway = {number}")?;
+    toml.push_str("listen = \"127.0.0.1:1\"\nlink = \"127.0.0.1:2\"\njournal = \"j\"\n")?;
+    let begun = begin_on(alloc, text, toml.as_str(), MemoryDisk::new(alloc));
+    drop(toml);
+    match begun? {
+        Some(node) => Ok(node),
+        // Nothing else refuses on an empty disk in memory.
+        None => Err(Stop::Memory),
+    }
 }
 
 /// A link between two gateways, which the first one dialled.
@@ -267,19 +308,27 @@ fn happen<'a, T: Wait + Clock>(
 ) -> Result<(), Stop> {
     match act {
         Act::Ask(host, octets) => ask(rt, alloc, text, side, *host, octets.as_slice()),
-        Act::Come(octets) => come(rt, alloc, place_of(side)?, octets.as_slice()),
         Act::Talk => talk_all(rt, alloc, text, side, Phase::Serving),
         Act::Last => talk_all(rt, alloc, text, side, Phase::Quiet),
         Act::Sit => sit_down(rt, alloc, text, side),
         Act::Turn => turn(rt, alloc, text, side),
+        _ => happen_to(rt, alloc, place_of(side)?, act),
+    }
+}
+
+/// Something happens to the first link of a gateway, which has no part in it.
+fn happen_to<T: Wait>(rt: &T, alloc: Global, place: &Place, act: &Act) -> Result<(), Stop> {
+    match act {
+        Act::Come(octets) => come(rt, alloc, place, octets.as_slice()),
         Act::Idle(count) => {
-            place_of(side)?.set_idle(*count);
+            place.set_idle(*count);
             Ok(())
         }
         Act::Takes(count) => {
-            place_of(side)?.set_takes(*count);
+            place.set_takes(*count);
             Ok(())
         }
+        _ => Err(Stop::Line),
     }
 }
 
@@ -292,25 +341,30 @@ fn ask<'a, T: Wait>(
     host: u32,
     octets: &[u8],
 ) -> Result<(), Stop> {
+    let place = place_of(side)?;
+    let step = step_of(alloc, host, octets)?;
+    let Some(OpenShift { shift, pass, seat }) = side.open.take() else {
+        return Err(Stop::Line);
+    };
+    let (pass, answered) = call(rt, alloc, &shift, pass, step, &place.stage);
+    put_back(side, OpenShift { shift, pass, seat });
+    let printed = print_asked(alloc, text, side.number, &answered);
+    drop(answered);
+    printed
+}
+
+/// The call of a datagram.
+fn step_of(alloc: Global, host: u32, octets: &[u8]) -> Result<Arc<Step>, Stop> {
     let from = Addr { host, port: 1 };
     let bytes = Octets::from_slice(alloc, octets)?;
-    let Ok(step) = Arc::new(
+    Ok(Arc::new(
         alloc,
         Step::Frame {
             from,
             bytes,
             now: 5,
         },
-    ) else {
-        return Err(Stop::Memory);
-    };
-    let place = place_of(side)?;
-    let Some(OpenShift { shift, pass, seat }) = side.open.take() else {
-        return Err(Stop::Line);
-    };
-    let (pass, answered) = call(rt, alloc, &shift, pass, step, &place.stage);
-    side.open = Some(OpenShift { shift, pass, seat });
-    print_asked(alloc, text, side.number, answered)
+    )?)
 }
 
 /// Octets come to an end of the link.
@@ -324,11 +378,11 @@ fn print_asked(
     alloc: Global,
     text: &mut String,
     number: u8,
-    answered: Result<Answer, End>,
+    answered: &Result<Answer, End>,
 ) -> Result<(), Stop> {
     write!(text, "{number} was asked")?;
     match answered {
-        Ok(answer) => print_answer(alloc, text, &answer)?,
+        Ok(answer) => print_answer(alloc, text, answer)?,
         Err(End::Memory) => return Err(Stop::Memory),
         Err(end) => write!(text, ": {end}")?,
     }
@@ -345,12 +399,25 @@ fn talk_all<'a, T: Wait + Clock>(
 ) -> Result<(), Stop> {
     for _ in 0..side.ties.len() {
         let mut tie = take_first(side)?;
-        let end = talk_over(rt, alloc, side, &mut tie, phase)?;
-        print_said(rt, alloc, text, side.number, &tie)?;
-        print_end(text, side.number, end)?;
+        let talked = talk_once(rt, alloc, text, side, &mut tie, phase);
         put_last(side, tie)?;
+        talked?;
     }
     Ok(())
+}
+
+/// A link of a gateway talks, and what it said is printed.
+fn talk_once<'a, T: Wait + Clock>(
+    rt: &T,
+    alloc: Global,
+    text: &mut String,
+    side: &mut Side<'a, T>,
+    tie: &mut Tie<'a, T>,
+    phase: Phase,
+) -> Result<(), Stop> {
+    let end = talk_over(rt, alloc, side, tie, phase)?;
+    print_said(rt, alloc, text, side.number, tie)?;
+    print_end(text, side.number, end)
 }
 
 /// A link of a gateway talks from a phase of the shift on, to the end of the shift. Says why it
@@ -382,11 +449,12 @@ fn talk_over<'a, T: Wait + Clock>(
         stage,
         &side.pool.relay,
     );
-    side.open = Some(OpenShift { shift, pass, seat });
+    put_back(side, OpenShift { shift, pass, seat });
     if end == End::Full {
-        tie.link = Some(link);
+        drop(mem::replace(&mut tie.link, Some(link)));
     } else {
         side.pool.relay.leave(rt, link.place);
+        drop(link);
     }
     Ok(end)
 }
@@ -460,6 +528,19 @@ fn sit_down<'a, T: Wait + Clock>(
     side: &mut Side<'a, T>,
 ) -> Result<(), Stop> {
     let mut tie = take_first(side)?;
+    let sat = sit_with(rt, alloc, text, side, &mut tie);
+    put_last(side, tie)?;
+    sat
+}
+
+/// A link of a gateway talks at a seat, and then it is closed.
+fn sit_with<'a, T: Wait + Clock>(
+    rt: &T,
+    alloc: Global,
+    text: &mut String,
+    side: &mut Side<'a, T>,
+    tie: &mut Tie<'a, T>,
+) -> Result<(), Stop> {
     let Some(link) = tie.link.take() else {
         return Err(Stop::Line);
     };
@@ -468,25 +549,39 @@ fn sit_down<'a, T: Wait + Clock>(
     if is_closed(rt, &side.pool, origin) {
         return Err(Stop::Memory);
     }
+    let end = serve_seat(rt, alloc, side, &tie.place.stage)?;
+    print_said(rt, alloc, text, side.number, tie)?;
+    if let Some(end) = end {
+        print_end(text, side.number, end)?;
+    }
+    print_room(rt, text, side.number, &side.pool, origin)?;
+    side.pool.close_all(rt);
+    print_room(rt, text, side.number, &side.pool, origin)
+}
+
+/// Serves the first seat of a gateway's pool. Says why its link stopped, if it did.
+fn serve_seat<'a, T: Wait + Clock>(
+    rt: &T,
+    alloc: Global,
+    side: &mut Side<'a, T>,
+    stage: &Stage,
+) -> Result<Option<End>, Stop> {
     let Some(OpenShift { shift, pass, seat }) = side.open.take() else {
         return Err(Stop::Line);
     };
-    let stage = &tie.place.stage;
     stage.go_to(rt, Phase::Serving);
     let seat = Seat {
         pass: seat,
         end: None,
     };
     let Seat { pass: seat, end } = sit(rt, alloc, &shift, seat, &side.pool, side.number, stage);
-    side.open = Some(OpenShift { shift, pass, seat });
-    print_said(rt, alloc, text, side.number, &tie)?;
-    if let Some(end) = end {
-        print_end(text, side.number, end)?;
-    }
-    print_room(rt, text, side.number, &side.pool, origin)?;
-    side.pool.close_all(rt);
-    print_room(rt, text, side.number, &side.pool, origin)?;
-    put_last(side, tie)
+    put_back(side, OpenShift { shift, pass, seat });
+    Ok(end)
+}
+
+/// Puts a gateway's shift back, from which something was taken.
+fn put_back<'a, T: Wait>(side: &mut Side<'a, T>, opened: OpenShift) {
+    drop(mem::replace(&mut side.open, Some(opened)));
 }
 
 /// Whether a link that was dialled is closed: a pool closes one that it has no memory for.
@@ -523,16 +618,33 @@ fn turn<'a, T: Wait>(
     let Some(OpenShift { shift, pass, seat }) = side.open.take() else {
         return Err(Stop::Line);
     };
+    let over = close(shift, both(alloc, pass, seat)?);
+    let printed = print_turn(alloc, text, side.number, &over);
+    open_next(alloc, side, over)?;
+    side.pool.begin_shift(rt);
+    begin_links(side)?;
+    printed
+}
+
+/// Both passes.
+fn both(alloc: Global, pass: Pass, seat: Pass) -> Result<Vec<Pass>, Stop> {
     let mut passes = Vec::new(alloc);
     passes.push(pass)?;
     passes.push(seat)?;
-    let over = close(shift, passes);
-    let number = side.number;
+    Ok(passes)
+}
+
+/// How a gateway's shift went.
+fn print_turn(alloc: Global, text: &mut String, number: u8, over: &Over) -> Result<(), Stop> {
     write!(text, "{number} ")?;
-    print_over(alloc, text, &over)?;
-    side.open = Some(open_shift(alloc, over.node)?);
-    side.pool.begin_shift(rt);
-    begin_links(side)
+    print_over(alloc, text, over)
+}
+
+/// The next shift of a gateway is opened.
+fn open_next<'a, T: Wait>(alloc: Global, side: &mut Side<'a, T>, over: Over) -> Result<(), Stop> {
+    let opened = open_shift(alloc, over.node)?;
+    put_back(side, opened);
+    Ok(())
 }
 
 /// The next shift begins for the links of a gateway.

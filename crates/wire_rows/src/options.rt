@@ -115,12 +115,23 @@ fn begun<D: Disk + Drop>(
     disk: D,
     short: &[u8],
 ) -> Result<Option<Node<Plain, D>>, Stop> {
-    let mut out = Vec::with_capacity(alloc, ROOM)?;
-    let mut err = Vec::with_capacity(alloc, ROOM)?;
+    let (mut out, mut err) = rooms(alloc)?;
     let node = begin::<Plain, D, Vec<u8>, Vec<u8>>(alloc, read, disk, &mut out, &mut err);
-    print_octets(text, out, short)?;
-    print_octets(text, err, short)?;
+    print_both(text, out, err, short)?;
     started(text, node)
+}
+
+/// Where an opening prints to.
+fn rooms(alloc: Global) -> Result<(Vec<u8>, Vec<u8>), Stop> {
+    let out = Vec::with_capacity(alloc, ROOM)?;
+    let err = Vec::with_capacity(alloc, ROOM)?;
+    Ok((out, err))
+}
+
+/// What an opening printed, unless it says that memory ran out.
+fn print_both(text: &mut String, out: Vec<u8>, err: Vec<u8>, short: &[u8]) -> Result<(), Stop> {
+    print_octets(text, out, short)?;
+    print_octets(text, err, short)
 }
 
 /// The gateway that was opened, or nothing, with the status that is printed then.
@@ -198,7 +209,10 @@ fn asked<D: Disk + Drop>(
         return Ok(());
     };
     let answer = node.frame(alloc, Addr { host: 7, port: 1 }, bytes, 0);
-    Ok(print_answered(alloc, text, &answer)?)
+    drop(node);
+    let printed = print_answered(alloc, text, &answer);
+    drop(answer);
+    Ok(printed?)
 }
 
 /// What was answered, as a line.

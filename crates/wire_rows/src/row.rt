@@ -79,15 +79,28 @@ where
     T: Threads + Wait + Sync + Clock + Net + Files<File = File>,
 {
     match words {
-        ["gateway", number] => name(&mut row.toml, number),
-        ["settings"] => show(alloc, text, row.toml.as_str()),
         ["begin"] => play_begin(alloc, text, row),
         ["fail"] => fail(row),
-        ["files", octets] => play_files(rt, alloc, text, row.toml.as_str(), octets),
-        ["lose", name] => lose(rt, name),
         ["serve"] => play_serve(rt, alloc, text, row),
         ["meet"] => play_meet(rt, alloc, text, row),
         ["loopback", first, second] => play_loopback(rt, alloc, text, row, first, second),
+        _ => play_settings(rt, alloc, text, row, words),
+    }
+}
+
+/// Lines about the settings, and about the files that they name.
+fn play_settings<T: Files<File = File>>(
+    rt: &T,
+    alloc: Global,
+    text: &mut String,
+    row: &mut Row,
+    words: &[&str],
+) -> Result<(), Stop> {
+    match words {
+        ["gateway", number] => name(&mut row.toml, number),
+        ["settings"] => show(alloc, text, row.toml.as_str()),
+        ["files", octets] => play_files(rt, alloc, text, row.toml.as_str(), octets),
+        ["lose", name] => lose(rt, name),
         _ => play_plan(alloc, &mut row.plan, words),
     }
 }
@@ -194,7 +207,8 @@ fn datagram(alloc: Global, from: &str, moment: &str, octets: &str) -> Result<Com
 /// `begin`: the gateway is opened on the disk of the one that was open, or on an empty one.
 fn play_begin(alloc: Global, text: &mut String, row: &mut Row) -> Result<(), Stop> {
     let disk = disk_of(alloc, row.node.take());
-    row.node = begin_on(alloc, text, row.toml.as_str(), disk)?;
+    let node = begin_on(alloc, text, row.toml.as_str(), disk)?;
+    drop(mem::replace(&mut row.node, node));
     Ok(())
 }
 
@@ -314,8 +328,14 @@ fn finish(
     let passes = mem::replace(&mut outcome.passes, Vec::new(alloc));
     let over = close(shift, passes);
     let printed = print_finished(alloc, text, &outcome, &over, count);
-    row.node = Some(over.node);
+    drop(outcome);
+    put_back(row, over);
     printed
+}
+
+/// The gateway of a shift that is over is the open one.
+fn put_back(row: &mut Row, over: Over) {
+    drop(mem::replace(&mut row.node, Some(over.node)));
 }
 
 /// What became of the datagrams, and of the shift.
@@ -360,12 +380,25 @@ fn serve_questions<T: Threads + Wait + Sync + Clock + Net>(
     questions: &Questions<'_>,
 ) -> Result<(), Stop> {
     let (shift, passes) = opened(alloc, row, plan)?;
-    let outcome = over_sockets(rt, alloc, text, &shift, passes, questions)?;
-    print_counted(text, &outcome)?;
-    let over = close(shift, outcome.passes);
+    let passes = ask_over(rt, alloc, text, &shift, passes, questions)?;
+    let over = close(shift, passes);
     let printed = print_over(alloc, text, &over);
-    row.node = Some(over.node);
+    put_back(row, over);
     printed
+}
+
+/// Serves what is asked over a socket, and prints how that ended. The passes come back.
+fn ask_over<T: Threads + Wait + Sync + Clock + Net>(
+    rt: &T,
+    alloc: Global,
+    text: &mut String,
+    shift: &Shared,
+    passes: Vec<Pass>,
+    questions: &Questions<'_>,
+) -> Result<Vec<Pass>, Stop> {
+    let outcome = over_sockets(rt, alloc, text, shift, passes, questions)?;
+    print_counted(text, &outcome)?;
+    Ok(outcome.passes)
 }
 
 /// How serving ended, and how many datagrams became calls.

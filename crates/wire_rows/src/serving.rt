@@ -48,9 +48,9 @@ pub(crate) fn shift_of(
     workers: u64,
     steps: u64,
 ) -> Result<(Shared, Vec<Pass>), Stop> {
-    match Shift::open(alloc, node, passes_of(workers), steps_of(steps)) {
-        Ok(opened) => Ok(opened),
-        Err(_) => Err(Stop::Memory),
+    match Shift::open(alloc, node, passes_of(workers), steps_of(steps)).ok() {
+        Some(opened) => Ok(opened),
+        None => Err(Stop::Memory),
     }
 }
 

@@ -46,7 +46,9 @@ where
     T: Threads + Wait + Sync + Clock + Eprint + AllocGlobal,
 {
     let step = step_of(rt.alloc(), name)?;
-    let micros = all(rt, &step, threads, rounds)?;
+    let micros = all(rt, &step, threads, rounds);
+    drop(step);
+    let micros = micros?;
     let calls = u64::from(rounds) * 4096;
     let _ = eprintln!(rt; "{name} {threads} {rounds} {calls} {micros}");
     Ok(writeln!(text, "{name} {threads} {rounds}: {calls} calls")?)
@@ -167,8 +169,15 @@ fn since<T: Clock>(rt: &T, start: &Instant) -> Result<u64, Stop> {
 /// The calls, made by the one that owns the gateway: the microseconds that they took.
 fn direct<T: Clock>(rt: &T, alloc: Global, node: Gateway, step: &Step) -> Result<u64, Stop> {
     let mut node = node;
+    let taken = timed(rt, alloc, &mut node, step);
+    drop(node);
+    taken
+}
+
+/// The microseconds that the calls of a round take, one after the other.
+fn timed<T: Clock>(rt: &T, alloc: Global, node: &mut Gateway, step: &Step) -> Result<u64, Stop> {
     let start = moment(rt)?;
-    call_all(alloc, &mut node, step)?;
+    call_all(alloc, node, step)?;
     since(rt, &start)
 }
 
@@ -196,17 +205,40 @@ fn shared<T: Threads + Wait + Sync + Clock>(
     threads: usize,
 ) -> Result<u64, Stop> {
     if threads == 0 || threads > 8 {
+        drop(node);
         return Err(Stop::Line);
     }
+    let each = CALLS / threads;
     let (shift, passes) = shift_of(alloc, node, threads)?;
     let mut seats = Vec::new(alloc);
-    seated(&mut seats, passes)?;
-    let each = CALLS / threads;
+    let taken = timed_at_once(rt, alloc, &shift, &mut seats, passes, step, each);
+    match taken {
+        Ok(taken) => {
+            close(alloc, shift, seats, each * threads)?;
+            Ok(taken)
+        }
+        Err(stop) => {
+            drop(shift);
+            drop(seats);
+            Err(stop)
+        }
+    }
+}
+
+/// The passes sit down and make so many calls each, all at once: the microseconds that these take.
+fn timed_at_once<T: Threads + Wait + Sync + Clock>(
+    rt: &T,
+    alloc: Global,
+    shift: &Shift<Plain, MemoryDisk>,
+    seats: &mut Vec<Option<Pass>>,
+    passes: Vec<Pass>,
+    step: &Arc<Step>,
+    each: usize,
+) -> Result<u64, Stop> {
+    seated(seats, passes)?;
     let start = moment(rt)?;
-    sit_all(rt, alloc, &shift, seats.as_mut_slice(), step, each)?;
-    let taken = since(rt, &start)?;
-    close(shift, risen(alloc, seats)?, each * threads)?;
-    Ok(taken)
+    sit_all(rt, alloc, shift, seats.as_mut_slice(), step, each)?;
+    since(rt, &start)
 }
 
 /// A shift of a gateway.
@@ -219,20 +251,49 @@ fn shift_of(
 {
     match Shift::open(alloc, node, threads, 4096) {
         Ok(opened) => Ok(opened),
-        Err(_) => Err(Stop::Memory),
+        Err(refused) => {
+            drop(refused);
+            Err(Stop::Memory)
+        }
     }
 }
 
-/// Closes a shift, which has that many calls.
-fn close(shift: Shift<Plain, MemoryDisk>, passes: Vec<Pass>, calls: usize) -> Result<(), Stop> {
-    match shift.end().close(passes) {
-        Ok(closed) => check_closed(&closed, calls),
-        Err((_ended, _passes, _fault)) => Err(Stop::Work),
+/// Closes a shift with the passes of all seats. It has that many calls.
+fn close(
+    alloc: Global,
+    shift: Shift<Plain, MemoryDisk>,
+    seats: Vec<Option<Pass>>,
+    calls: usize,
+) -> Result<(), Stop> {
+    match risen(alloc, seats) {
+        Ok(passes) => close_with(shift, passes, calls),
+        Err(stop) => {
+            drop(shift);
+            Err(stop)
+        }
     }
 }
 
-/// Whether a closed shift has that many calls, and no memory was refused in its disk.
-fn check_closed(closed: &Closed<Plain, MemoryDisk>, calls: usize) -> Result<(), Stop> {
+/// Closes a shift with these passes.
+fn close_with(
+    shift: Shift<Plain, MemoryDisk>,
+    passes: Vec<Pass>,
+    calls: usize,
+) -> Result<(), Stop> {
+    let outcome = shift.end().close(passes);
+    let checked = check_closed(&outcome, calls);
+    drop(outcome);
+    checked
+}
+
+/// Whether a shift was closed, has that many calls, and no memory was refused in its disk.
+fn check_closed<E>(
+    outcome: &Result<Closed<Plain, MemoryDisk>, E>,
+    calls: usize,
+) -> Result<(), Stop> {
+    let Ok(closed) = outcome else {
+        return Err(Stop::Work);
+    };
     if closed.node.starved() {
         return Err(Stop::Memory);
     }

@@ -18,12 +18,27 @@ type Sizes = (u64, u64);
 pub(crate) fn run(alloc: Global, text: &mut String, rounds: u32) -> Result<(), Stop> {
     let asker = asker(alloc)?;
     let peer = peer(alloc)?;
-    repeat(alloc, &asker, &peer, rounds)?;
-    let digest = digest(alloc, &asker)?;
-    let answered = answered(alloc, &peer, &digest)?;
-    let size = size(alloc, &digest)?;
-    let held = held(alloc, &peer)?;
+    let measured = measured(alloc, &asker, &peer, rounds);
+    drop(asker);
+    drop(peer);
+    let (size, answered, held) = measured?;
     Ok(print(text, size, answered, held)?)
+}
+
+/// Digest and answer, so often: how large they are, and all that the other holds.
+fn measured(
+    alloc: Global,
+    asker: &Plain,
+    peer: &Plain,
+    rounds: u32,
+) -> Result<(usize, Sizes, Sizes), Stop> {
+    repeat(alloc, asker, peer, rounds)?;
+    let digest = digest(alloc, asker)?;
+    let answered = answered(alloc, peer, &digest);
+    let size = size(alloc, &digest);
+    drop(digest);
+    let (answered, size) = (answered?, size?);
+    Ok((size, answered, held(alloc, peer)?))
 }
 
 /// Digest and answer, so often.

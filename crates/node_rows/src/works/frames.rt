@@ -38,10 +38,17 @@ fn all(alloc: Global, datagrams: &[Vec<u8>], out: &mut Vec<u8>, rounds: u32) -> 
 /// Decodes each datagram, and encodes what it says.
 fn round(alloc: Global, datagrams: &[Vec<u8>], out: &mut Vec<u8>) -> Result<(), Stop> {
     for datagram in datagrams {
-        let frame = read(alloc, datagram.as_slice())?;
-        write(alloc, &frame, out)?;
+        again(alloc, datagram.as_slice(), out)?;
     }
     Ok(())
+}
+
+/// Decodes a datagram, and encodes what it says.
+fn again(alloc: Global, datagram: &[u8], out: &mut Vec<u8>) -> Result<(), Stop> {
+    let frame = read(alloc, datagram)?;
+    let written = write(alloc, &frame, out);
+    drop(frame);
+    written
 }
 
 /// The frame that a datagram spells.

@@ -11,9 +11,18 @@ use std::alloc::Global;
 /// synced, and says how many it appended.
 pub(crate) fn run(alloc: Global, text: &mut String, rounds: u32) -> Result<(), Stop> {
     let delta = delta_of(alloc, presence(alloc)?)?;
-    let mut journal = journal(alloc)?;
-    let count = append_all(alloc, &mut journal, &delta, rounds)?;
+    let count = appended(alloc, &delta, rounds);
+    drop(delta);
+    let count = count?;
     Ok(writeln!(text, "records: {count} appended, each synced")?)
+}
+
+/// Appends the delta so often to a new journal: how many records that were.
+fn appended(alloc: Global, delta: &Delta, rounds: u32) -> Result<u64, Stop> {
+    let mut journal = journal(alloc)?;
+    let count = append_all(alloc, &mut journal, delta, rounds);
+    drop(journal);
+    count
 }
 
 /// A new journal on a disk in memory.

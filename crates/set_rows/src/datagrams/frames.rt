@@ -9,6 +9,7 @@ use crate::stop::Stop;
 use octets::Octets;
 use sn_frame::{Frame, FrameFault, Will};
 use std::alloc::Global;
+use std::mem;
 
 /// The most octets of a body after a Length of one octet (MQTT-SN 1.2 section 5.2.1).
 const SHORT_BODY: usize = 253;
@@ -20,16 +21,26 @@ pub(crate) fn frame(
     kept: &mut Option<Frame>,
     fields: &[&str],
 ) -> Result<(), Stop> {
-    *kept = None;
+    drop(kept.take());
     let datagram = octets(alloc, fields)?;
-    match read_frame(alloc, &datagram) {
-        Ok(frame) => {
-            let printed = print_frame(alloc, text, &frame);
-            *kept = Some(frame);
-            printed
-        }
+    let read = read_frame(alloc, &datagram);
+    drop(datagram);
+    match read {
+        Ok(frame) => keep(alloc, text, kept, frame),
         Err(fault) => refused_frame(text, fault),
     }
+}
+
+/// Prints the frame that was read, and keeps it.
+fn keep(
+    alloc: Global,
+    text: &mut String,
+    kept: &mut Option<Frame>,
+    frame: Frame,
+) -> Result<(), Stop> {
+    let printed = print_frame(alloc, text, &frame);
+    drop(mem::replace(kept, Some(frame)));
+    printed
 }
 
 /// A frame in words, and what it is written as.
@@ -57,7 +68,9 @@ pub(crate) fn with(
         return Err(Stop::Line);
     };
     let other = replaced(frame, Octets::new(octets(alloc, fields)?)?)?;
-    print_frame(alloc, text, &other)
+    let printed = print_frame(alloc, text, &other);
+    drop(other);
+    printed
 }
 
 /// A frame with another octet string: its client, address, will or message.
@@ -142,7 +155,11 @@ fn replaced_topic(frame: &Frame, other: Octets) -> Result<Frame, Stop> {
 /// What a datagram is, in a word: the name of its message, or the number of its fault.
 fn brief(alloc: Global, datagram: &[u8]) -> Result<String, Stop> {
     match read_frame(alloc, datagram) {
-        Ok(frame) => Ok(String::from_str(alloc, message_name(&frame))?),
+        Ok(frame) => {
+            let name = String::from_str(alloc, message_name(&frame));
+            drop(frame);
+            Ok(name?)
+        }
         Err(fault) => brief_fault(alloc, fault),
     }
 }
@@ -212,15 +229,29 @@ pub(crate) fn bodies(alloc: Global, text: &mut String, fields: &[&str]) -> Resul
     let [kind, rest @ ..] = fields else {
         return Err(Stop::Line);
     };
-    let kind = field_octets(alloc, kind)?;
-    let [kind] = kind.as_slice() else {
-        return Err(Stop::Line);
-    };
+    let kind = kind_of(alloc, kind)?;
     let given = octets(alloc, rest)?;
-    let body = given.as_slice();
+    let printed = each_body(alloc, text, kind, &given);
+    drop(given);
+    printed
+}
+
+/// The one octet that a field writes.
+fn kind_of(alloc: Global, field: &str) -> Result<u8, Stop> {
+    let octets = field_octets(alloc, field)?;
+    let kind = match octets.as_slice() {
+        [kind] => Ok(*kind),
+        _ => Err(Stop::Line),
+    };
+    drop(octets);
+    kind
+}
+
+/// What each beginning of a body is.
+fn each_body(alloc: Global, text: &mut String, kind: u8, body: &[u8]) -> Result<(), Stop> {
     let mut last = String::new(alloc);
     for end in 0..=body.len() {
-        let said = both_forms(alloc, *kind, &body[..end])?;
+        let said = both_forms(alloc, kind, &body[..end])?;
         let place = format!(in alloc; "{end}")?;
         last = changed(text, last, place.as_str(), said)?;
     }

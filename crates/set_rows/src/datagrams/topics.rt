@@ -10,7 +10,10 @@ use std::alloc::Global;
 
 /// `name OCTETS ..`: a topic name, as a copy of it tells it.
 pub(crate) fn name(alloc: Global, text: &mut String, fields: &[&str]) -> Result<(), Stop> {
-    match TopicName::new(alloc, &octets(alloc, fields)?) {
+    let octets = octets(alloc, fields)?;
+    let made = TopicName::new(alloc, &octets);
+    drop(octets);
+    match made {
         Ok(name) => print_name(text, &name.copy(alloc)?),
         Err(fault) => refused_topic(text, fault),
     }
@@ -24,7 +27,10 @@ fn print_name(text: &mut String, name: &TopicName) -> Result<(), Stop> {
 
 /// `filter OCTETS ..`: a filter, as a copy of it tells it.
 pub(crate) fn filter(alloc: Global, text: &mut String, fields: &[&str]) -> Result<(), Stop> {
-    match Filter::new(alloc, &octets(alloc, fields)?) {
+    let octets = octets(alloc, fields)?;
+    let made = Filter::new(alloc, &octets);
+    drop(octets);
+    match made {
         Ok(filter) => print_filter(text, &filter.copy(alloc)?),
         Err(fault) => refused_topic(text, fault),
     }

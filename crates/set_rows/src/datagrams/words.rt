@@ -54,39 +54,50 @@ pub(crate) fn message_name(frame: &Frame) -> &'static str {
 
 impl fmt::Display for Told<'_> {
     fn fmt<W: fmt::Write>(&self, f: &mut fmt::Formatter<W>) -> fmt::Result {
-        let name = message_name(self.0);
-        write!(f, "{name}")?;
-        match self.0 {
-            Frame::Advertise { gateway, duration } => {
-                write!(f, " GwId {gateway}, Duration {duration} s")
-            }
-            Frame::SearchGw { radius } => write!(f, " Radius {radius}"),
-            Frame::GwInfo { gateway, address } => {
-                let address = Digits(address.as_slice());
-                write!(f, " GwId {gateway}, GwAdd {address}")
-            }
-            Frame::Connect {
-                flags,
-                protocol,
-                duration,
-                client,
-            } => {
-                let (bits, client) = (Bits(*flags), Text(client.as_slice()));
-                write!(
-                    f,
-                    " {bits}, ProtocolId {protocol}, Duration {duration} s, ClientId {client}"
-                )
-            }
-            Frame::PingReq { client } => {
-                let client = Text(client.as_slice());
-                write!(f, " ClientId {client}")
-            }
-            Frame::Disconnect { duration } => {
-                let sleep = Sleep(duration);
-                write!(f, "{sleep}")
-            }
-            other => will_fields(f, other),
+        f.write_str(message_name(self.0))?;
+        gateway_fields(f, self.0)
+    }
+}
+
+/// The fields of messages by which a gateway is found.
+fn gateway_fields<W: fmt::Write>(f: &mut fmt::Formatter<W>, frame: &Frame) -> fmt::Result {
+    match frame {
+        Frame::Advertise { gateway, duration } => {
+            write!(f, " GwId {gateway}, Duration {duration} s")
         }
+        Frame::SearchGw { radius } => write!(f, " Radius {radius}"),
+        Frame::GwInfo { gateway, address } => {
+            let address = Digits(address.as_slice());
+            write!(f, " GwId {gateway}, GwAdd {address}")
+        }
+        other => client_fields(f, other),
+    }
+}
+
+/// The fields of messages by which a client comes, waits and goes.
+fn client_fields<W: fmt::Write>(f: &mut fmt::Formatter<W>, frame: &Frame) -> fmt::Result {
+    match frame {
+        Frame::Connect {
+            flags,
+            protocol,
+            duration,
+            client,
+        } => {
+            let (bits, client) = (Bits(*flags), Text(client.as_slice()));
+            write!(
+                f,
+                " {bits}, ProtocolId {protocol}, Duration {duration} s, ClientId {client}"
+            )
+        }
+        Frame::PingReq { client } => {
+            let client = Text(client.as_slice());
+            write!(f, " ClientId {client}")
+        }
+        Frame::Disconnect { duration } => {
+            let sleep = Sleep(duration);
+            write!(f, "{sleep}")
+        }
+        other => will_fields(f, other),
     }
 }
 

@@ -29,17 +29,21 @@ An example, with the gateways of examples/field:
 
 /// The whole command line.
 pub(super) fn command_line<'a>(alloc: Global) -> Result<Command<'a>, AllocError> {
-    let command = Command::new(alloc, "sn_client")
+    let commands = commands(alloc)?;
+    let command = with_options(alloc)?;
+    command.subcommands(commands)
+}
+
+/// The program, without its options and commands.
+fn program<'a>(alloc: Global) -> Command<'a> {
+    Command::new(alloc, "sn_client")
         .about(
             "A client of MQTT-SN 1.2: each run sends one thing to a gateway, and tells in words what goes and comes",
         )
         .after_help(AFTER)
         .subcommand_required(true)
         .arg_required_else_help(true)
-        .disable_help_subcommand(true);
-    let command = with_options(alloc, command)?;
-    let command = with_subscriptions(alloc, command)?;
-    with_messages(alloc, command)
+        .disable_help_subcommand(true)
 }
 
 /// A command with these arguments. It says nothing of them, so that who calls it carries on no more
@@ -48,44 +52,49 @@ fn with<'a>(command: Command<'a>, args: Vec<Arg<'a>>) -> Result<Command<'a>, All
     command.args(args)
 }
 
-/// A command with one more below it, of which it says nothing either.
-fn and<'a>(
-    command: Command<'a>,
-    more: Result<Command<'a>, AllocError>,
-) -> Result<Command<'a>, AllocError> {
-    command.subcommand(more?)
+/// All commands.
+fn commands<'a>(alloc: Global) -> Result<Vec<Command<'a>>, AllocError> {
+    let mut commands = Vec::new(alloc);
+    add_commands(alloc, &mut commands)?;
+    Ok(commands)
 }
 
-/// The commands about a connection and what a client asks for.
-fn with_subscriptions<'a>(alloc: Global, command: Command<'a>) -> Result<Command<'a>, AllocError> {
-    let command = and(
-        command,
-        Ok(plain(alloc, "search", "Ask whether a gateway is there")),
-    )?;
-    let command = and(command, connect(alloc))?;
-    let command = and(command, subscribe(alloc))?;
-    and(command, unsubscribe(alloc))
+/// Adds a command.
+fn add<'a>(
+    commands: &mut Vec<Command<'a>>,
+    command: Result<Command<'a>, AllocError>,
+) -> Result<(), AllocError> {
+    commands.push(command?)?;
+    Ok(())
 }
 
-/// The commands about messages that go and come, and the end of a connection.
-fn with_messages<'a>(alloc: Global, command: Command<'a>) -> Result<Command<'a>, AllocError> {
-    let command = and(command, publish(alloc))?;
-    let command = and(command, sleep(alloc))?;
+/// Adds all commands.
+fn add_commands<'a>(alloc: Global, commands: &mut Vec<Command<'a>>) -> Result<(), AllocError> {
+    let search = plain(alloc, "search", "Ask whether a gateway is there");
+    add(commands, Ok(search))?;
+    add(commands, connect(alloc))?;
+    add(commands, subscribe(alloc))?;
+    add(commands, unsubscribe(alloc))?;
+    add_messages(alloc, commands)
+}
+
+/// Adds the commands about messages that go and come, and the end of a connection.
+fn add_messages<'a>(alloc: Global, commands: &mut Vec<Command<'a>>) -> Result<(), AllocError> {
+    add(commands, publish(alloc))?;
+    add(commands, sleep(alloc))?;
     let wake = plain(
         alloc,
         "wake",
         "Wake up for the messages that were kept, and sleep on",
     );
-    let command = and(command, Ok(wake))?;
-    let command = and(command, listen(alloc))?;
-    and(
-        command,
-        Ok(plain(alloc, "disconnect", "End the connection")),
-    )
+    add(commands, Ok(wake))?;
+    add(commands, listen(alloc))?;
+    let disconnect = plain(alloc, "disconnect", "End the connection");
+    add(commands, Ok(disconnect))
 }
 
-/// The options of every command: who speaks, with whom, and how.
-fn with_options<'a>(alloc: Global, command: Command<'a>) -> Result<Command<'a>, AllocError> {
+/// The program with the options of every command: who speaks, with whom, and how.
+fn with_options<'a>(alloc: Global) -> Result<Command<'a>, AllocError> {
     let options = vec![in alloc;
         gateway(alloc),
         id(alloc),
@@ -94,7 +103,7 @@ fn with_options<'a>(alloc: Global, command: Command<'a>) -> Result<Command<'a>, 
         wait(alloc),
         hex(alloc),
     ]?;
-    with(command, options)
+    with(program(alloc), options)
 }
 
 /// The option `--gateway`.
@@ -300,9 +309,11 @@ fn seconds<'a>(alloc: Global) -> Arg<'a> {
 
 /// The command `sleep`.
 fn sleep<'a>(alloc: Global) -> Result<Command<'a>, AllocError> {
-    let command = plain(alloc, "sleep", "Fall asleep: messages are kept meanwhile");
     let options = vec![in alloc; seconds(alloc)]?;
-    with(command, options)
+    with(
+        plain(alloc, "sleep", "Fall asleep: messages are kept meanwhile"),
+        options,
+    )
 }
 
 /// How long a client listens.

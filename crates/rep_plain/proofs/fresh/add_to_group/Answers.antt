@@ -14,27 +14,27 @@ use Rattle.rep_plain.specs.inner.Tables.{groups_of}
 use Rattle.rep_plain.proofs.Growing.{look_up, grown_there, grown_apart, not_same}
 use Rattle.rep_plain.proofs.fresh.add_to_group.Goals as goal
 
-pub returns : goal.returns
-returns c =
+pub returns-in_ok-insert-in-Ok : goal.returns-in_ok-insert-in-Ok
+returns-in_ok-insert-in-Ok c =
     λ D h q.
     let items = λ (ops : Vec Op Global). ops.items in
     let rows = rows_of c.args.table.now.entries in
     let op = c.args.op in
     let client = c.in_ok-client.client in
-    let mid = c.take_group.new.groups.entries in
+    let mid = c.with_last.new.groups.entries in
     let new = c.insert.new.self.entries in
     let is : client ≡ client_of op = c.in_ok-client.ensures ∙ c.client.ensures in
-    let now = c.in_ok-insert.ensures.updates.0 q in
+    let now = c.in_ok-insert-in-Ok.ensures.updates.0 q in
     elim (is_eq (client_cmp client q)) as (λ b. is_eq (client_cmp client q) ≡ b → find client_cmp q (groups_of new) ≡ grown q rows (D ++ op ∷ [])) [
       | true ↦ λ t.
-          let here : lookup (is_at (client_cmp q)) new ≡ Some c.push.new.self = now ∙ ap (λ b. cond b (Some c.push.new.self) (lookup (is_at (client_cmp q)) mid)) t in
-          sym (look_up items q new (Some c.push.new.self) (sym here))
-          ∙ ap Some c.in_ok-push.ensures.items
-          ∙ grown_there rows D op client c.in_ok-ops.ops.items is (c.in_ok-ops.ensures.ops ∙ ap (λ o. unwrap_or o (own client rows)) (h client))
+          let here : lookup (is_at (client_cmp q)) new ≡ Some c.in-Ok.ops = now ∙ ap (λ b. cond b (Some c.in-Ok.ops) (lookup (is_at (client_cmp q)) mid)) t in
+          sym (look_up items q new (Some c.in-Ok.ops) (sym here))
+          ∙ ap Some c.in-Ok.ensures.ops
+          ∙ grown_there rows D op client (unwrap_or (find client_cmp client (groups_of c.args.groups.now.entries)) (own client rows)) is (ap (λ o. unwrap_or o (own client rows)) (h client))
           ∙ ap (λ x. grown x rows (D ++ op ∷ [])) (tells_apart client_exact client q t)
       | false ↦ λ t.
-          let there : lookup (is_at (client_cmp q)) new ≡ lookup (is_at (client_cmp q)) mid = now ∙ ap (λ b. cond b (Some c.push.new.self) (lookup (is_at (client_cmp q)) mid)) t in
+          let there : lookup (is_at (client_cmp q)) new ≡ lookup (is_at (client_cmp q)) mid = now ∙ ap (λ b. cond b (Some c.in-Ok.ops) (lookup (is_at (client_cmp q)) mid)) t in
           sym (look_up items q new (lookup (is_at (client_cmp q)) mid) (sym there))
           ∙ look_up items q mid (lookup (is_at (client_cmp q)) mid) refl
-          ∙ c.in_ok-ops.ensures.others q t ∙ h q ∙ grown_apart rows D op q (not_same q client op is t)
+          ∙ c.with_last.ensures.others q t ∙ h q ∙ grown_apart rows D op q (not_same q client op is t)
     ] refl

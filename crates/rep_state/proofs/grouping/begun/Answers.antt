@@ -10,10 +10,10 @@ use Rattle.rep_state.proofs.grouping.begun.Goals as goal
 pub note-requires-clause-fresh : goal.note-requires-clause-fresh
 note-requires-clause-fresh c = (client_of c.args.op.now, c.new-fresh.ensures.fresh (client_of c.args.op.now) c.args.entry.now c.requires.entry)
 
-pub returns-clause-fresh : goal.returns-clause-fresh
-returns-clause-fresh c =
+pub returns-in-Ok-clause-fresh : goal.returns-in-Ok-clause-fresh
+returns-in-Ok-clause-fresh c =
     let op = c.args.op.now in
     let entry = c.args.entry.now in
     let client = client_of op in
-    let step = c.in_ok-note.ensures client (c.new-fresh.ensures.fresh client entry c.requires.entry) (names_client op c.requires.made) in
+    let step = c.in-Ok.ensures client (c.new-fresh.ensures.fresh client entry c.requires.entry) (names_client op c.requires.made) in
     (step.0, subst (λ (ops : List Op). Same (fresh_row client entry c.note.new.self) (keep (ops ++ op ∷ []))) (c.new-fresh.ensures.row client entry c.requires.entry) step.1)

@@ -14,32 +14,32 @@ use Rattle.rep_state.proofs.Staging.{staged_last, future_last}
 use Rattle.rep_entry.proofs.Applied.{row_applied}
 use Rattle.rep_state.proofs.grouping.push_change.Goals as goal
 
-pub returns-clause-rows : goal.returns-clause-rows
-returns-clause-rows c =
+pub returns-in_ok-push-in-Ok-clause-rows : goal.returns-in_ok-push-in-Ok-clause-rows
+returns-in_ok-push-in-Ok-clause-rows c =
     let client = c.args.client.now in
     let es = by_client c.args.table.now.entries in
     let old = staged_of c.args.made.now.items in
-    let key = c.in_ok-key.key in
+    let key = c.in-Ok.key in
     let change = c.in_ok-change.change in
-    let octets = c.in_ok-key.ensures ∙ c.bytes.ensures.octets in
+    let octets = c.in-Ok.ensures ∙ c.bytes.ensures.octets in
     let row = row_applied client (held_of client es) change ∙ subst (λ (e : Entry). planned_row client (base_of e) change ≡ fresh_row client e c.args.fresh) c.held.ensures (c.in_ok-change.ensures.row client) in
-    ap (λ xs. rows_of (future es (staged_of xs))) c.in_ok-push.ensures.items
+    ap (λ xs. rows_of (future es (staged_of xs))) c.in_ok-push-in-Ok.ensures.items
     ∙ ap (λ gs. rows_of (future es gs)) (staged_last c.args.made.now.items (key, change))
     ∙ ap rows_of (future_last es old (key.items, change))
     ∙ rows_last (future es old) (key.items, applied (held_of key.items es) change)
     ∙ ap (λ (k : List ℕ). rows_of (future es old) ++ (k, row_of k (applied (held_of k es) change)) ∷ []) octets
     ∙ ap (λ (ops : List Op). rows_of (future es old) ++ (client, ops) ∷ []) row
 
-pub returns-clause-worked_out : goal.returns-clause-worked_out
-returns-clause-worked_out c =
+pub returns-in_ok-push-in-Ok-clause-worked_out : goal.returns-in_ok-push-in-Ok-clause-worked_out
+returns-in_ok-push-in-Ok-clause-worked_out c =
     λ h.
     let client = c.args.client.now in
     let es = by_client c.args.table.now.entries in
-    let key = c.in_ok-key.key in
+    let key = c.in-Ok.key in
     let change = c.in_ok-change.change in
-    let octets = c.in_ok-key.ensures ∙ c.bytes.ensures.octets in
+    let octets = c.in-Ok.ensures ∙ c.bytes.ensures.octets in
     let held = c.held.ensures in
     let fresh = subst (λ (e : Entry). IsFresh client e c.args.fresh) (sym held) c.requires.fresh in
     let is = subst (λ (e : Entry). IsWorkedOut client (base_of e) change) held (record { change_is = c.in_ok-change.ensures.change client fresh; fit = c.in_ok-change.ensures.fit client fresh; counted = c.in_ok-change.ensures.counted client fresh }) in
-    subst (AreWorkedOut es) (sym (ap staged_of c.in_ok-push.ensures.items ∙ staged_last c.args.made.now.items (key, change)))
+    subst (AreWorkedOut es) (sym (ap staged_of c.in_ok-push-in-Ok.ensures.items ∙ staged_last c.args.made.now.items (key, change)))
     (all-both (λ (g : List ℕ × Change). IsWorkedOut g.0 (base_at g.0 es) g.1) (staged_of c.args.made.now.items) ((key.items, change) ∷ []) h (subst (λ (k : List ℕ). IsWorkedOut k (base_at k es) change) (sym octets) is, tt))

@@ -10,20 +10,20 @@ use Rattle.rep_entry.proofs.Spans.{free_messages}
 use Rattle.rep_entry.proofs.Freshness.{ranges_same, rising_messages, made_messages, none_woven}
 use Rattle.rep_entry.proofs.fresh.Fresh.into_change.Goals as goal
 
-pub returns-clause-change : goal.returns-clause-change
-returns-clause-change c =
+pub returns-in-Ok-clause-change : goal.returns-in-Ok-clause-change
+returns-in-Ok-clause-change c =
     λ client fresh.
     let f = c.args.self in
     let news = c.into_puts-news.ensures in
     record {
       rising = subst Rising (sym news) (rising_messages f.news fresh.under fresh.sorted);
       made = subst AreMade (sym news) (made_messages f.news fresh.made);
-      blank = c.in_ok-room.ensures.empty;
-      log_blank = c.in_ok-log_room.ensures.empty;
+      blank = c.in-Ok.ensures.empty;
+      log_blank = c.in-Ok.ensures.log_empty;
     }
 
-pub returns-clause-fit : goal.returns-clause-fit
-returns-clause-fit c =
+pub returns-in-Ok-clause-fit : goal.returns-in-Ok-clause-fit
+returns-in-Ok-clause-fit c =
     λ client fresh.
     let f = c.args.self in
     let e = c.args.entry.now in
@@ -32,38 +32,35 @@ returns-clause-fit c =
     let news = c.into_puts-news.ensures in
     record {
       apart = subst (λ (ns : List Put). (q : ℕ × ℕ) → InOne q waiting ns) (sym news) fresh.apart;
-      room = subst (λ (ps : List Put). (length c.into_puts-news.result.items == 0) ≡ false → length ps + length c.into_puts-news.result.items ≤ vec_capacity c.in_ok-room.room) c.as_slice-waiting.ensures
-          (subst (λ (ns : List Put). (length ns == 0) ≡ false → length c.as_slice-waiting.result.now + length ns ≤ vec_capacity c.in_ok-room.room) c.as_slice.ensures.value c.in_ok-room.ensures.room);
+      room = subst (λ (ns : List Put). (length ns == 0) ≡ false → length waiting + length ns ≤ vec_capacity c.in-Ok.room) c.as_slice.ensures.value c.in-Ok.ensures.room;
       untold = λ none. subst (λ (ns : List Put). NoneCovered (ranges_in e.acks) (weave waiting ns)) (sym news) (none_woven (ranges_in e.acks) waiting f.news h.none_covered (fresh.none_comes none));
       spanned = subst (λ (ns : List Put). AreFreeOutside f.span (ranges_on (ranges_in e.acks) f.acks) (weave waiting ns)) (sym news)
           (weave_all (IsFreeOutside f.span (ranges_on (ranges_in e.acks) f.acks)) waiting (messages f.news) fresh.waits (free_messages f.span (ranges_on (ranges_in e.acks) f.acks) f.news fresh.comes));
-      log = log_fits client e h f.log (vec_capacity c.in_ok-log_room.log_room) fresh.folded fresh.ordered fresh.changes c.in_ok-log_room.ensures.room;
+      log = log_fits client e h f.log (vec_capacity c.in-Ok.log_room) fresh.folded fresh.ordered fresh.changes c.in-Ok.ensures.log_room;
       acks = acks_fit client e h f.acks fresh.origins;
-      parked = c.in_ok-parked.ensures ∙ parked_fit client e h f.log c.into_puts-news.result.items f.acks fresh.folded fresh.ordered;
+      parked = c.in-Ok.ensures.parked ∙ parked_fit client e h f.log c.into_puts-news.result.items f.acks fresh.folded fresh.ordered;
       exceptions = c.exceptions_with-exceptions.ensures ∙ exceptions_fit client e h f.log c.into_puts-news.result.items f.acks fresh.origins;
     }
 
-pub returns-clause-counted : goal.returns-clause-counted
-returns-clause-counted c =
+pub returns-in-Ok-clause-counted : goal.returns-in-Ok-clause-counted
+returns-in-Ok-clause-counted c =
     λ client fresh.
     let f = c.args.self in
     let e = c.args.entry.now in
     let ps = e.seen.pending in
     let ns = c.into_puts-news.result.items in
-    let rs = ranges_in c.latest.result.now in
-    let all : weave c.as_slice-waiting.result.now c.as_slice-2.result.now ≡ weave ps ns = λ i. weave (c.as_slice-waiting.ensures i) (c.as_slice-2.ensures.value i) in
-    let acks = ap ranges_in c.latest.ensures ∙ ranges_same e.acks f.acks in
-    let waits = c.as_slice-waiting.ensures in
-    let comes = c.as_slice-2.ensures.value ∙ c.into_puts-news.ensures in
-    c.in_ok-pending.ensures
-    (subst Rising (sym waits) fresh.entry_is.rising)
+    let rs = ranges_in c.latest-held.result.now in
+    let all : weave ps c.as_slice.result.now ≡ weave ps ns = ap (weave ps) c.as_slice.ensures.value in
+    let acks = ap ranges_in c.latest-held.ensures ∙ ranges_same e.acks f.acks in
+    let comes = c.as_slice.ensures.value ∙ c.into_puts-news.ensures in
+    c.in-Ok.ensures.pending fresh.entry_is.rising
     (subst Rising (sym comes) (rising_messages f.news fresh.under fresh.sorted))
-    (subst (AreFreeOutside f.span rs) (sym waits) (subst (λ rs. AreFreeOutside f.span rs ps) (sym acks) fresh.waits))
+    (subst (λ rs. AreFreeOutside f.span rs ps) (sym acks) fresh.waits)
     (subst (AreFreeOutside f.span rs) (sym comes) (subst (λ rs. AreFreeOutside f.span rs (messages f.news)) (sym acks) (free_messages f.span (ranges_on (ranges_in e.acks) f.acks) f.news fresh.comes)))
     ∙ (λ i. length (filter (is_left (acks i)) (all i)))
 
-pub returns-clause-row : goal.returns-clause-row
-returns-clause-row c =
+pub returns-in-Ok-clause-row : goal.returns-in-Ok-clause-row
+returns-in-Ok-clause-row c =
     λ client.
     let f = c.args.self in
     ap (λ (ns : List Put). row_on client (base_of c.args.entry.now) f.log ns f.acks) c.into_puts-news.ensures

@@ -23,27 +23,27 @@ returns-then-is_known c =
       session_skipped client (known_on e.known f.log) (stamp_on e.seen.stamp f.log) fresh.folded.visible fresh.folded.none_below c.args.name.0 c.args.name.1 c.args.change.now (left_on (base_of e) (messages f.news) f.acks) rs there (none_covered rs ps),
     )
 
-pub note-requires-clause-folded : goal.note-requires-clause-folded
-note-requires-clause-folded c =
+pub note-noted-requires-clause-folded : goal.note-noted-requires-clause-folded
+note-noted-requires-clause-folded c =
     let e = c.args.entry.now in
-    let is : whole_of e.known c.in_ok-log.log ≡ whole_after e c.args.self.now.log = c.in_ok-log.ensures ∙ ap (whole_after e) c.take.ensures.value in
+    let is : whole_of e.known c.in-Ok.log ≡ whole_after e c.args.self.now.log = c.in-Ok.ensures ∙ ap (whole_after e) c.take.ensures.value in
     subst IsFolded (sym is) c.requires.1.folded
 
-pub note-requires-clause-ordered : goal.note-requires-clause-ordered
-note-requires-clause-ordered c =
+pub note-noted-requires-clause-ordered : goal.note-noted-requires-clause-ordered
+note-noted-requires-clause-ordered c =
     let e = c.args.entry.now in
-    let is : whole_of e.known c.in_ok-log.log ≡ whole_after e c.args.self.now.log = c.in_ok-log.ensures ∙ ap (whole_after e) c.take.ensures.value in
+    let is : whole_of e.known c.in-Ok.log ≡ whole_after e c.args.self.now.log = c.in-Ok.ensures ∙ ap (whole_after e) c.take.ensures.value in
     subst (λ (w : Whole). T (is_sorted operation_cmp w.known)) (sym is) c.requires.1.ordered
 
-pub note-requires-clause-fresh : goal.note-requires-clause-fresh
-note-requires-clause-fresh c =
+pub note-noted-requires-clause-fresh : goal.note-noted-requires-clause-fresh
+note-noted-requires-clause-fresh c =
     let e = c.args.entry.now in
-    let is : whole_of e.known c.in_ok-log.log ≡ whole_after e c.args.self.now.log = c.in_ok-log.ensures ∙ ap (whole_after e) c.take.ensures.value in
+    let is : whole_of e.known c.in-Ok.log ≡ whole_after e c.args.self.now.log = c.in-Ok.ensures ∙ ap (whole_after e) c.take.ensures.value in
     ap (λ (w : Whole). find operation_cmp c.args.name w.known) is
     ∙ none_there (find operation_cmp c.args.name (known_on e.known c.args.self.now.log)) (sym c.is_known.ensures ∙ c.if-is_known.false)
 
-pub returns : goal.returns
-returns c =
+pub returns-in_ok-noted-in-Ok : goal.returns-in_ok-noted-in-Ok
+returns-in_ok-noted-in-Ok c =
     λ client fresh own.
     let f = c.args.self.now in
     let e = c.args.entry.now in
@@ -51,18 +51,19 @@ returns c =
     let s = c.args.name.0 in
     let k = c.args.name.1 in
     let x = c.args.change.now in
-    let log = c.note.new.self in
+    let log = c.note-noted.new.self in
     let more = all_of e.known log in
     let rs = ranges_on (ranges_in e.acks) f.acks in
     let ps = weave e.seen.pending (messages f.news) in
-    let is : whole_of e.known c.in_ok-log.log ≡ whole_after e f.log = c.in_ok-log.ensures ∙ ap (whole_after e) c.take.ensures.value in
+    let is : whole_of e.known c.in-Ok.log ≡ whole_after e f.log = c.in-Ok.ensures ∙ ap (whole_after e) c.take.ensures.value in
     let absent : find operation_cmp (s, k) es ≡ None = none_there (find operation_cmp (s, k) es) (sym c.is_known.ensures ∙ c.if-is_known.false) in
     let kept : IsKeptIn (((s, k), x) ∷ es) more log.stamp =
-    subst (λ (w : Whole). IsKeptIn (((s, k), x) ∷ w.known) more log.stamp) is (subst (λ y. IsKeptIn (((s, k), y) ∷ all_of e.known c.in_ok-log.log) more log.stamp) c.in_ok-change.ensures c.in_ok-note.ensures.kept) in
-    let ordered = c.in_ok-note.ensures.ordered in (
+    subst (λ (w : Whole). IsKeptIn (((s, k), x) ∷ w.known) more log.stamp) is (subst (λ y. IsKeptIn (((s, k), y) ∷ all_of e.known c.in-Ok.log) more log.stamp) c.in_ok-change.ensures c.in_ok-noted-in-Ok.ensures.kept) in
+    let ordered = c.in_ok-noted-in-Ok.ensures.ordered in
+    rw c.replace.ensures.after (
       record {
         entry_is = fresh.entry_is;
-        folded = c.in_ok-note.ensures.folded;
+        folded = c.in_ok-noted-in-Ok.ensures.folded;
         ordered = ordered;
         changes = changes_kept (((s, k), x) ∷ es) more log.stamp kept ordered (own, fresh.changes);
         sorted = fresh.sorted;

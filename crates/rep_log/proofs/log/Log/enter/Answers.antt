@@ -9,12 +9,12 @@ use Rattle.rep_log.proofs.log.Log.enter.Goals as goal
 pub insert-requires : goal.insert-requires
 insert-requires c =
     let log = c.make_way.new.self in
-    none_behind operation_cmp c.args.name (left_of c.args.known.now log) log.more (ap (find operation_cmp c.args.name) c.in_ok-make_way.ensures.same ∙ c.requires.fresh)
+    none_behind operation_cmp c.args.name (left_of c.args.known.now log) log.more (ap (find operation_cmp c.args.name) c.in-Ok.ensures.same ∙ c.requires.fresh)
 
-pub returns-clause-entered : goal.returns-clause-entered
-returns-clause-entered c =
+pub returns-in_ok-insert-in-Ok-clause-entered : goal.returns-in_ok-insert-in-Ok-clause-entered
+returns-in_ok-insert-in-Ok-clause-entered c =
     let log = c.make_way.new.self in
     let first = left_of c.args.known.now log in
-    ap (λ more. first ++ more) c.in_ok-insert.ensures
-    ∙ sym (put_behind operation_cmp operation_total c.args.name c.args.change first log.more c.in_ok-make_way.ensures.behind)
-    ∙ ap (put operation_cmp c.args.name c.args.change) c.in_ok-make_way.ensures.same
+    ap (λ more. first ++ more) c.in_ok-insert-in-Ok.ensures
+    ∙ sym (put_behind operation_cmp operation_total c.args.name c.args.change first log.more c.in-Ok.ensures.behind)
+    ∙ ap (put operation_cmp c.args.name c.args.change) c.in-Ok.ensures.same

@@ -124,11 +124,12 @@ returns-clause-folded c =
     let later : (c.args.name.1 == 0) ≡ false = grind (arith, nat_tests, c.if-name-eq0.false) in
     let is : c.left.result.now ++ c.as_slice.result.now ≡ all_of known log = λ i. c.left.ensures.items i ++ c.as_slice.ensures.items i in
     let stamp : Some c.in-Some.seen ≡ old.stamp = sym c.in-Some.is ∙ seen.0 in
-    subst (λ stamp. IsFoldedOf stamp c.in_ok-prefix.prefix c.in_ok-prefix.session (all_of known log)) (sym seen.0)
+    rw c.replace.ensures.after
+    (subst (λ stamp. IsFoldedOf stamp c.in_ok-prefix.prefix c.in_ok-prefix.session (all_of known log)) (sym seen.0)
     (folded_other c.args.name.0 c.args.name.1 c.args.change es (all_of known log) old.stamp c.requires.folded.visible c.requires.folded.none_below high c.in_ok-enter.ensures.entered
     later c.in_ok-prefix.prefix c.in_ok-prefix.session
     (c.in_ok-prefix.ensures.prefix ∙ (λ i. length (history_in (is i) (stamp i))))
-    (c.in_ok-prefix.ensures.session ∙ (λ i. session_of (history_in (is i) (stamp i)))))
+    (c.in_ok-prefix.ensures.session ∙ (λ i. session_of (history_in (is i) (stamp i))))))
 
 pub returns-clause-ordered : goal.returns-clause-ordered
 returns-clause-ordered c =

@@ -6,7 +6,7 @@ use Rattle.rep_entry.specs.declared.fresh.Fresh.{Fresh}
 use Rattle.rep_state.specs.Tables.{by_client}
 use Rattle.rep_state.specs.inner.Groups.{AreGroups, IsGroupOf}
 use Rattle.rep_state.proofs.Working.{groups_fresh}
-use Rattle.rep_state.proofs.grouping.grown.Goals as goal
+use Rattle.rep_state.proofs.grouping.groups_of.Goals as goal
 
 pub loop-op-init : goal.loop-op-init
 loop-op-init c = (

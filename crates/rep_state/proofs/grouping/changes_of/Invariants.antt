@@ -6,7 +6,7 @@ use Rattle.rep_state.specs.Tables.{by_client, rows_of}
 use Rattle.rep_state.specs.inner.Groups.{held_of, fresh_rows}
 use Rattle.rep_entry.specs.Staging.{staged_of}
 use Rattle.rep_state.specs.inner.Staging.{future, AreWorkedOut}
-use Rattle.rep_state.proofs.grouping.worked_out.Given as goal
+use Rattle.rep_state.proofs.grouping.changes_of.Given as goal
 
 abbrev pub invariant-loop-client : goal.invariant-loop-client
 invariant-loop-client l =

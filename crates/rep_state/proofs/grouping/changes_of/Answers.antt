@@ -7,7 +7,7 @@ use Rattle.rep_state.specs.Tables.{by_client, rows_of}
 use Rattle.rep_state.specs.inner.Groups.{held_of, fresh_rows}
 use Rattle.rep_entry.specs.Staging.{staged_of}
 use Rattle.rep_state.specs.inner.Staging.{future}
-use Rattle.rep_state.proofs.grouping.worked_out.Goals as goal
+use Rattle.rep_state.proofs.grouping.changes_of.Goals as goal
 
 pub push_change-requires-clause-fresh : goal.push_change-requires-clause-fresh
 push_change-requires-clause-fresh c = (subst (AllByRecursion (λ (g : List ℕ × Fresh). IsFresh g.0 (held_of g.0 (by_client c.args.table.now.entries)) g.1)) c.in-Some.ensures.steps.0 c.loop-client.invariant.2).0
