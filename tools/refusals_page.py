@@ -57,6 +57,7 @@ FAULTS = {
     "rep_ops::Delta::from_ops": "Kind, Twice, Limit, Memory | kind, twice, fault | reads",
     "rep_ops::Delta::encode": "Memory | memory | err",
     "rep_ops::Delta::decode": f"{READING} | limit, exact, only | reads",
+    "rep_ops::Delta::decode_one": f"{READING} | limit, exact, only | reads",
     "rep_ops::Delta::copy": COPY,
     "rep_model::ClientView::copy": COPY,
     "rep_plain::empty": COPY,

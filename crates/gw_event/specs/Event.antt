@@ -126,8 +126,7 @@ pub record IsTorn (old : Gateway) (delta : List Op) (new : Gateway)
   pub halted : new ≡ record old { refused = delta; drive = torn failure delta old.drive }
   pub none : made ≡ []
 
--- The plan was not carried out, because the disk failed; the excuse is sent instead of what it
--- says.
+-- The plan was not carried out: the disk failed, and the excuse is sent instead of what it says.
 pub record IsDropped (old : Gateway) (occasion : Occasion) (plan : Plan) (excuse : Out)
     (new : Gateway) (made : List (List Op)) : Type 0 where
   pub some : plan.ops ≢ []

@@ -10,9 +10,9 @@ use Rattle.byteorder.specs.Endian.{big_bytes}
 use Rattle.rep_op.specs.declared.fault.OpsFault.{OpsFault}
 use Rattle.rep_op.specs.declared.op.Op.{Op}
 use Rattle.rep_ops.specs.Reading.{AreOctets, reading as delta_reading}
-use Rattle.rep_octets.specs.Reading.{number_at}
+use Rattle.rep_read.specs.Reading.{number_at}
 use Rattle.rep_ops.specs.Spelling.{max_octets}
-use Rattle.rep_octets.proofs.Laws.{IsBytes, Taken, number_law, wide32}
+use Rattle.rep_read.proofs.Laws.{IsBytes, Taken, number_law, wide32}
 use Rattle.rep_ops.proofs.Format.{read_spelled as delta_spelled}
 use Rattle.rep_digest.specs.declared.entry.ClientEntry.{ClientEntry}
 use Rattle.rep_digest.specs.Reading.{reading as digest_reading}

@@ -1,15 +1,13 @@
 -- A digest has one answer: what is left of a set is one delta, and a delta has one split into parts that are full.
 use Rattle.std.proofs.Common.{◌≡◌, ◌⊎◌, ◌+◌, ◌<◌, ◌≤◌, List, [], ◌∷◌, ◌++◌, length, refl, sym, ap, ◌∙◌, subst, append_assoc, arith, inl, inr}
-use Rattle.std.specs.List.{AllByRecursion, flat_map}
-use Rattle.std.proofs.lemmas.Grind.{flat_map-append}
-use Rattle.std.proofs.lemmas.List.{length-append}
+use Rattle.std.specs.List.{AllByRecursion}
 use Rattle.rep_op.specs.declared.op.Op.{Op}
 use Rattle.rep_ops.specs.Making.{IsDeltaOf}
 use Rattle.rep_op.specs.Sets.{Same}
-use Rattle.rep_octets.specs.Spelling.{op_octets}
 use Rattle.rep_ops.specs.Spelling.{spelling, IsWithinLimit}
 use Rattle.rep_ops.specs.Splitting.{all_of, IsPart, AreFull, IsSplit, AreDeltasOf}
 use Rattle.rep_ops.proofs.Canonical.{one_delta}
+use Rattle.rep_ops.proofs.Sizes.{spelled_longer}
 use Rattle.rep_op.proofs.Sets.{Same-sym, Same-trans}
 use Rattle.rep_model.specs.Keep.{keep, CountsAs}
 use Rattle.rep_model.specs.Held.{IsHeld}
@@ -28,23 +26,11 @@ tail-same x y xs ys e = cc
 
 -- ---- lengths
 
-spelled-length : (ops : List Op) → length (spelling ops) ≡ 5 + length (flat_map op_octets ops)
-spelled-length ops = omega arith
-
--- more operations have no fewer octets
-longer : (a b : List Op) → length (spelling a) ≤ length (spelling (a ++ b))
-longer a b =
-    let front = spelled-length a in
-    let whole = spelled-length (a ++ b) in
-    let parts : length (flat_map op_octets (a ++ b)) ≡ length (flat_map op_octets a) + length (flat_map op_octets b) =
-    ap length (flat_map-append op_octets a b) ∙ length-append (flat_map op_octets a) (flat_map op_octets b) in
-    omega (arith, front, whole, parts)
-
 -- a part that goes on after a full one would pass the limit
 too-long : (d : List Op) (op : Op) (r : List Op) → IsWithinLimit (d ++ op ∷ r) → 8388608 < length (spelling (d ++ op ∷ [])) → ⊥
 too-long d op r within full =
     let more : length (spelling (d ++ op ∷ [])) ≤ length (spelling (d ++ op ∷ r)) =
-    subst (λ (e : List Op). length (spelling (d ++ op ∷ [])) ≤ length (spelling e)) (append_assoc d (op ∷ []) r) (longer (d ++ op ∷ []) r) in
+    subst (λ (e : List Op). length (spelling (d ++ op ∷ [])) ≤ length (spelling e)) (append_assoc d (op ∷ []) r) (spelled_longer (d ++ op ∷ []) r) in
     omega (arith, more, within, full)
 
 -- ---- the first part of two splits

@@ -49,10 +49,16 @@ pub(crate) fn waiting(text: &mut String, put: &Put) -> Result<(), AllocError> {
     let qos = put.qos.number();
     let topic = Name(put.topic.bytes());
     let body = Body(put.body.as_slice());
+    let later = later_words(put.retain);
     writeln!(
         text,
-        "waits for message {seq} of gateway {origin}: {topic} qos {qos}, {body}"
+        "waits for message {seq} of gateway {origin}: {topic} qos {qos}, {body}{later}"
     )
+}
+
+/// What stands after the body of a message.
+fn later_words(retain: bool) -> &'static str {
+    if retain { ", retained" } else { "" }
 }
 
 /// The rest of the line of a session's change.

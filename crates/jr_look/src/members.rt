@@ -76,10 +76,16 @@ pub(crate) fn waiting(text: &mut String, put: &Put) -> Result<(), AllocError> {
     let qos = put.qos.number();
     let topic = Quoted(put.topic.bytes());
     let body = Quoted(put.body.as_slice());
+    let later = later_members(put.retain);
     write!(
         text,
-        "\"origin\":{origin},\"seq\":{seq},\"topic\":{topic},\"qos\":{qos},\"body\":{body}"
+        "\"origin\":{origin},\"seq\":{seq},\"topic\":{topic},\"qos\":{qos},\"body\":{body}{later}"
     )
+}
+
+/// A further member of a message that the client gets since it was retained.
+fn later_members(retain: bool) -> &'static str {
+    if retain { ",\"retain\":true" } else { "" }
 }
 
 /// A session's change, and its members.

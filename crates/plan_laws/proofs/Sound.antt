@@ -108,7 +108,8 @@ others-left acks put rest apart all =
 -- a message that can be has a name that can be
 pub well-named : (p : Put) → IsWell p → IsNamed (name_of p)
 well-named p h =
-    let a = and_parts (nat_le 1 p.origin && nat_le 1 p.seq && nat_le p.qos 2) (nat_le (length p.body) 4096) h in
+    let m = and_parts _ _ h in
+    let a = and_parts (nat_le 1 p.origin && nat_le 1 p.seq && nat_le p.qos 2) (nat_le (length p.body) 4096) m.0 in
     let b = and_parts (nat_le 1 p.origin && nat_le 1 p.seq) (nat_le p.qos 2) a.0 in
     let c = and_parts (nat_le 1 p.origin) (nat_le 1 p.seq) b.0 in
     (c.1, c.0)

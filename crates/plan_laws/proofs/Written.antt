@@ -138,8 +138,9 @@ module _ (c : List ℕ) (g : ℕ) (numbered : nat_le 1 g ≡ true) where
 
   put-made : (p : NewPut) (n : ℕ) → IsMessage p → nat_le 1 n ≡ true → IsTrue (is_well_made (put_at_seq g p n))
   put-made p n h e =
+      and_from (nat_le 1 g && nat_le 1 n && nat_le p.qos 2 && nat_le (length p.body) 4096) true
       (and_from (nat_le 1 g && nat_le 1 n && nat_le p.qos 2) (nat_le (length p.body) 4096)
-      (and_from (nat_le 1 g && nat_le 1 n) (nat_le p.qos 2) (and_from (nat_le 1 g) (nat_le 1 n) numbered e) h.0) h.1)
+      (and_from (nat_le 1 g && nat_le 1 n) (nat_le p.qos 2) (and_from (nat_le 1 g) (nat_le 1 n) numbered e) h.0) h.1) refl
 
   puts-made : (seq : List ℕ → Option ℕ) → ((e : List ℕ) → IsNext (seq e)) → (puts : List NewPut) (before after : List Op) → AllByRecursion IsMessage puts → AreWellMade before
       → with_puts g seq puts before ≡ Some after → AreWellMade after

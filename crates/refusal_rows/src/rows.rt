@@ -41,6 +41,7 @@ pub(crate) const ROWS: &str = "
     rep_ops::Delta::from_ops
     rep_ops::Delta::encode
     rep_ops::Delta::decode
+    rep_ops::Delta::decode_one
     rep_ops::Delta::copy
     rep_model::ClientView::copy
     rep_plain::empty

@@ -5,13 +5,13 @@ use Rattle.std.specs.Int.{w16, w32, w64, to_be_bytes}
 use Rattle.std.proofs.lemmas.Bool.{and_parts, and_from, ne_eqb, eqb-false}
 use Rattle.rep_op.specs.ClientIds.{IsClientId}
 use Rattle.rep_op.specs.declared.op.Stamp.{Stamp}
-use Rattle.rep_octets.specs.Reading.{both, made, ranged, octet_at, number_at, is_counted, client_at, range_at}
-use Rattle.rep_octets.specs.Spelling.{client_octets}
-use Rattle.rep_octets.proofs.Laws.{Law, both_law, made_law, ranged_law, same_law, octet_law, number_law, wide16, wide32, wide64}
-use Rattle.rep_octets.proofs.Fields.{one_octet, IsOctet, client_law}
-use Rattle.rep_octets.proofs.Parts.{IsOne, one_law, two_law}
-use Rattle.rep_octets.proofs.Tables.{FitsCounted, counted_law}
-use Rattle.rep_octets.proofs.Operations.{range_text, FitsRange, range_law}
+use Rattle.rep_read.specs.Reading.{both, made, ranged, octet_at, number_at, is_counted, client_at, range_at}
+use Rattle.rep_op.specs.Spelling.{client_octets}
+use Rattle.rep_read.proofs.Laws.{Law, both_law, made_law, ranged_law, same_law, octet_law, number_law, wide16, wide32, wide64}
+use Rattle.rep_read.proofs.Fields.{one_octet, IsOctet, client_law}
+use Rattle.rep_read.proofs.Parts.{IsOne, one_law, two_law}
+use Rattle.rep_read.proofs.Tables.{FitsCounted, counted_law}
+use Rattle.rep_read.proofs.Operations.{range_text, FitsRange, range_law}
 use Rattle.rep_digest.specs.declared.entry.OriginEntry.{OriginEntry}
 use Rattle.rep_digest.specs.declared.entry.ClientEntry.{ClientEntry}
 use Rattle.rep_digest.specs.Digests.{has_ranges}

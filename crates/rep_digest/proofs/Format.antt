@@ -8,7 +8,7 @@ use Rattle.std.proofs.lemmas.List.Folds.{length-flat_map-take}
 use Rattle.rep_op.specs.Orders.{client_cmp}
 use Rattle.rep_ops.specs.Reading.{AreOctets, follows_last}
 use Rattle.byteorder.specs.Endian.{big_bytes}
-use Rattle.rep_octets.specs.Spelling.{client_octets}
+use Rattle.rep_op.specs.Spelling.{client_octets}
 use Rattle.rep_ops.specs.Spelling.{max_octets}
 use Rattle.rep_ops.proofs.Listed.{FitsText, Order, whole_takes, whole_again}
 use Rattle.rep_model.specs.Ranges.{AreApartFrom, AreApart}

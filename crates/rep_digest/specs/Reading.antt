@@ -7,7 +7,7 @@ use Rattle.rep_op.specs.declared.fault.OpsFault.{OpsFault}
 use Rattle.rep_op.specs.declared.op.TheConstants.{MAX_OPERATIONS}
 use Rattle.rep_op.specs.declared.op.Stamp.{Stamp}
 use Rattle.rep_op.specs.Orders.{client_cmp}
-use Rattle.rep_octets.specs.Reading.{Reader, both, made, ranged, octet_at, number_at, is_counted, client_at, range_at, counted_by}
+use Rattle.rep_read.specs.Reading.{Reader, both, made, ranged, octet_at, number_at, is_counted, client_at, range_at, counted_by}
 use Rattle.rep_ops.specs.Reading.{follows_last, reading_of}
 use Rattle.rep_digest.specs.declared.entry.OriginEntry.{OriginEntry}
 use Rattle.rep_digest.specs.declared.entry.ClientEntry.{ClientEntry}

@@ -3,7 +3,8 @@ use Rattle.std.specs.Prelude.{ℕ, ◌+◌, ◌≤◌, List, ◌∷◌, ◌++◌
 use Rattle.std.specs.List.{flat_map}
 use Rattle.byteorder.specs.Endian.{big_bytes}
 use Rattle.rep_op.specs.declared.op.Stamp.{Stamp}
-use Rattle.rep_octets.specs.Spelling.{client_octets}
+use Rattle.rep_op.specs.declared.version.Version.TheVariants.{One}
+use Rattle.rep_op.specs.Spelling.{client_octets}
 use Rattle.rep_ops.specs.Spelling.{text_of, max_octets}
 use Rattle.rep_digest.specs.declared.entry.OriginEntry.{OriginEntry}
 use Rattle.rep_digest.specs.declared.entry.ClientEntry.{ClientEntry}
@@ -36,7 +37,7 @@ entry_octets e =
 
 -- a digest is the text of its entries: the version, how many there are, and the entries
 abbrev pub spelling : List ClientEntry → List ℕ
-spelling d = text_of entry_octets d
+spelling d = text_of One entry_octets d
 
 -- the octets of the digest are at most 8 MiB
 abbrev pub IsWithinLimit : List ClientEntry → Type 0

@@ -1,7 +1,7 @@
 //! A digest.
 
 ghost use Rattle.std.specs.Prelude.{◌≡◌, ◌⊎◌, ◌++◌, List, Ok, Err, IfOk, IfErr, OnOk, OnErr};
-ghost use Rattle.rep_octets.specs.Reading.{Gives};
+ghost use Rattle.rep_read.specs.Reading.{Gives};
 ghost use Rattle.rep_digest.specs.WellMade.{IsDigest};
 ghost use Rattle.rep_digest.specs.Spelling.{spelling, IsWithinLimit};
 ghost use Rattle.rep_digest.specs.Reading.{reading};

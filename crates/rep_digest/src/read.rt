@@ -5,7 +5,7 @@ mod order;
 mod part;
 
 ghost use Rattle.std.specs.Prelude.{◌≡◌, []};
-ghost use Rattle.rep_octets.specs.Reading.{Gives};
+ghost use Rattle.rep_read.specs.Reading.{Gives};
 ghost use Rattle.rep_ops.specs.Reading.{listed_at};
 ghost use Rattle.rep_digest.specs.Reading.{entry_at, reading};
 ghost use Rattle.rep_digest.specs.Reading as spec;

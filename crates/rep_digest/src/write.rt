@@ -1,11 +1,11 @@
 //! Writing a digest, one function for each type of its spelling.
 
-#![tactic(auto, using(rep_octets::proofs::Writing::keeps_itself, rep_octets::proofs::Writing::keeps_more, rep_octets::proofs::Writing::keeps_through))]
+#![tactic(auto, using(rep_write::proofs::Writing::keeps_itself, rep_write::proofs::Writing::keeps_more, rep_write::proofs::Writing::keeps_through))]
 
 ghost use Rattle.std.specs.Prelude.{◌<◌, ◌^◌, ◌++◌, ◌∷◌, length};
 ghost use Rattle.byteorder.specs.Endian.{big_bytes};
 ghost use Rattle.std.specs.List.{flat_map, AllByRecursion};
-ghost use Rattle.rep_octets.specs.Writing.{Writes};
+ghost use Rattle.rep_write.specs.Writing.{Writes};
 ghost use Rattle.rep_digest.specs.WellMade.{IsDigest};
 ghost use Rattle.rep_digest.specs.Spelling.{range_octets, ranges_octets, origin_octets, origins_octets, seen_octets, entry_octets, spelling, IsWithinLimit};
 ghost use Rattle.rep_digest.specs.inner.Spelling.{AreFew, IsWritable};

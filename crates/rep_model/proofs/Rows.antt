@@ -1,5 +1,5 @@
 -- Small sets, and what they say.
-use Rattle.std.proofs.Common.{◌≡◌, ℕ, ◌-◌, ◌^◌, List, [], ◌∷◌, Some, None, refl}
+use Rattle.std.proofs.Common.{◌≡◌, ℕ, ◌-◌, ◌^◌, List, [], ◌∷◌, Some, None, refl, false}
 use Rattle.sn_session.specs.declared.presence.Presence.TheVariants.{Asleep, Lost}
 use Rattle.sn_session.specs.declared.session.Session.{Session}
 use Rattle.sn_session.specs.Session.{empty_session}
@@ -41,7 +41,7 @@ abbrev lost : ℕ → ℕ → ℕ → Op
 lost epoch gateway counter = OfSession client (stamp epoch gateway) counter (SetPresence Lost 0)
 
 abbrev message : ℕ → ℕ → Put
-message origin seq = record { origin = origin; seq = seq; topic = 116 ∷ []; qos = 1; body = 55 ∷ [] }
+message origin seq = record { origin = origin; seq = seq; topic = 116 ∷ []; qos = 1; retain = false; expires = 0; body = 55 ∷ [] }
 
 abbrev sent : ℕ → ℕ → Op
 sent origin seq = OfPut client (message origin seq)

@@ -25,8 +25,7 @@ operation_cmp a b = ordering_then (stamp_cmp a.0 b.0) (nat_cmp a.1 b.1)
 abbrev pub name_of : Put → ℕ × ℕ
 name_of put = (put.seq, put.origin)
 
--- the names of a client's puts are ordered by sequence number, then origin; this is the order of
--- delivery
+-- the names of a client's puts are delivered in this order: by sequence number, then origin
 abbrev pub put_cmp : ℕ × ℕ → ℕ × ℕ → Ordering
 put_cmp a b = ordering_then (nat_cmp a.0 b.0) (nat_cmp a.1 b.1)
 

@@ -69,13 +69,14 @@ IsChangeValue (Released id) = id < 2 ^ 16
 IsChangeValue (SetOutbound exchange next_id) = (next_id < 2 ^ 16) × IsExchangeValue exchange
 
 -- an operation of the program: clients and topics are such, gateways and counters have 8 bits,
--- epochs and sequence numbers 64
+-- epochs, sequence numbers and moments 64
 abbrev pub IsValue : Op → Type 0
 IsValue (OfSession client stamp counter change) =
     IsClientId client × (stamp.epoch < 2 ^ 64) × (stamp.gateway < 2 ^ 8) × (counter < 2 ^ 8)
     × IsChangeValue change
 IsValue (OfPut client put) =
     IsClientId client × (put.origin < 2 ^ 8) × (put.seq < 2 ^ 64) × IsName put.topic
+    × (put.expires < 2 ^ 64)
 IsValue (Ack client origin first last) =
     IsClientId client × (origin < 2 ^ 8) × (first < 2 ^ 64) × (last < 2 ^ 64)
 

@@ -18,9 +18,11 @@ abbrev pub is_counted : ℕ → SessionOp → Bool
 is_counted counter change = if is_take change then counter == 0 else nat_lt 0 counter
 
 -- a message has an origin, a sequence number, a quality of service of 0 to 2 and at most 4,096
--- octets
+-- octets, and does not expire
 abbrev pub is_put : Put → Bool
-is_put put = nat_le 1 put.origin && nat_le 1 put.seq && is_qos put.qos && is_message put.body
+is_put put =
+    nat_le 1 put.origin && nat_le 1 put.seq && is_qos put.qos && is_message put.body
+    && (put.expires == 0)
 
 -- A delta may hold the operation: its values are in range. Numbers begin at 1, a Take and no other
 -- change has counter 0, and a range is not empty.

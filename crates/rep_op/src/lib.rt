@@ -10,12 +10,14 @@
 //! - `order`: the order of their names, and names in common.
 //! - `range`, `well_made`: which values of a session, of a change and of an operation are in range.
 //! - `value`: what the types promise of an operation's parts.
+//! - `version`: the versions of the format, and which of them an operation needs.
 //! - `fault`: why operations, or octets, are refused.
 //!
 //! The definitions are in `specs/`: `Orders` (names, their order, names in common), `Sets` (what a
 //! set has under a name, equal sets, consistent sets), `Ranges` and `WellMade` (values in range),
-//! `Values` (what the types promise), `ClientIds` and `Faults`. Lemmas on names and on sets are in
-//! `proofs/`: `Names`, `Sets`.
+//! `Values` (what the types promise), `Versions`, `Sessions` and `Spelling` (the octets of a
+//! session, of a change, of an operation, which rep_write writes and rep_read reads), `ClientIds`
+//! and `Faults`. Lemmas on names and on sets are in `proofs/`: `Names`, `Sets`.
 #![tactic(auto)]
 
 mod client_id;
@@ -24,6 +26,7 @@ mod op;
 mod order;
 mod range;
 mod value;
+mod version;
 mod well_made;
 
 pub use client_id::ClientId;
@@ -31,4 +34,5 @@ pub use fault::OpsFault;
 pub use op::{MAX_OPERATIONS, Op, Put, Stamp};
 pub use order::{name_order, share_name};
 pub use value::is_value;
+pub use version::{Version, needs_two};
 pub use well_made::is_well_made;

@@ -14,13 +14,12 @@ use std::cmp::Ordering;
 /// The most operations of a session under one stamp: their counters are 0 to 255.
 pub const MAX_OPERATIONS: u16 = 256;
 
-/// Who writes a client's session, and since when: an epoch and the number of the only gateway that
-/// writes under this stamp. Stamps are ordered by epoch, then gateway.
+/// Who writes a client's session, and since when. Stamps are ordered by epoch, then gateway.
 #[derive(Clone, Copy, Debug, PartialEq, Eq, PartialOrd, Ord)]
 pub struct Stamp {
     /// Counts the owners of the client: the greater epoch wins.
     pub epoch: u64,
-    /// The gateway that writes under the stamp; of two with one epoch the greater wins.
+    /// The only gateway that writes under the stamp; of two with one epoch the greater wins.
     pub gateway: u8,
 }
 
@@ -35,6 +34,10 @@ pub struct Put {
     pub topic: TopicName,
     /// Its quality of service.
     pub qos: QosLevel,
+    /// Whether the client gets it since it was retained, and not since it was published.
+    pub retain: bool,
+    /// The moment from which on it need not wait; 0 for none.
+    pub expires: u64,
     /// What was published.
     pub body: Message,
 }
@@ -73,6 +76,8 @@ impl Put {
             seq: self.seq,
             topic: self.topic.copied(alloc)?,
             qos: self.qos,
+            retain: self.retain,
+            expires: self.expires,
             body: self.body.copied(alloc)?,
         })
     }

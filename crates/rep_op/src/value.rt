@@ -150,11 +150,13 @@ pub fn is_value(op: &Op)
                 origin,
                 seq,
                 topic,
+                expires,
                 ..
             } = put;
             let _topic = topic.bytes();
             let _origin = *origin;
             let _seq = *seq;
+            let _expires = *expires;
         }
         Op::Ack {
             client,

@@ -46,7 +46,7 @@ abbrev of_name : List ℕ → Stamp × ℕ → Op
 of_name c name = OfSession c name.0 name.1 (SetPresence presences.Active 0)
 
 abbrev put_of_name : List ℕ → ℕ × ℕ → Op
-put_of_name c name = OfPut c (record { origin = name.1; seq = name.0; topic = []; qos = 0; body = [] })
+put_of_name c name = OfPut c (record { origin = name.1; seq = name.0; topic = []; qos = 0; retain = false; expires = 0; body = [] })
 
 operation_skip : (c : List ℕ) (name : Stamp × ℕ) (a : Op) (S : List Op) → ties lower (of_name c name) a ≡ false → operation_at c (a ∷ S) name ≡ operation_at c S name
 operation_skip c name (OfPut d p) S e = refl

@@ -61,7 +61,7 @@ module _ (g : ℕ) (seq : List ℕ → Option ℕ) where
 
   still_free : (A : List Op) (p : NewPut) (n : ℕ) (q : NewPut) → ¬ (q.client ≡ p.client) → IsFree A q → IsFree (A ++ put_at_seq g p n ∷ []) q
   still_free A p n q h free k next =
-      puts-other q.client A (put_at_seq g p n ∷ []) (k, g) (ap (λ b. cons_option (if b then Some ((n, g), record { origin = g; seq = n; topic = p.topic; qos = p.qos; body = p.body }) else None) []) (same_client-apart q.client p.client h))
+      puts-other q.client A (put_at_seq g p n ∷ []) (k, g) (ap (λ b. cons_option (if b then Some ((n, g), record { origin = g; seq = n; topic = p.topic; qos = p.qos; retain = false; expires = 0; body = p.body }) else None) []) (same_client-apart q.client p.client h))
       ∙ free k next
 
   pub puts-fresh : (S : List Op) (new : List NewPut) (before after : List Op) → IsOneEach new → AllByRecursion (IsFree (S ++ before)) new → AreFresh S before → with_puts g seq new before ≡ Some after → AreFresh S after

@@ -31,6 +31,11 @@ pub(crate) fn read_delta(alloc: Global, bytes: &[u8]) -> Result<Delta, OpsFault>
     Delta::decode(alloc, bytes)
 }
 
+/// The delta that octets of version 1 spell.
+pub(crate) fn read_older(alloc: Global, bytes: &[u8]) -> Result<Delta, OpsFault> {
+    Delta::decode_one(alloc, bytes)
+}
+
 /// Puts the octets of a delta after those that are there.
 pub(crate) fn write_delta(alloc: Global, delta: &Delta, out: &mut Vec<u8>) -> Result<(), OpsFault> {
     delta.encode(alloc, out)

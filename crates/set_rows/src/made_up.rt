@@ -58,6 +58,8 @@ fn put(alloc: Global, client: ClientId, origin: u8, seq: u64) -> Result<Op, Stop
         seq,
         topic,
         qos: QosLevel::one(),
+        retain: false,
+        expires: 0,
         body,
     };
     Ok(Op::Put { client, put })

@@ -36,7 +36,7 @@
 //! - `op CLIENT EPOCH.GATEWAY COUNTER CHANGE`: a change of a client's session.
 //! - `ops CLIENT EPOCH.GATEWAY FIRST LAST CHANGE`: the same change under each counter from the
 //!   first to the last.
-//! - `put CLIENT ORIGIN.NUMBER TOPIC QOS BODY`: a message for a client.
+//! - `put CLIENT ORIGIN.NUMBER TOPIC QOS BODY`, or with `retained` after: a message for a client.
 //! - `puts CLIENT ORIGIN FIRST LAST TOPIC QOS SIZE`: messages of so many octets, all the letter
 //!   `a`.
 //! - `ack CLIENT ORIGIN FIRST LAST`: a client has these messages.
@@ -64,6 +64,7 @@
 //!   many; the first so many are left.
 //! - `print`, `size`: the octets; how many there are.
 //! - `read`, `count`: the delta that they spell; how many operations it has.
+//! - `older`: the delta that they spell for what knows version 1 alone.
 //! - `altered AT HEX`: how many operations it has where an octet is another; the octets stay.
 //! - `beginnings`: the same of each beginning of them but the whole; neighbours that give the same
 //!   share a line.

@@ -73,14 +73,24 @@ pub(crate) fn session_ops(
     Ok(())
 }
 
-/// `put CLIENT ORIGIN.NUMBER TOPIC QOS BODY`: a message for a client.
+/// `put CLIENT ORIGIN.NUMBER TOPIC QOS BODY`, or with `retained` after: a message for a client.
 pub(crate) fn put_op(alloc: Global, fields: &[&str]) -> Result<Op, Stop> {
-    let [name, message, about, qos, said] = fields else {
+    let [name, message, about, qos, said, later @ ..] = fields else {
         return Err(Stop::Line);
     };
     let number = message_number(message)?;
     let qos = level(qos)?;
-    put_for(alloc, name, number, about, qos, word(said))
+    let retain = is_retained(later)?;
+    put_for(alloc, name, number, about, qos, retain, word(said))
+}
+
+/// Whether a message was retained.
+fn is_retained(later: &[&str]) -> Result<bool, Stop> {
+    match later {
+        [] => Ok(false),
+        ["retained"] => Ok(true),
+        _ => Err(Stop::Line),
+    }
 }
 
 /// `puts CLIENT ORIGIN FIRST LAST TOPIC QOS SIZE`: messages of so many octets, each the letter `a`.
@@ -122,7 +132,7 @@ fn add_put(
     qos: QosLevel,
     said: &[u8],
 ) -> Result<(), Stop> {
-    let op = put_for(alloc, name, number, about, qos, said)?;
+    let op = put_for(alloc, name, number, about, qos, false, said)?;
     Ok(ops.push(op)?)
 }
 
@@ -133,10 +143,11 @@ fn put_for(
     number: (u8, u64),
     about: &str,
     qos: QosLevel,
+    retain: bool,
     said: &[u8],
 ) -> Result<Op, Stop> {
     let client = client(alloc, name)?;
-    let put = put(alloc, number, about, qos, said)?;
+    let put = put(alloc, number, about, qos, retain, said)?;
     Ok(Op::Put { client, put })
 }
 
@@ -146,6 +157,7 @@ fn put(
     number: (u8, u64),
     about: &str,
     qos: QosLevel,
+    retain: bool,
     said: &[u8],
 ) -> Result<Put, Stop> {
     let (origin, seq) = number;
@@ -156,6 +168,8 @@ fn put(
         seq,
         topic,
         qos,
+        retain,
+        expires: 0,
         body,
     })
 }

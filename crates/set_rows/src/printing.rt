@@ -60,7 +60,13 @@ fn print_put(text: &mut String, put: &Put) -> Result<(), AllocError> {
     let (origin, seq, qos) = (put.origin, put.seq, put.qos.number());
     let topic = Word(put.topic.bytes());
     let body = Word(put.body.as_slice());
-    writeln!(text, "{origin}.{seq} {topic} {qos} {body}")
+    let later = later_words(put.retain);
+    writeln!(text, "{origin}.{seq} {topic} {qos} {body}{later}")
+}
+
+/// What stands after the body of a message.
+fn later_words(retain: bool) -> &'static str {
+    if retain { " retained" } else { "" }
 }
 
 /// The rest of the line of a change; the lines of a session after `take`.

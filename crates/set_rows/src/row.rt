@@ -231,6 +231,7 @@ fn play_reading<R: Replica>(
         "print" => deltas::print(text, &row.octets),
         "size" => deltas::size(text, &row.octets),
         "read" => deltas::read(alloc, text, &row.octets),
+        "older" => deltas::older(alloc, text, &row.octets),
         "count" => deltas::counted(alloc, text, &row.octets),
         "altered" => deltas::altered(alloc, text, &row.octets, rest),
         "beginnings" => deltas::beginnings(alloc, text, &row.octets),

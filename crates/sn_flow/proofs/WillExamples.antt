@@ -32,7 +32,7 @@ had =
     }
 
 abbrev waiting : Put
-waiting = record { origin = 2; seq = 9; topic = codes "t/a"; qos = 1; body = [] }
+waiting = record { origin = 2; seq = 9; topic = codes "t/a"; qos = 1; retain = false; expires = 0; body = [] }
 
 -- the gateway 1 owns the client
 abbrev known : Seen

@@ -1,5 +1,5 @@
 -- From a draft to operations under names of the gateway's own.
-use Rattle.std.specs.Prelude.{ℕ, ◌+◌, ◌==◌, if◌then◌else◌, nat_lt, List, [], ◌∷◌, ◌++◌, map, Option, Some, None, option_and_then, unwrap_or}
+use Rattle.std.specs.Prelude.{ℕ, ◌+◌, ◌==◌, if◌then◌else◌, nat_lt, List, [], ◌∷◌, ◌++◌, map, Option, Some, None, option_and_then, unwrap_or, false}
 use Rattle.std.specs.Option.{option_map}
 use Rattle.sn_session.specs.declared.session.Session.{Session}
 use Rattle.sn_session.specs.declared.change.SessionOp.{SessionOp}
@@ -89,10 +89,19 @@ start_of g v next =
       ops = [];
     }
 
--- a message under a sequence number of the gateway's
+-- a message under a sequence number of the gateway's, as it is published: not since it was
+-- retained
 abbrev pub put_at_seq : ℕ → NewPut → ℕ → Op
 put_at_seq g p n =
-    OfPut p.client (record { origin = g; seq = n; topic = p.topic; qos = p.qos; body = p.body })
+    OfPut p.client (record {
+      origin = g;
+      seq = n;
+      topic = p.topic;
+      qos = p.qos;
+      retain = false;
+      expires = 0;
+      body = p.body;
+    })
 
 -- the messages, each under the next sequence number of its client; one message a client
 abbrev pub with_puts : ℕ → (List ℕ → Option ℕ) → List NewPut → List Op → Option (List Op)

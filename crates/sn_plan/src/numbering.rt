@@ -289,6 +289,8 @@ pub fn number_puts<R: Replica>(
             seq,
             topic,
             qos,
+            retain: false,
+            expires: 0,
             body,
         };
         push(ops, Op::Put { client, put })?;

@@ -27,7 +27,7 @@ use Rattle.sn_local.specs.Timers.{timer_of, timers_after}
 use Rattle.sn_local.specs.Locals.{Local}
 use Rattle.sn_exchange.specs.declared.form.Form.{Form}
 use Rattle.sn_exchange.specs.declared.peer.Peer.{Peer}
-use Rattle.sn_exchange.specs.Forms.{form_of, form_again, publication, qos_bits}
+use Rattle.sn_exchange.specs.Forms.{form_of, form_again, publication, qos_bits, retain_bit}
 use Rattle.sn_session.specs.declared.outbound.Outbound.{Outbound as Exchange}
 use Rattle.sn_tick.specs.declared.due.Due.{Due}
 use Rattle.sn_tick.specs.declared.due.Due.TheVariants.{Loss, Retry, Delivery}
@@ -118,8 +118,9 @@ ResentWithDup =
     → form_again predefined s put.topic ≡ Some form
     → (resend predefined peer s pending x d).sends
     ≡ (sent peer.address
-    (frames.Publish (record { bits = 128 + qos_bits put.qos + kind_bits form.kind }) form.topic
-    x.msg_id put.body) d).sends
+    (frames.Publish (record {
+      bits = 128 + qos_bits put.qos + retain_bit put.retain + kind_bits form.kind;
+    }) form.topic x.msg_id put.body) d).sends
 
 -- a plan that makes no operation and sends no frame
 abbrev pub IsQuiet : Plan → Type 0

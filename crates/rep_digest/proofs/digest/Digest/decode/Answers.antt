@@ -1,6 +1,6 @@
 use Rattle.std.proofs.Common.{Err, Ok, ap, sym, ◌∙◌, inl, inr, arith}
 use Rattle.std.proofs.lemmas.Result.{err_from_is_err_and}
-use Rattle.rep_octets.proofs.Laws.{ok_is}
+use Rattle.rep_read.proofs.Laws.{ok_is}
 use Rattle.rep_ops.proofs.Listed.{only_memory}
 use Rattle.rep_digest.specs.Reading.{reading}
 use Rattle.rep_digest.proofs.Format.{read_spelled, read_again}
