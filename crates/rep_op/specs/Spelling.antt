@@ -3,8 +3,9 @@
 use Rattle.std.specs.Prelude.{ℕ, Bool, List, [], ◌∷◌, ◌++◌, length}
 use Rattle.byteorder.specs.Endian.{big_bytes}
 use Rattle.rep_op.specs.declared.op.Put.{Put}
+use Rattle.rep_op.specs.declared.op.Retained.{Retained}
 use Rattle.rep_op.specs.declared.op.Op.{Op}
-use Rattle.rep_op.specs.declared.op.Op.TheVariants.{Session as OfSession, Put as OfPut, Ack}
+use Rattle.rep_op.specs.declared.op.Op.TheVariants.{Session as OfSession, Put as OfPut, Ack, Retain as OfRetain}
 use Rattle.rep_op.specs.declared.version.Version.{Version}
 use Rattle.rep_op.specs.declared.version.Version.TheVariants.{One, Two}
 use Rattle.rep_op.specs.Sessions.{text_octets, flag_octet, change_octets}
@@ -24,7 +25,12 @@ put_octets version put =
     (put.origin ∷ big_bytes 8 put.seq) ++ text_octets put.topic
     ++ put.qos ∷ (later_octets version put.retain put.expires ++ text_octets put.body)
 
--- an operation: its kind, its client and its fields
+-- what is retained: clock, gateway, quality of service and body
+abbrev pub retained_octets : Retained → List ℕ
+retained_octets kept =
+    big_bytes 8 kept.clock ++ kept.gateway ∷ kept.qos ∷ text_octets kept.body
+
+-- an operation: its kind, its client or its topic, and its fields
 abbrev pub op_octets : Version → Op → List ℕ
 op_octets version (OfSession client stamp counter change) =
     1 ∷ client_octets client ++ big_bytes 8 stamp.epoch
@@ -32,3 +38,4 @@ op_octets version (OfSession client stamp counter change) =
 op_octets version (OfPut client put) = 2 ∷ client_octets client ++ put_octets version put
 op_octets version (Ack client origin first last) =
     3 ∷ client_octets client ++ (origin ∷ big_bytes 8 first) ++ big_bytes 8 last
+op_octets version (OfRetain topic kept) = 4 ∷ text_octets topic ++ retained_octets kept

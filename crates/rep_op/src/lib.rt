@@ -1,9 +1,10 @@
-//! What operations are, one at a time: who they are of, how they are named, and which values they
+//! What operations are, one at a time: what they are about, how they are named, and which values they
 //! may have.
 //!
-//! A gateway's state is a *set of operations*. There are three kinds (`Op`): a change of a client's
-//! session, a message put for a client, and the acknowledgement of messages. Each has a name, and a
-//! name has one content for ever, so two sets join by union, in any order and any number of times.
+//! A gateway's state is a *set of operations*. There are four kinds (`Op`): a change of a client's
+//! session, a message put for a client, the acknowledgement of messages, and what is retained of a
+//! topic. Each has a name, and a name has one content for ever, so two sets join by union, in any
+//! order and any number of times.
 //!
 //! - `client_id`: who a session is of.
 //! - `op`: stamps, puts and operations.
@@ -31,7 +32,7 @@ mod well_made;
 
 pub use client_id::ClientId;
 pub use fault::OpsFault;
-pub use op::{MAX_OPERATIONS, Op, Put, Stamp};
+pub use op::{MAX_OPERATIONS, Op, Put, Retained, Stamp, Subject};
 pub use order::{name_order, share_name};
 pub use value::is_value;
 pub use version::{Version, needs_two};

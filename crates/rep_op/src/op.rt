@@ -1,7 +1,8 @@
 //! Stamps, puts and operations.
 
-ghost use Rattle.std.specs.Prelude.{◌≡◌, IfOk};
-ghost use Rattle.rep_op.specs.Orders.{stamp_cmp, client_of};
+ghost use Rattle.std.specs.Prelude.{◌≡◌, true, false, IfOk, MatchOption};
+ghost use Rattle.rep_op.specs.Orders.{client_of};
+ghost use Rattle.rep_op.specs.Orders as spec;
 
 use super::client_id::ClientId;
 use octets::NoMemory;
@@ -42,7 +43,29 @@ pub struct Put {
     pub body: Message,
 }
 
-/// An operation on the state of a client.
+/// What is retained of a topic, to be handed to whoever subscribes to it later.
+#[derive(Debug, Drop, PartialEq, Eq)]
+pub struct Retained {
+    /// Counts what was retained of the topic, from 1: the greatest counts.
+    pub clock: u64,
+    /// The gateway that retained it; of two with one clock the greater counts.
+    pub gateway: u8,
+    /// The quality of service that it was published at.
+    pub qos: QosLevel,
+    /// What was published; if it is empty, nothing is retained.
+    pub body: Message,
+}
+
+/// What an operation is about.
+#[derive(Debug, Drop, PartialEq, Eq)]
+pub enum Subject {
+    /// A client.
+    Client(ClientId),
+    /// A topic.
+    Topic(TopicName),
+}
+
+/// An operation on the state of a client, or of a topic.
 #[derive(Debug, Drop, PartialEq, Eq)]
 pub enum Op {
     /// A change of the session, named by client, stamp and counter. Counter 0 is a Take.
@@ -64,6 +87,11 @@ pub enum Op {
         first: u64,
         last: u64,
     },
+    /// What is retained of a topic, named by topic, clock and gateway.
+    Retain {
+        topic: TopicName,
+        retained: Retained,
+    },
 }
 
 impl Put {
@@ -83,15 +111,53 @@ impl Put {
     }
 }
 
+impl Retained {
+    /// An equal one.
+    pub fn copied(&self, alloc: Global) -> Result<Retained, NoMemory>
+        ensures { IfOk result (λ made. made ≡ self.now) }
+    {
+        Ok(Retained {
+            clock: self.clock,
+            gateway: self.gateway,
+            qos: self.qos,
+            body: self.body.copied(alloc)?,
+        })
+    }
+}
+
 impl Op {
-    /// Whose state it is an operation on.
-    pub fn client(&self) -> &ClientId
-        ensures { result.now ≡ client_of self.now }
+    /// Whose state it is an operation on; nobody's if it is of a topic.
+    pub fn client(&self) -> Option<&ClientId>
+        ensures { MatchOption result (spec.is_of_client self.now ≡ false)
+            (λ client. (spec.is_of_client self.now ≡ true) × (client.now ≡ client_of self.now)) }
     {
         match self {
-            Op::Session { client, .. } => client,
-            Op::Put { client, .. } => client,
-            Op::Ack { client, .. } => client,
+            Op::Session { client, .. } => Some(client),
+            Op::Put { client, .. } => Some(client),
+            Op::Ack { client, .. } => Some(client),
+            Op::Retain { .. } => None,
+        }
+    }
+
+    /// Whether it is an operation of a client, and not of a topic.
+    pub fn is_of_client(&self) -> bool
+        ensures { result ≡ spec.is_of_client self.now }
+    {
+        match self {
+            Op::Session { .. } | Op::Put { .. } | Op::Ack { .. } => true,
+            Op::Retain { .. } => false,
+        }
+    }
+
+    /// The client or the topic that it is about.
+    pub fn subject(&self, alloc: Global) -> Result<Subject, NoMemory>
+        ensures { IfOk result (λ made. made ≡ spec.subject_of self.now) }
+    {
+        match self {
+            Op::Session { client, .. } => Ok(Subject::Client(client.copied(alloc)?)),
+            Op::Put { client, .. } => Ok(Subject::Client(client.copied(alloc)?)),
+            Op::Ack { client, .. } => Ok(Subject::Client(client.copied(alloc)?)),
+            Op::Retain { topic, .. } => Ok(Subject::Topic(topic.copied(alloc)?)),
         }
     }
 
@@ -125,6 +191,10 @@ impl Op {
                 origin: *origin,
                 first: *first,
                 last: *last,
+            }),
+            Op::Retain { topic, retained } => Ok(Op::Retain {
+                topic: topic.copied(alloc)?,
+                retained: retained.copied(alloc)?,
             }),
         }
     }

@@ -54,6 +54,20 @@ pub fn name_order(a: &Op, b: &Op) -> Ordering
         ) => client
             .cmp(other)
             .then(origin.cmp(later).then(first.cmp(start))),
+        (Op::Ack { .. }, _) => Ordering::Less,
+        (_, Op::Ack { .. }) => Ordering::Greater,
+        (
+            Op::Retain { topic, retained },
+            Op::Retain {
+                topic: other,
+                retained: later,
+            },
+        ) => topic.cmp(other).then(
+            retained
+                .clock
+                .cmp(&later.clock)
+                .then(retained.gateway.cmp(&later.gateway)),
+        ),
     }
 }
 
@@ -97,6 +111,15 @@ pub fn share_name(a: &Op, b: &Op) -> bool
                 last: end,
             },
         ) => client == other && origin == later && first <= end && start <= last,
+        (
+            Op::Retain { topic, retained },
+            Op::Retain {
+                topic: other,
+                retained: later,
+            },
+        ) => {
+            topic == other && retained.clock == later.clock && retained.gateway == later.gateway
+        }
         _ => false,
     }
 }

@@ -169,5 +169,10 @@ pub fn is_value(op: &Op)
             let _first = *first;
             let _last = *last;
         }
+        Op::Retain { topic, retained } => {
+            let _topic = topic.bytes();
+            let _clock = retained.clock;
+            let _gateway = retained.gateway;
+        }
     }
 }

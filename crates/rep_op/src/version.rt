@@ -8,7 +8,7 @@ use super::op::Op;
 /// A version of the format in which operations are spelled.
 #[derive(Clone, Copy, Debug, PartialEq, Eq)]
 pub enum Version {
-    /// Version 1: it cannot say that a message was retained, or expires.
+    /// Version 1: it cannot say that a message was retained or expires, nor what is retained.
     One,
     /// Version 2: it says of each message whether it was retained, and when it expires.
     Two,
@@ -34,5 +34,6 @@ pub fn needs_two(op: &Op) -> bool
         Op::Session { .. } => false,
         Op::Put { put, .. } => put.retain || put.expires > 0,
         Op::Ack { .. } => false,
+        Op::Retain { .. } => true,
     }
 }

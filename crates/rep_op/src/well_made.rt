@@ -3,7 +3,7 @@
 ghost use Rattle.std.specs.Prelude.{◌≡◌};
 ghost use Rattle.rep_op.specs.WellMade as spec;
 
-use super::op::{Op, Put, Stamp};
+use super::op::{Op, Put, Retained, Stamp};
 use super::range::is_change;
 use sn_session::{MAX_MESSAGE, SessionOp};
 
@@ -36,6 +36,13 @@ fn is_put(put: &Put) -> bool
         && put.expires == 0
 }
 
+/// Whether the values of what is retained are in range.
+fn is_retained(kept: &Retained) -> bool
+    ensures { result ≡ spec.is_retained kept.now }
+{
+    kept.clock >= 1 && kept.gateway >= 1 && kept.qos.number() <= 2 && kept.body.len() <= MAX_MESSAGE
+}
+
 /// Whether a delta may hold the operation.
 pub fn is_well_made(op: &Op) -> bool
     ensures { result ≡ spec.is_well_made op.now }
@@ -54,5 +61,6 @@ pub fn is_well_made(op: &Op) -> bool
             last,
             ..
         } => *origin >= 1 && *first >= 1 && *first <= *last,
+        Op::Retain { retained, .. } => is_retained(retained),
     }
 }
