@@ -9,9 +9,9 @@ use Rattle.sn_session.specs.declared.change.SessionOp.{SessionOp}
 use Rattle.rep_op.specs.ClientIds.{IsClientId}
 use Rattle.rep_op.specs.declared.op.Put.{Put}
 use Rattle.rep_op.specs.declared.op.Op.{Op}
-use Rattle.rep_op.specs.declared.op.Op.TheVariants.{Session as OfSession, Put as OfPut, Ack}
-use Rattle.rep_read.specs.Reading.{Reader, both, by_first, ranged, octet_at, number_at, is_counted, client_at, topic_at, flag_at, qos_at, body_at, change_at, session_op_of, session_op_at, expires_at, later_at, put_op_of, put_op_at, ack_of, range_at, ack_at, of_kind_at, op_at}
-use Rattle.rep_op.specs.Spelling.{client_octets, later_octets, put_octets, op_octets}
+use Rattle.rep_op.specs.declared.op.Op.TheVariants.{Session as OfSession, Put as OfPut, Ack, Retain as OfRetain}
+use Rattle.rep_read.specs.Reading.{Reader, both, by_first, ranged, octet_at, number_at, is_counted, client_at, topic_at, flag_at, qos_at, body_at, change_at, session_op_of, session_op_at, expires_at, later_at, put_op_of, put_op_at, ack_of, range_at, ack_at, retain_op_of, retain_op_at, is_kind, of_kind_at, op_at}
+use Rattle.rep_op.specs.Spelling.{client_octets, later_octets, put_octets, retained_octets, op_octets}
 use Rattle.rep_op.specs.Sessions.{text_octets, flag_octet, change_octets}
 use Rattle.rep_op.specs.Values.{IsValue}
 use Rattle.rep_op.specs.Versions.{needs_two}
@@ -44,21 +44,31 @@ abbrev pub tail_octets : Version → Op → List ℕ
 tail_octets version (OfSession client stamp counter change) = client_octets client ++ big_bytes 8 stamp.epoch ++ stamp.gateway ∷ counter ∷ change_octets change
 tail_octets version (OfPut client put) = client_octets client ++ put_octets version put
 tail_octets version (Ack client origin first last) = client_octets client ++ (origin ∷ big_bytes 8 first) ++ big_bytes 8 last
+tail_octets version (OfRetain topic kept) = text_octets topic ++ retained_octets kept
 
 abbrev FitsSessionOp : Version → Op → Type 0
 FitsSessionOp version (OfSession c s i o) = FitsOp version (OfSession c s i o)
 FitsSessionOp version (OfPut c p) = ⊥
 FitsSessionOp version (Ack c r f l) = ⊥
+FitsSessionOp version (OfRetain t k) = ⊥
 
 abbrev FitsPutOp : Version → Op → Type 0
 FitsPutOp version (OfSession c s i o) = ⊥
 FitsPutOp version (OfPut c p) = FitsOp version (OfPut c p)
 FitsPutOp version (Ack c r f l) = ⊥
+FitsPutOp version (OfRetain t k) = ⊥
 
 abbrev FitsAck : Version → Op → Type 0
 FitsAck version (OfSession c s i o) = ⊥
 FitsAck version (OfPut c p) = ⊥
 FitsAck version (Ack c r f l) = FitsOp version (Ack c r f l)
+FitsAck version (OfRetain t k) = ⊥
+
+abbrev FitsRetain : Op → Type 0
+FitsRetain (OfSession c s i o) = ⊥
+FitsRetain (OfPut c p) = ⊥
+FitsRetain (Ack c r f l) = ⊥
+FitsRetain (OfRetain t k) = FitsOp Two (OfRetain t k)
 
 -- ---- session operations
 
@@ -84,6 +94,7 @@ session_over v x h = (
 session_back : (v : Version) (op : Op) → FitsSessionOp v op → (x : SessionParts) × (session_op_of x ≡ op) × FitsSessionParts x × (session_text x ≡ tail_octets v op)
 session_back v (OfPut c p) h = absurd h
 session_back v (Ack c r f l) h = absurd h
+session_back v (OfRetain t k) h = absurd h
 session_back v (OfSession c s i o) h =
     let m = and_parts _ _ h.made in
     let n = and_parts _ _ m.0 in
@@ -181,6 +192,7 @@ put_over v x h =
 put_back : (v : Version) (op : Op) → FitsPutOp v op → (x : PutParts) × (put_op_of x ≡ op) × FitsPutParts v x × (put_text v x ≡ tail_octets v op)
 put_back v (OfSession c s i o) h = absurd h
 put_back v (Ack c r f l) h = absurd h
+put_back v (OfRetain t k) h = absurd h
 put_back v (OfPut c p) h =
     let w = and_parts _ _ h.made in
     let m = and_parts _ _ w.0 in
@@ -242,6 +254,7 @@ ack_over v x h = (
 ack_back : (v : Version) (op : Op) → FitsAck v op → (x : AckParts) × (ack_of x ≡ op) × FitsAckParts x × (ack_text x ≡ tail_octets v op)
 ack_back v (OfSession c s i o) h = absurd h
 ack_back v (OfPut c p) h = absurd h
+ack_back v (OfRetain t k) h = absurd h
 ack_back v (Ack c r f l) h =
     let m = and_parts _ _ h.made in
     let n = and_parts _ _ m.0 in
@@ -257,52 +270,121 @@ ack_law v =
     (both_law client_at client_octets IsClientId client_law (both (ranged is_counted octet_at) range_at) _ _ (both_law (ranged is_counted octet_at) one_octet IsOne one_law range_at range_text FitsRange range_law))
     (tail_octets v) (FitsAck v) (ack_over v) (ack_back v)
 
+-- ---- what is retained
+
+abbrev RetainParts : Type 0
+RetainParts = List ℕ × (ℕ × (ℕ × (ℕ × List ℕ)))
+
+abbrev retain_text : RetainParts → List ℕ
+retain_text x = text_octets x.0 ++ (to_be_bytes w64 x.1.0 ++ (one_octet x.1.1.0 ++ (one_octet x.1.1.1.0 ++ text_octets x.1.1.1.1)))
+
+abbrev FitsRetainParts : RetainParts → Type 0
+FitsRetainParts x = IsName x.0 × (IsEight x.1.0 × (IsOne x.1.1.0 × (IsQos x.1.1.1.0 × (length x.1.1.1.1 ≤ 4096))))
+
+retain_over : (x : RetainParts) → FitsRetainParts x → (retain_text x ≡ tail_octets Two (retain_op_of x)) × FitsRetain (retain_op_of x)
+retain_over x h = (
+  refl,
+  record {
+    made = and_from _ _ (and_from _ _ (and_from _ _ h.1.0.1 h.1.1.0.1) h.1.1.1.0.1) (le-leb _ _ h.1.1.1.1);
+    value = (h.0, h.1.0.0, h.1.1.0.0);
+    said = refl;
+  },
+)
+
+retain_back : (op : Op) → FitsRetain op → (x : RetainParts) × (retain_op_of x ≡ op) × FitsRetainParts x × (retain_text x ≡ tail_octets Two op)
+retain_back (OfSession c s i o) h = absurd h
+retain_back (OfPut c p) h = absurd h
+retain_back (Ack c r f l) h = absurd h
+retain_back (OfRetain t k) h =
+    let m = and_parts _ _ h.made in
+    let n = and_parts _ _ m.0 in
+    let w = and_parts _ _ n.0 in
+    let qos : k.qos ≤ 2 = leb-true _ _ n.1 in
+    let u = h.value in
+    let x : RetainParts = (t, (k.clock, (k.gateway, (k.qos, k.body)))) in
+    let fits : FitsRetainParts x = (u.0, ((u.1, w.0), ((u.2, w.1), ((omega arith, n.1), leb-true _ _ m.1)))) in
+    (x, refl, fits, refl)
+
+retain_op_law : Law retain_op_at (tail_octets Two) FitsRetain
+unfolding retain_op_at
+retain_op_law =
+    made_law retain_op_of (both topic_at (both (ranged is_counted (number_at w64)) (both (ranged is_counted octet_at) (both qos_at body_at)))) retain_text FitsRetainParts
+    (both_law topic_at text_octets IsName topic_law
+    (both (ranged is_counted (number_at w64)) (both (ranged is_counted octet_at) (both qos_at body_at))) _ _ (both_law (ranged is_counted (number_at w64)) (to_be_bytes w64) IsEight eight_law
+    (both (ranged is_counted octet_at) (both qos_at body_at)) _ _ (both_law (ranged is_counted octet_at) one_octet IsOne one_law
+    (both qos_at body_at) _ _ (both_law qos_at one_octet IsQos qos_law
+    body_at text_octets (λ t. length t ≤ 4096) body_law))))
+    (tail_octets Two) FitsRetain retain_over retain_back
+
 -- ---- operations
 
-abbrev is_kind : ℕ → Bool
-is_kind kind = nat_le 1 kind && nat_le kind 3
+abbrev kind_at : Version → Reader ℕ
+kind_at v = ranged (is_kind v) octet_at
 
-abbrev kind_at : Reader ℕ
-kind_at = ranged is_kind octet_at
-
-kind_law : Law kind_at one_octet (λ n. IsOctet n × (is_kind n ≡ true))
-kind_law = ranged_law is_kind octet_at one_octet IsOctet octet_law
+kind_law : (v : Version) → Law (kind_at v) one_octet (λ n. IsOctet n × (is_kind v n ≡ true))
+kind_law v = ranged_law (is_kind v) octet_at one_octet IsOctet octet_law
 
 took_session : (v : Version) (kind : ℕ) (bytes after : List ℕ) (x : Op × List ℕ) → bytes ≡ kind ∷ after → kind ≡ 1 → Taken (tail_octets v) (FitsSessionOp v) after x → Taken (op_octets v) (FitsOp v) bytes x
 took_session v kind bytes after (OfSession c s i o, rest) parts is t = record { parts = parts ∙ (λ j. is j ∷ t.parts j); rest = t.rest; fits = t.fits }
 took_session v kind bytes after (OfPut c p, rest) parts is t = absurd t.fits
 took_session v kind bytes after (Ack c r f l, rest) parts is t = absurd t.fits
+took_session v kind bytes after (OfRetain u k, rest) parts is t = absurd t.fits
 
 took_put : (v : Version) (kind : ℕ) (bytes after : List ℕ) (x : Op × List ℕ) → bytes ≡ kind ∷ after → kind ≡ 2 → Taken (tail_octets v) (FitsPutOp v) after x → Taken (op_octets v) (FitsOp v) bytes x
 took_put v kind bytes after (OfSession c s i o, rest) parts is t = absurd t.fits
 took_put v kind bytes after (OfPut c p, rest) parts is t = record { parts = parts ∙ (λ j. is j ∷ t.parts j); rest = t.rest; fits = t.fits }
 took_put v kind bytes after (Ack c r f l, rest) parts is t = absurd t.fits
+took_put v kind bytes after (OfRetain u k, rest) parts is t = absurd t.fits
 
 took_ack : (v : Version) (kind : ℕ) (bytes after : List ℕ) (x : Op × List ℕ) → bytes ≡ kind ∷ after → kind ≡ 3 → Taken (tail_octets v) (FitsAck v) after x → Taken (op_octets v) (FitsOp v) bytes x
 took_ack v kind bytes after (OfSession c s i o, rest) parts is t = absurd t.fits
 took_ack v kind bytes after (OfPut c p, rest) parts is t = absurd t.fits
 took_ack v kind bytes after (Ack c r f l, rest) parts is t = record { parts = parts ∙ (λ j. is j ∷ t.parts j); rest = t.rest; fits = t.fits }
+took_ack v kind bytes after (OfRetain u k, rest) parts is t = absurd t.fits
 
-kind_three : (kind : ℕ) → is_kind kind ≡ true → (kind ≡ 1 → ⊥) → (kind ≡ 2 → ⊥) → kind ≡ 3
-kind_three kind e one two =
+took_retain : (kind : ℕ) (bytes after : List ℕ) (x : Op × List ℕ) → bytes ≡ kind ∷ after → kind ≡ 4 → Taken (tail_octets Two) FitsRetain after x → Taken (op_octets Two) (FitsOp Two) bytes x
+took_retain kind bytes after (OfSession c s i o, rest) parts is t = absurd t.fits
+took_retain kind bytes after (OfPut c p, rest) parts is t = absurd t.fits
+took_retain kind bytes after (Ack c r f l, rest) parts is t = absurd t.fits
+took_retain kind bytes after (OfRetain u k, rest) parts is t = record { parts = parts ∙ (λ j. is j ∷ t.parts j); rest = t.rest; fits = t.fits }
+
+kind_four : (kind : ℕ) → is_kind Two kind ≡ true → (kind ≡ 1 → ⊥) → (kind ≡ 2 → ⊥) → (kind ≡ 3 → ⊥) → kind ≡ 4
+kind_four kind e one two three =
+    let p : (nat_le 1 kind ≡ true) × (nat_le kind 4 ≡ true) = and_parts (nat_le 1 kind) (nat_le kind 4) e in
+    let low : 1 ≤ kind = leb-true 1 kind p.0 in
+    let high : kind ≤ 4 = leb-true kind 4 p.1 in
+    omega arith
+
+no_four : (kind : ℕ) → is_kind One kind ≡ true → (kind ≡ 1 → ⊥) → (kind ≡ 2 → ⊥) → (kind ≡ 3 → ⊥) → ⊥
+no_four kind e one two three =
     let p : (nat_le 1 kind ≡ true) × (nat_le kind 3 ≡ true) = and_parts (nat_le 1 kind) (nat_le kind 3) e in
     let low : 1 ≤ kind = leb-true 1 kind p.0 in
     let high : kind ≤ 3 = leb-true kind 3 p.1 in
     omega arith
 
+last_takes : (v : Version) (kind : ℕ) (bytes after : List ℕ) (x : Op × List ℕ) → bytes ≡ kind ∷ after → IsBytes after → is_kind v kind ≡ true → (kind ≡ 1 → ⊥) → (kind ≡ 2 → ⊥) → (kind ≡ 3 → ⊥)
+    → retain_op_at after ≡ Ok x → Taken (op_octets v) (FitsOp v) bytes x
+last_takes One kind bytes after x parts rest e one two three read = absurd (no_four kind e one two three)
+last_takes Two kind bytes after x parts rest e one two three read = took_retain kind bytes after x parts (kind_four kind e one two three) (retain_op_law.takes after x rest read)
+
 op_takes : (v : Version) (bytes : List ℕ) (x : Op × List ℕ) → IsBytes bytes → op_at v bytes ≡ Ok x → Taken (op_octets v) (FitsOp v) bytes x
 unfolding op_at
 op_takes v bytes x fits e =
-    let b = bind_ok (kind_at bytes) (λ kind. of_kind_at v kind.0 kind.1) x e in
-    let t = kind_law.takes bytes b.0 fits b.1 in
+    let b = bind_ok (kind_at v bytes) (λ kind. of_kind_at v kind.0 kind.1) x e in
+    let t = (kind_law v).takes bytes b.0 fits b.1 in
     elim (cases_Bool (b.0.0 == 1)) [
       | inl one ↦ (let read : session_op_at b.0.1 ≡ Ok x = rw one at b.2 in took_session v b.0.0 bytes b.0.1 x t.parts (eqb-true _ _ one) ((session_op_law v).takes b.0.1 x t.rest read))
       | inr not_one ↦ (
-          let next : cond (b.0.0 == 2) (put_op_at v b.0.1) (ack_at b.0.1) ≡ Ok x = rw not_one at b.2 in
+          let next : cond (b.0.0 == 2) (put_op_at v b.0.1) (cond (b.0.0 == 3) (ack_at b.0.1) (retain_op_at b.0.1)) ≡ Ok x = rw not_one at b.2 in
           elim (cases_Bool (b.0.0 == 2)) [
             | inl two ↦ (let read : put_op_at v b.0.1 ≡ Ok x = rw two at next in took_put v b.0.0 bytes b.0.1 x t.parts (eqb-true _ _ two) ((put_op_law v).takes b.0.1 x t.rest read))
-            | inr not_two ↦ (let read : ack_at b.0.1 ≡ Ok x = rw not_two at next in
-                took_ack v b.0.0 bytes b.0.1 x t.parts (kind_three b.0.0 t.fits.1 (eqb-false _ _ not_one) (eqb-false _ _ not_two)) ((ack_law v).takes b.0.1 x t.rest read))
+            | inr not_two ↦ (
+                let last : cond (b.0.0 == 3) (ack_at b.0.1) (retain_op_at b.0.1) ≡ Ok x = rw not_two at next in
+                elim (cases_Bool (b.0.0 == 3)) [
+                  | inl three ↦ (let read : ack_at b.0.1 ≡ Ok x = rw three at last in took_ack v b.0.0 bytes b.0.1 x t.parts (eqb-true _ _ three) ((ack_law v).takes b.0.1 x t.rest read))
+                  | inr not_three ↦ (let read : retain_op_at b.0.1 ≡ Ok x = rw not_three at last in
+                      last_takes v b.0.0 bytes b.0.1 x t.parts t.rest t.fits.1 (eqb-false _ _ not_one) (eqb-false _ _ not_two) (eqb-false _ _ not_three) read)
+                ])
           ])
     ]
 
@@ -311,6 +393,8 @@ unfolding op_at
 op_again v (OfSession c s i o) rest h = (session_op_law v).again (OfSession c s i o) rest h
 op_again v (OfPut c p) rest h = (put_op_law v).again (OfPut c p) rest h
 op_again v (Ack c r f l) rest h = (ack_law v).again (Ack c r f l) rest h
+op_again One (OfRetain t k) rest h = absurd (let no : false ≡ true = h.said in cc)
+op_again Two (OfRetain t k) rest h = retain_op_law.again (OfRetain t k) rest h
 
 kinds_stable : (v : Version) (kind : ℕ) (after more : List ℕ) → IsStable more (of_kind_at v kind after) (of_kind_at v kind (after ++ more))
 kinds_stable v kind after more =
@@ -318,7 +402,10 @@ kinds_stable v kind after more =
       | inl one ↦ rw one ((session_op_law v).stable after more)
       | inr not_one ↦ rw not_one (elim (cases_Bool (kind == 2)) [
         | inl two ↦ rw two ((put_op_law v).stable after more)
-        | inr not_two ↦ rw not_two ((ack_law v).stable after more)
+        | inr not_two ↦ rw not_two (elim (cases_Bool (kind == 3)) [
+          | inl three ↦ rw three ((ack_law v).stable after more)
+          | inr not_three ↦ rw not_three (retain_op_law.stable after more)
+        ])
       ])
     ]
 
@@ -327,5 +414,5 @@ unfolding op_at
 op_law v = record {
   takes = op_takes v;
   again = op_again v;
-  stable = λ bytes more. bind_stable more (kind_at bytes) (kind_at (bytes ++ more)) (λ kind. of_kind_at v kind.0 kind.1) (kind_law.stable bytes more) (λ x. kinds_stable v x.0 x.1 more);
+  stable = λ bytes more. bind_stable more (kind_at v bytes) (kind_at v (bytes ++ more)) (λ kind. of_kind_at v kind.0 kind.1) ((kind_law v).stable bytes more) (λ x. kinds_stable v x.0 x.1 more);
 }

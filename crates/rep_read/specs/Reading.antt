@@ -2,11 +2,12 @@
 -- octets after it.
 --
 -- Numbers here are octets; "2 + n" is a size of two octets and so many octets after it. An
--- operation is its kind, 1, its client, 1 + n, and by its kind:
+-- operation is its kind, 1, its client, 1 + n, or its topic, 2 + n, and by its kind:
 --   1 a change     epoch 8, gateway 1, counter 1, tag 1, the fields of that tag
 --   2 a message    origin 1, sequence number 8, topic 2 + n, quality of service 1, in version 2
 --                  retained 1 and expires 8, message 2 + n
 --   3 acknowledged origin 1, first 8, last 8
+--   4 retained     in version 2: clock 8, gateway 1, quality of service 1, message 2 + n
 -- The fields of a change, by its tag:
 --   0 a session                     1 presence 1, duration 2     2 topic id 2, known 1, name 2 + n
 --   3 filter 2 + n, quality 1       4 filter 2 + n               5 the topic of a will, or none
@@ -45,7 +46,7 @@ use Rattle.rep_op.specs.declared.version.Version.TheVariants.{One, Two}
 use Rattle.octets.specs.declared.client_id.TheConstants.{MAX_CLIENT_ID}
 use Rattle.sn_session.specs.declared.message.TheConstants.{MAX_MESSAGE}
 use Rattle.rep_op.specs.declared.op.Op.{Op}
-use Rattle.rep_op.specs.declared.op.Op.TheVariants.{Session as OfSession, Put as OfPut, Ack}
+use Rattle.rep_op.specs.declared.op.Op.TheVariants.{Session as OfSession, Put as OfPut, Ack, Retain as OfRetain}
 use Rattle.sn_tables.specs.Levels.{is_qos}
 use Rattle.sn_topic.specs.Table.{is_topic_id}
 
@@ -370,17 +371,43 @@ range_at = ranged (λ x. nat_le x.0 x.1) (both (ranged is_counted (number_at w64
 unfoldable pub ack_at : Reader Op
 ack_at = made ack_of (both client_at (both (ranged is_counted octet_at) range_at))
 
+-- what is retained, of its topic, clock, gateway, quality of service and octets
+abbrev pub retain_op_of : List ℕ × (ℕ × (ℕ × (ℕ × List ℕ))) → Op
+retain_op_of x =
+    OfRetain x.0 (record {
+      clock = x.1.0;
+      gateway = x.1.1.0;
+      qos = x.1.1.1.0;
+      body = x.1.1.1.1;
+    })
+
+-- what is retained: topic, clock, gateway, quality of service, octets
+unfoldable pub retain_op_at : Reader Op
+retain_op_at =
+    made retain_op_of (both topic_at
+    (both (ranged is_counted (number_at w64))
+    (both (ranged is_counted octet_at) (both qos_at body_at))))
+
 -- an operation, by its kind
 abbrev pub of_kind_at : Version → ℕ → Reader Op
 of_kind_at version kind bytes =
     if kind == 1 then session_op_at bytes
-    else (if kind == 2 then put_op_at version bytes else ack_at bytes)
+    else (if kind == 2 then put_op_at version bytes
+    else (if kind == 3 then ack_at bytes else retain_op_at bytes))
 
--- an operation of a text of this version: its kind, 1 to 3, then the fields of that kind
+-- the last kind that a version knows
+abbrev pub last_kind : Version → ℕ
+last_kind One = 3
+last_kind Two = 4
+
+-- a kind that the version knows
+abbrev pub is_kind : Version → ℕ → Bool
+is_kind version kind = nat_le 1 kind && nat_le kind (last_kind version)
+
+-- an operation of a text of this version: its kind, 1 to 3 or 4, then the fields of that kind
 unfoldable pub op_at : Version → Reader Op
 op_at version bytes =
-    ranged (λ kind. nat_le 1 kind && nat_le kind 3) octet_at bytes >>= λ kind.
-    of_kind_at version kind.0 kind.1
+    ranged (is_kind version) octet_at bytes >>= λ kind. of_kind_at version kind.0 kind.1
 
 -- ---- what a function returned, against reading
 

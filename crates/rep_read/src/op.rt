@@ -1,7 +1,7 @@
 //! Operations.
 
-ghost use Rattle.std.specs.Prelude.{◌≡◌};
-ghost use Rattle.rep_read.specs.Reading.{Gives, session_op_at, expires_at, later_at, put_op_at, range_at, ack_at, op_at};
+ghost use Rattle.std.specs.Prelude.{◌≡◌, nat_le};
+ghost use Rattle.rep_read.specs.Reading.{Gives, session_op_at, expires_at, later_at, put_op_at, range_at, ack_at, retain_op_at, last_kind, op_at};
 
 use super::field::{
     read_body, read_client, read_counted_eight, read_counted_octet, read_eight, read_octet,
@@ -9,7 +9,7 @@ use super::field::{
 };
 use super::part::{level_of, read_flag};
 use super::session::read_change;
-use rep_op::{Op, OpsFault, Put, Stamp, Version};
+use rep_op::{Op, OpsFault, Put, Retained, Stamp, Version};
 use std::alloc::Global;
 
 /// The session operation after its kind.
@@ -112,6 +112,36 @@ fn read_ack(alloc: Global, bytes: &[u8]) -> Result<(Op, &[u8]), OpsFault>
     Ok((op, rest))
 }
 
+/// What is retained, after its kind.
+#[tactic(auto, unfolding(crate::specs::Reading::retain_op_at, crate::specs::Reading::qos_at))]
+fn read_retain(alloc: Global, bytes: &[u8]) -> Result<(Op, &[u8]), OpsFault>
+    ensures { Gives (λ x. (x.0, x.1.now)) result (retain_op_at bytes.now) }
+{
+    let (topic, rest) = read_topic(alloc, bytes)?;
+    let (clock, rest) = read_counted_eight(rest)?;
+    let (gateway, rest) = read_counted_octet(rest)?;
+    let (number, rest) = read_octet(rest)?;
+    let qos = level_of(number)?;
+    let (body, rest) = read_body(alloc, rest)?;
+    let retained = Retained {
+        clock,
+        gateway,
+        qos,
+        body,
+    };
+    Ok((Op::Retain { topic, retained }, rest))
+}
+
+/// Whether the version knows what is retained.
+fn knows_four(version: Version) -> bool
+    ensures { result ≡ nat_le 4 (last_kind version) }
+{
+    match version {
+        Version::One => false,
+        Version::Two => true,
+    }
+}
+
 /// An operation of a text of this version.
 #[tactic(auto, unfolding(crate::specs::Reading::op_at))]
 pub fn read_op(alloc: Global, version: Version, bytes: &[u8]) -> Result<(Op, &[u8]), OpsFault>
@@ -122,6 +152,7 @@ pub fn read_op(alloc: Global, version: Version, bytes: &[u8]) -> Result<(Op, &[u
         1 => read_session_op(alloc, rest),
         2 => read_put(alloc, version, rest),
         3 => read_ack(alloc, rest),
+        4 if knows_four(version) => read_retain(alloc, rest),
         _ => Err(OpsFault::Kind),
     }
 }

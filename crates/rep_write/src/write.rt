@@ -5,12 +5,12 @@
 ghost use Rattle.std.specs.Prelude.{IsTrue, ◌∷◌, ◌++◌};
 ghost use Rattle.rep_op.specs.WellMade as spec;
 ghost use Rattle.rep_op.specs.Sessions.{text_octets};
-ghost use Rattle.rep_op.specs.Spelling.{client_octets, later_octets, put_octets, op_octets};
+ghost use Rattle.rep_op.specs.Spelling.{client_octets, later_octets, put_octets, retained_octets, op_octets};
 ghost use Rattle.rep_write.specs.Writing.{Writes};
 
 use super::write_session::{write_change, write_text};
 use octets::{NoMemory, append_u64};
-use rep_op::{ClientId, Op, Put, Version};
+use rep_op::{ClientId, Op, Put, Retained, Version};
 
 /// Writes a client.
 pub fn write_client(out: &mut Vec<u8>, client: &ClientId) -> Result<(), NoMemory>
@@ -65,6 +65,17 @@ fn write_put(out: &mut Vec<u8>, version: Version, put: &Put) -> Result<(), NoMem
     Ok(())
 }
 
+/// Writes what is retained.
+fn write_retained(out: &mut Vec<u8>, kept: &Retained) -> Result<(), NoMemory>
+    requires { IsTrue (spec.is_retained kept.now) }
+    ensures { Writes (retained_octets kept.now) out.old.items out.new.items result }
+{
+    append_u64(out, kept.clock)?;
+    out.extend_from_slice(&[kept.gateway, kept.qos.number()])?;
+    write_text(out, kept.body.as_slice())?;
+    Ok(())
+}
+
 /// Writes an operation as this version spells it.
 pub fn write_op(out: &mut Vec<u8>, version: Version, op: &Op) -> Result<(), NoMemory>
     requires { IsTrue (spec.is_well_made op.now) }
@@ -99,6 +110,11 @@ pub fn write_op(out: &mut Vec<u8>, version: Version, op: &Op) -> Result<(), NoMe
             out.push(*origin)?;
             append_u64(out, *first)?;
             append_u64(out, *last)?;
+        }
+        Op::Retain { topic, retained } => {
+            out.push(4)?;
+            write_text(out, topic.bytes())?;
+            write_retained(out, retained)?;
         }
     }
     Ok(())
