@@ -5,10 +5,10 @@ use Rattle.sn_session.specs.declared.change.SessionOp.TheVariants.{Take}
 use Rattle.sn_session.specs.Session.{empty_session}
 use Rattle.rep_op.specs.declared.fault.OpsFault.TheVariants as faults
 use Rattle.rep_op.specs.declared.op.Op.{Op}
-use Rattle.rep_op.specs.declared.op.Op.TheVariants.{Session as OfSession, Put as OfPut, Ack}
+use Rattle.rep_op.specs.declared.op.Op.TheVariants.{Session as OfSession, Put as OfPut, Ack, Retain as OfRetain}
 use Rattle.rep_ops.specs.inner.Joining.{joined}
 use Rattle.rep_ops.specs.Reading.{reading, reading_one, whole_at, text_at, needed_at, delta_at, listed_at}
-use Rattle.rep_read.specs.Reading.{op_at, ack_at, range_at, client_at}
+use Rattle.rep_read.specs.Reading.{op_at, ack_at, range_at, client_at, retain_op_at, topic_at, qos_at, body_at}
 use Rattle.rep_ops.specs.Spelling.{spelling}
 
 -- a client `s1`
@@ -51,6 +51,30 @@ retained_octets =
 
 retained_spelled : spelling (retained ∷ []) ≡ retained_octets
 retained_spelled = refl
+
+-- gateway 1 retains `x` of the topic `ab`, for the first time and at quality of service 0
+abbrev kept : Op
+kept = OfRetain (0x61 ∷ 0x62 ∷ []) (record { clock = 1; gateway = 1; qos = 0; body = 0x78 ∷ [] })
+
+abbrev kept_octets : List ℕ
+kept_octets =
+    0x02 ∷ 0x00 ∷ 0x00 ∷ 0x00 ∷ 0x01 ∷ 0x04 ∷ 0x00 ∷ 0x02 ∷ 0x61 ∷ 0x62 ∷ 0x00 ∷ 0x00 ∷ 0x00 ∷ 0x00 ∷ 0x00 ∷ 0x00 ∷ 0x00 ∷ 0x01 ∷ 0x01 ∷ 0x00
+    ∷ 0x00 ∷ 0x01 ∷ 0x78 ∷ []
+
+kept_spelled : spelling (kept ∷ []) ≡ kept_octets
+kept_spelled = refl
+
+kept_read : reading kept_octets ≡ Ok (kept ∷ [])
+unfolding whole_at delta_at needed_at listed_at op_at retain_op_at topic_at qos_at body_at
+kept_read = refl
+
+kept_in_one : reading_one kept_octets ≡ Err faults.Version
+unfolding whole_at text_at
+kept_in_one = refl
+
+-- what is retained stands after all else, by topic, then clock, then gateway
+kept_last : joined (Ack s1 2 1 2 ∷ kept ∷ []) ≡ Ack s1 2 1 2 ∷ kept ∷ []
+kept_last = refl
 
 -- version 2 of no operations was not needed
 needless : reading (0x02 ∷ 0x00 ∷ 0x00 ∷ 0x00 ∷ 0x00 ∷ []) ≡ Err faults.Version

@@ -11,7 +11,7 @@ use Rattle.byteorder.specs.Endian.{big_bytes}
 use Rattle.rep_op.specs.declared.fault.OpsFault.{OpsFault}
 use Rattle.rep_op.specs.declared.fault.OpsFault.TheVariants as faults
 use Rattle.rep_op.specs.declared.op.Op.{Op}
-use Rattle.rep_op.specs.declared.op.Op.TheVariants.{Session as OfSession, Put as OfPut, Ack}
+use Rattle.rep_op.specs.declared.op.Op.TheVariants.{Session as OfSession, Put as OfPut, Ack, Retain as OfRetain}
 use Rattle.rep_ops.specs.Deltas.{IsDelta, IsAscending, IsBefore, IsApart}
 use Rattle.rep_ops.specs.Formats.{IsSpelled}
 use Rattle.rep_ops.specs.Making.{AreWellMade}
@@ -42,8 +42,10 @@ lt_less Greater e = absurd cc
 apart_test : (a b : Op) → is_apart a b ≡ true → IsApart a b
 apart_test (OfSession c s i o) b e = tt
 apart_test (OfPut c p) b e = tt
+apart_test (OfRetain t k) b e = tt
 apart_test (Ack c r f l) (OfSession d t j o) e = tt
 apart_test (Ack c r f l) (OfPut d q) e = tt
+apart_test (Ack c r f l) (OfRetain u k) e = tt
 apart_test (Ack c r f l) (Ack d s g m) e =
     λ client origin.
     let same : (same_client c d && (r == s)) ≡ true = and_from _ _ ((bytes_eq-Decides c d).1 client) (eq-eqb r s origin) in
@@ -53,8 +55,10 @@ apart_test (Ack c r f l) (Ack d s g m) e =
 test_apart : (a b : Op) → IsApart a b → is_apart a b ≡ true
 test_apart (OfSession c s i o) b h = refl
 test_apart (OfPut c p) b h = refl
+test_apart (OfRetain t k) b h = refl
 test_apart (Ack c r f l) (OfSession d t j o) h = refl
 test_apart (Ack c r f l) (OfPut d q) h = refl
+test_apart (Ack c r f l) (OfRetain u k) h = refl
 test_apart (Ack c r f l) (Ack d s g m) h =
     elim (cases_Bool (same_client c d && (r == s))) [
       | inl same ↦ rw same (let p = and_parts _ _ same in lt-ltb _ _ (h ((bytes_eq-Decides c d).0 p.0) (eqb-true r s p.1)))

@@ -9,7 +9,7 @@ use Rattle.std.proofs.lemmas.List.{length-append, append-nil}
 use Rattle.std.proofs.lemmas.List.Folds.{length-flat_map-take, list_any-append}
 use Rattle.rep_op.specs.declared.op.Put.{Put}
 use Rattle.rep_op.specs.declared.op.Op.{Op}
-use Rattle.rep_op.specs.declared.op.Op.TheVariants.{Session as OfSession, Put as OfPut, Ack}
+use Rattle.rep_op.specs.declared.op.Op.TheVariants.{Session as OfSession, Put as OfPut, Ack, Retain as OfRetain}
 use Rattle.rep_op.specs.declared.version.Version.{Version}
 use Rattle.rep_op.specs.declared.version.Version.TheVariants.{One, Two}
 use Rattle.rep_op.specs.Versions.{needs_two}
@@ -21,6 +21,7 @@ some_octet : (version : Version) (op : Op) → 1 ≤ length (op_octets version o
 some_octet version (OfSession c s i o) = omega arith
 some_octet version (OfPut c p) = omega arith
 some_octet version (Ack c r f l) = omega arith
+some_octet version (OfRetain t k) = omega arith
 
 pub length_more : (version : Version) (ops : List Op) (i : ℕ) (op : Op) → i < length ops → op ≡ get_or ops i op
     → length (flat_map (op_octets version) (take i ops)) + length (op_octets version op) ≤ length (flat_map (op_octets version) ops)
@@ -75,6 +76,7 @@ is_longer (OfPut c p) =
     let two = put_length Two c p in
     record { least = omega (arith, one, two); most = omega (arith, one, two) }
 is_longer (Ack c r f l) = record { least = omega arith; most = omega arith }
+is_longer (OfRetain t k) = record { least = omega arith; most = omega arith }
 
 pub least_octets : (ops : List Op) → octets_in One ops ≤ octets_in Two ops
 unfolding octets_in

@@ -58,6 +58,7 @@ pub fn op_size(version: Version, op: &Op) -> usize
         Op::Session { client, change, .. } => 12 + client.bytes().len() + change_size(change),
         Op::Put { client, put } => 2 + client.bytes().len() + put_size(version, put),
         Op::Ack { client, .. } => 19 + client.bytes().len(),
+        Op::Retain { topic, retained } => 15 + topic.bytes().len() + retained.body.len(),
     }
 }
 
