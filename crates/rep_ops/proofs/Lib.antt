@@ -4,6 +4,7 @@ pub mod Versions
 pub mod Sizes
 pub mod Joined
 pub mod Making
+pub mod Sides
 pub mod Splitting
 pub mod Stable
 pub mod Canonical

@@ -2,7 +2,7 @@
 
 ghost use Rattle.std.specs.Prelude.{◌≡◌, ◌≢◌, ◌⊎◌, ◌<◌, ◌≤◌, ◌==◌, ℕ, List, [], Ok, Err, ◌++◌, length, IfOk, IfErr, OnOk, OnErr, ◌↔◌};
 ghost use Rattle.rep_ops.specs.Deltas.{IsDelta};
-ghost use Rattle.rep_op.specs.Orders.{HasTwice};
+ghost use Rattle.rep_op.specs.Orders.{HasTwice, AreOfClients, AreOfTopics};
 ghost use Rattle.rep_ops.specs.inner.Joining.{joined};
 ghost use Rattle.rep_ops.specs.Making.{AreWellMade, AreApart, IsDeltaOf, IsRefusal};
 ghost use Rattle.rep_ops.specs.Formats.{IsSpelled};
@@ -15,6 +15,7 @@ ghost use Rattle.rep_op.specs.declared.op.Op.{Op};
 
 use super::join::{has_twice, join_names, sort_by_name};
 use super::read::read_delta;
+use super::side::clients_in_front;
 use super::size::{are_well_made, is_within_limit};
 use super::write::write_delta;
 use rep_op::{Op, OpsFault, Version};
@@ -150,6 +151,16 @@ impl Delta {
         ensures values { AreValues self.now }
     {
         self.ops.as_slice()
+    }
+
+    /// The operations of clients, and those of topics, which stand after them.
+    pub fn parts(&self) -> (&[Op], &[Op])
+        ensures parts { self.now ≡ result.0.now ++ result.1.now }
+        ensures clients { AreOfClients result.0.now }
+        ensures topics { AreOfTopics result.1.now }
+    {
+        let ops = self.ops();
+        ops.split_at(clients_in_front(ops))
     }
 
     /// Whether there is no operation.

@@ -12,6 +12,7 @@
 //!   joined.
 //! - `size`, `session_size`: what a delta may hold, and how many octets it is spelled in.
 //! - `version`: the version that it is spelled in.
+//! - `side`: its operations of clients, and those of topics.
 //! - `split`, `measure`: a set of any size as deltas that fit (`deltas_of`).
 //! - `write`, `read`: the format.
 //!
@@ -28,13 +29,14 @@ mod join;
 mod measure;
 mod read;
 mod session_size;
+mod side;
 mod size;
 mod split;
 mod version;
 mod write;
 
 pub use delta::{Delta, no_prefix, one_delta, one_older_reading, one_reading};
-pub use rep_op::{ClientId, MAX_OPERATIONS, Op, OpsFault, Put, Stamp, Version};
+pub use rep_op::{ClientId, MAX_OPERATIONS, Op, OpsFault, Put, Retained, Stamp, Subject, Version};
 pub use rep_read::{
     read_client, read_counted_eight, read_counted_octet, read_eight, read_four, read_octet,
     read_two,
