@@ -281,40 +281,36 @@ one_alone : (t : List ℕ) (k : Retained) (n : ℕ × ℕ) → retain_at t (OfRe
 one_alone t k n = ap (λ b. find clock_cmp n (cons_option (if b then Some (clock_of k, k) else None) [])) ((bytes_eq-Decides t t).1 refl)
 
 -- what is retained under the next clock wins
-pub next_clock-wins : (t : List ℕ) (S : List Op) (k : Retained) → next_clock t S ≡ Some k.clock → retained t (S ++ OfRetain t k ∷ []) ≡ Some k
-next_clock-wins t S k e = go (latest t W) (latest-reaches t W (clock_of k) (ap is_some there)) (latest-there t W)
-  where
-    W : List Op
-    W = S ++ OfRetain t k ∷ []
+module _ (t : List ℕ) (S : List Op) (k : Retained) (e : next_clock t S ≡ Some k.clock) where
+  abbrev more : List Op
+  more = S ++ OfRetain t k ∷ []
 
-    itself : retain_at t (OfRetain t k ∷ []) (clock_of k) ≡ Some k
-    itself = one_alone t k (clock_of k) ∙ ap (λ o. cond (is_eq o) (Some k) None) (tied_itself clock_total (clock_of k))
+  itself : retain_at t (OfRetain t k ∷ []) (clock_of k) ≡ Some k
+  itself = one_alone t k (clock_of k) ∙ ap (λ o. cond (is_eq o) (Some k) None) (tied_itself clock_total (clock_of k))
 
-    there : retain_at t W (clock_of k) ≡ Some k
-    unfolding W
-    there = retain_at_both t S (OfRetain t k ∷ []) (clock_of k) ∙ ap (λ a. or_else a (retain_at t (OfRetain t k ∷ []) (clock_of k))) (next_clock-free t S k.clock k.gateway e) ∙ itself
+  stands : retain_at t more (clock_of k) ≡ Some k
+  stands = retain_at_both t S (OfRetain t k ∷ []) (clock_of k) ∙ ap (λ a. or_else a (retain_at t (OfRetain t k ∷ []) (clock_of k))) (next_clock-free t S k.clock k.gateway e) ∙ itself
 
-    under : (g : ℕ × ℕ) → is_lt (clock_cmp g (clock_of k)) ≡ false → is_some (retain_at t S g) ≡ true → ⊥
-    under g last h =
-        let up = clock-reaches t S g h in
-        let next = one_more_is (largest (clock_in t) S) k.clock e in
-        true≢false (sym (less_clock g (clock_of k) (omega (arith, up, next))) ∙ last)
+  under : (g : ℕ × ℕ) → is_lt (clock_cmp g (clock_of k)) ≡ false → is_some (retain_at t S g) ≡ true → ⊥
+  under g last h =
+      let up = clock-reaches t S g h in
+      let next = one_more_is (largest (clock_in t) S) k.clock e in
+      true≢false (sym (less_clock g (clock_of k) (omega (arith, up, next))) ∙ last)
 
-    tied : (g : ℕ × ℕ) → is_some (cond (is_eq (clock_cmp g (clock_of k))) (Some k) None) ≡ true → g ≡ clock_of k
-    tied g h = clock_exact g (clock_of k) (equal (clock_cmp g (clock_of k)) h)
-      where
-        equal : (o : Ordering) → is_some (cond (is_eq o) (Some k) None) ≡ true → o ≡ Equal
-        equal Less h = absurd (true≢false (sym h))
-        equal Equal h = refl
-        equal Greater h = absurd (true≢false (sym h))
+  equal : (o : Ordering) → is_some (cond (is_eq o) (Some k) None) ≡ true → o ≡ Equal
+  equal Less h = absurd (true≢false (sym h))
+  equal Equal h = refl
+  equal Greater h = absurd (true≢false (sym h))
 
-    is_last : (g : ℕ × ℕ) → is_lt (clock_cmp g (clock_of k)) ≡ false → (o : Option Retained) → retain_at t S g ≡ o → is_some (or_else o (retain_at t (OfRetain t k ∷ []) g)) ≡ true → g ≡ clock_of k
-    is_last g last (Some l) is h = absurd (under g last (ap is_some is))
-    is_last g last None is h = tied g (sym (ap is_some (one_alone t k g)) ∙ h)
+  is_last : (g : ℕ × ℕ) → is_lt (clock_cmp g (clock_of k)) ≡ false → (o : Option Retained) → retain_at t S g ≡ o → is_some (or_else o (retain_at t (OfRetain t k ∷ []) g)) ≡ true → g ≡ clock_of k
+  is_last g last (Some l) is h = absurd (under g last (ap is_some is))
+  is_last g last None is h = clock_exact g (clock_of k) (equal (clock_cmp g (clock_of k)) (sym (ap is_some (one_alone t k g)) ∙ h))
 
-    go : (v : Option (ℕ × ℕ)) → IsSomeAnd v (λ g. is_lt (clock_cmp g (clock_of k)) ≡ false) → IfSome v (λ g. is_some (retain_at t W g) ≡ true) → option_and_then (retain_at t W) v ≡ Some k
-    unfolding W
-    go None r h = absurd r
-    go (Some g) r h =
-        let same : g ≡ clock_of k = is_last g r (retain_at t S g) refl (sym (ap is_some (retain_at_both t S (OfRetain t k ∷ []) g)) ∙ h) in
-        ap (retain_at t W) same ∙ there
+  last_of : (v : Option (ℕ × ℕ)) → IsSomeAnd v (λ g. is_lt (clock_cmp g (clock_of k)) ≡ false) → IfSome v (λ g. is_some (retain_at t more g) ≡ true) → option_and_then (retain_at t more) v ≡ Some k
+  last_of None r h = absurd r
+  last_of (Some g) r h =
+      let same : g ≡ clock_of k = is_last g r (retain_at t S g) refl (sym (ap is_some (retain_at_both t S (OfRetain t k ∷ []) g)) ∙ h) in
+      ap (retain_at t more) same ∙ stands
+
+  pub next_clock-wins : retained t (S ++ OfRetain t k ∷ []) ≡ Some k
+  next_clock-wins = last_of (latest t more) (latest-reaches t more (clock_of k) (ap is_some stands)) (latest-there t more)
