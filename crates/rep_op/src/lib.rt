@@ -33,7 +33,7 @@ mod well_made;
 pub use client_id::ClientId;
 pub use fault::OpsFault;
 pub use op::{MAX_OPERATIONS, Op, Put, Retained, Stamp, Subject};
-pub use order::{name_order, share_name};
+pub use order::{clock_order, name_order, share_name, topic_order};
 pub use value::is_value;
 pub use version::{Version, needs_two};
 pub use well_made::is_well_made;

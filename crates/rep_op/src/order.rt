@@ -1,10 +1,25 @@
 //! The order of names, and names in common.
 
 ghost use Rattle.std.specs.Prelude.{◌≡◌, ◌↔◌, IsTrue};
-ghost use Rattle.rep_op.specs.Orders.{ShareName, name_cmp};
+ghost use Rattle.rep_op.specs.Orders.{ShareName, name_cmp, topic_name_cmp, clock_of, clock_cmp};
 
-use super::op::Op;
+use super::op::{Op, Retained};
+use sn_topic::TopicName;
 use std::cmp::Ordering;
+
+/// How two topics are ordered: by their octets.
+pub fn topic_order(a: &TopicName, b: &TopicName) -> Ordering
+    ensures { result ≡ topic_name_cmp a.now b.now }
+{
+    a.bytes().cmp(&b.bytes())
+}
+
+/// How what was retained of a topic is ordered: by clock, then gateway. The greatest counts.
+pub fn clock_order(a: &Retained, b: &Retained) -> Ordering
+    ensures { result ≡ clock_cmp (clock_of a.now) (clock_of b.now) }
+{
+    a.clock.cmp(&b.clock).then(a.gateway.cmp(&b.gateway))
+}
 
 /// How the names of two operations are ordered.
 pub fn name_order(a: &Op, b: &Op) -> Ordering
@@ -62,12 +77,7 @@ pub fn name_order(a: &Op, b: &Op) -> Ordering
                 topic: other,
                 retained: later,
             },
-        ) => topic.cmp(other).then(
-            retained
-                .clock
-                .cmp(&later.clock)
-                .then(retained.gateway.cmp(&later.gateway)),
-        ),
+        ) => topic_order(topic, other).then(clock_order(retained, later)),
     }
 }
 
