@@ -15,11 +15,11 @@ use Rattle.rep_op.specs.declared.op.Op.TheVariants.{Session as OfSession, Put as
 use Rattle.rep_op.specs.Orders.{topic_name_cmp, clock_of, clock_cmp}
 use Rattle.rep_op.specs.Sets.{same_topic, retain_of, retain_at, Within}
 use Rattle.rep_model.specs.Views.{names, in_order}
-use Rattle.rep_model.specs.Topics.{clocks, latest, retained, topic_in, topics, names_topic, has_topic, told_of, all_retained, is_offered, retained_matching}
+use Rattle.rep_model.specs.Topics.{clocks, latest, retained, later_of, topic_in, topics, names_topic, has_topic, told_of, all_retained, is_offered, retained_matching}
 use Rattle.rep_model.specs.Fresh.{largest, one_more, clock_in, next_clock}
 use Rattle.rep_model.specs.Keep.{is_outdone, CountsAs}
 use Rattle.rep_model.proofs.Lookup.{or_else, is_entry_of, is_some-find_map, list_any-weaker, list_any-picks, find-in_order, is_sorted-in_order}
-use Rattle.rep_model.proofs.Greatest.{has, greatest-has, greatest-reaches, largest-least, largest-reaches}
+use Rattle.rep_model.proofs.Greatest.{has, not_below, greatest-has, greatest-reaches, largest-least, largest-reaches}
 use Rattle.rep_model.proofs.Readers.{clock_total, clock_exact, topic_total, topic_exact, has_clock, retain_at_both}
 use Rattle.rep_model.proofs.Thin.{Thin, not_outdone_itself, retained-thin}
 use Rattle.rep_model.proofs.Joins.{same_by_counts}
@@ -256,6 +256,98 @@ module _ (t : List ℕ) (S : List Op) (k : Retained) where
           → (later : Retained) × (option_and_then (retain_at t W) v ≡ Some later) × ((later ≡ k) ⊎ IsTrue (is_lt (clock_cmp (clock_of k) (clock_of later))))
       go None r h = absurd r
       go (Some g) r h = found g r (retain_at t W g) refl h
+
+-- what stands in a set, and nothing later does, is retained
+pub retained-is : (t : List ℕ) (S : List Op) (k : Retained) → retain_at t S (clock_of k) ≡ Some k → ((name : ℕ × ℕ) → is_some (retain_at t S name) ≡ true → is_lt (clock_cmp (clock_of k) name) ≡ false)
+    → retained t S ≡ Some k
+retained-is t S k here last = go (latest t S) (latest-reaches t S (clock_of k) (ap is_some here)) (latest-there t S)
+  where
+    level : (g : ℕ × ℕ) → is_lt (clock_cmp g (clock_of k)) ≡ false → is_lt (clock_cmp (clock_of k) g) ≡ false → (o : Ordering) → clock_cmp g (clock_of k) ≡ o → g ≡ clock_of k
+    level g up down Less o = absurd (true≢false (sym (ap is_lt o) ∙ up))
+    level g up down Equal o = clock_exact g (clock_of k) o
+    level g up down Greater o = absurd (true≢false (sym (ap is_lt (clock_total.antisymm (clock_of k) g ∙ ap ordering_reverse o)) ∙ down))
+
+    go : (v : Option (ℕ × ℕ)) → IsSomeAnd v (λ g. is_lt (clock_cmp g (clock_of k)) ≡ false) → IfSome v (λ g. is_some (retain_at t S g) ≡ true) → option_and_then (retain_at t S) v ≡ Some k
+    go None r h = absurd r
+    go (Some g) r h = ap (retain_at t S) (level g r (last g h) (clock_cmp g (clock_of k)) refl) ∙ here
+
+-- where nothing is retained, nothing ever was
+pub retained-none : (t : List ℕ) (S : List Op) → retained t S ≡ None → (n : ℕ × ℕ) → retain_at t S n ≡ None
+retained-none t S e n = none (retain_at t S n) refl
+  where
+    none : (o : Option Retained) → retain_at t S n ≡ o → o ≡ None
+    none None is = refl
+    none (Some k) is = absurd (true≢false (sym (there-topic t S n (ap is_some is)) ∙ (topic-retained t S ∙ ap is_some e)))
+
+none_of : (t : List ℕ) (S : List Op) → ((n : ℕ × ℕ) → retain_at t S n ≡ None) → retained t S ≡ None
+none_of t S h = elim (latest t S) as (λ v. option_and_then (retain_at t S) v ≡ None) [ None ↦ refl | Some g ↦ h g ]
+
+-- what is retained of two sets together is the later of both
+module _ (t : List ℕ) (A B : List Op) where
+  in_either : (n : ℕ × ℕ) → is_some (retain_at t (A ++ B) n) ≡ true → (is_some (retain_at t A n) ≡ true) ⊎ (is_some (retain_at t B n) ≡ true)
+  in_either n h = either (retain_at t A n) (sym (ap is_some (retain_at_both t A B n)) ∙ h)
+    where
+      either : (o : Option Retained) → is_some (or_else o (retain_at t B n)) ≡ true → (is_some o ≡ true) ⊎ (is_some (retain_at t B n) ≡ true)
+      either None h = inr h
+      either (Some k) h = inl refl
+
+  in_first : (n : ℕ × ℕ) (k : Retained) → retain_at t A n ≡ Some k → retain_at t (A ++ B) n ≡ Some k
+  in_first n k e = retain_at_both t A B n ∙ ap (λ o. or_else o (retain_at t B n)) e
+
+  in_second : (n : ℕ × ℕ) → retain_at t A n ≡ None → retain_at t (A ++ B) n ≡ retain_at t B n
+  in_second n e = retain_at_both t A B n ∙ ap (λ o. or_else o (retain_at t B n)) e
+
+  two : (a b : Retained) → retained t A ≡ Some a → retained t B ≡ Some b → (l : Bool) → is_lt (clock_cmp (clock_of a) (clock_of b)) ≡ l → retained t (A ++ B) ≡ (if l then Some b else Some a)
+  two a b p q true lt =
+      let first = retained-last t A a p in
+      let second = retained-last t B b q in
+      retained-is t (A ++ B) b (in_second (clock_of b) (absent (retain_at t A (clock_of b)) refl first.1) ∙ second.0)
+      (λ n h. elim (in_either n h) [
+        | inl there ↦ upper n (first.1 n there) (is_lt (clock_cmp (clock_of b) n)) refl
+        | inr there ↦ second.1 n there
+      ])
+    where
+      absent : (o : Option Retained) → retain_at t A (clock_of b) ≡ o → ((n : ℕ × ℕ) → is_some (retain_at t A n) ≡ true → is_lt (clock_cmp (clock_of a) n) ≡ false) → retain_at t A (clock_of b) ≡ None
+      absent None is last = is
+      absent (Some k) is last = absurd (true≢false (sym lt ∙ last (clock_of b) (ap is_some is)))
+
+      less_of : (o : Ordering) → is_lt o ≡ true → o ≡ Less
+      less_of Less e = refl
+      less_of Equal e = absurd (true≢false (sym e))
+      less_of Greater e = absurd (true≢false (sym e))
+
+      -- what is not after a is not after b, which is after a
+      upper : (n : ℕ × ℕ) → is_lt (clock_cmp (clock_of a) n) ≡ false → (m : Bool) → is_lt (clock_cmp (clock_of b) n) ≡ m → m ≡ false
+      upper n last false is = refl
+      upper n last true is =
+          let far = clock_total.trans (clock_of a) (clock_of b) n (less_of _ lt) (less_of _ is) in
+          absurd (true≢false (sym (ap is_lt far) ∙ last))
+  two a b p q false lt =
+      let first = retained-last t A a p in
+      let second = retained-last t B b q in
+      retained-is t (A ++ B) a (in_first (clock_of a) a first.0)
+      (λ n h. elim (in_either n h) [
+        | inl there ↦ first.1 n there
+        | inr there ↦ not_below clock_cmp clock_total (clock_of a) (clock_of b) n lt (second.1 n there)
+      ])
+
+  by_parts : (x y : Option Retained) → retained t A ≡ x → retained t B ≡ y → retained t (A ++ B) ≡ later_of x y
+  by_parts None None p q = none_of t (A ++ B) (λ n. in_second n (retained-none t A p n) ∙ retained-none t B q n)
+  by_parts None (Some b) p q =
+      let second = retained-last t B b q in
+      retained-is t (A ++ B) b (in_second (clock_of b) (retained-none t A p (clock_of b)) ∙ second.0)
+      (λ n h. second.1 n (sym (ap is_some (in_second n (retained-none t A p n))) ∙ h))
+  by_parts (Some a) None p q =
+      let first = retained-last t A a p in
+      retained-is t (A ++ B) a (in_first (clock_of a) a first.0)
+      (λ n h. elim (in_either n h) [
+        | inl there ↦ first.1 n there
+        | inr there ↦ absurd (true≢false (sym there ∙ ap is_some (retained-none t B q n)))
+      ])
+  by_parts (Some a) (Some b) p q = two a b p q (is_lt (clock_cmp (clock_of a) (clock_of b))) refl
+
+  pub retained-both : retained t (A ++ B) ≡ later_of (retained t A) (retained t B)
+  retained-both = by_parts (retained t A) (retained t B) refl refl
 
 one_more_is : (m n : ℕ) → one_more m ≡ Some n → n ≡ m + 1
 one_more_is m n = elim (nat_lt (m + 1) (2 ^ 64)) as (λ b. (if b then Some (m + 1) else None) ≡ Some n → n ≡ m + 1) [

@@ -1,11 +1,12 @@
 -- What a set of operations retains of topics.
-use Rattle.std.specs.Prelude.{ℕ, Bool, false, ◌&&◌, nat_lt, List, [], ◌∷◌, length, filter, Option, Some, None, option_and_then, option_map}
+use Rattle.std.specs.Prelude.{ℕ, Bool, false, ◌&&◌, if◌then◌else◌, nat_lt, List, [], ◌∷◌, length, filter, Option, Some, None, option_and_then, option_map}
 use Rattle.std.specs.List.{filter_map, list_any}
+use Rattle.std.specs.Ordering.{is_lt}
 use Rattle.sn_topic.specs.Matching.{is_match}
 use Rattle.rep_op.specs.declared.op.Retained.{Retained}
 use Rattle.rep_op.specs.declared.op.Op.{Op}
 use Rattle.rep_op.specs.declared.op.Op.TheVariants.{Session as OfSession, Put as OfPut, Ack, Retain as OfRetain}
-use Rattle.rep_op.specs.Orders.{topic_name_cmp, clock_cmp}
+use Rattle.rep_op.specs.Orders.{topic_name_cmp, clock_of, clock_cmp}
 use Rattle.rep_op.specs.Sets.{same_topic, retains, retain_at}
 use Rattle.rep_model.specs.Views.{greatest, names, in_order}
 
@@ -21,6 +22,12 @@ latest t S = greatest clock_cmp (clocks t S)
 -- is none if nothing ever was.
 abbrev pub retained : List ℕ → List Op → Option Retained
 retained t S = option_and_then (retain_at t S) (latest t S)
+
+-- the later of two that were retained of a topic; of two with one name the first
+abbrev pub later_of : Option Retained → Option Retained → Option Retained
+later_of None b = b
+later_of (Some a) None = Some a
+later_of (Some a) (Some b) = if is_lt (clock_cmp (clock_of a) (clock_of b)) then Some b else Some a
 
 -- the topic of which the operation retains something, as an entry under its own name
 abbrev pub topic_in : Op → Option (List ℕ × List ℕ)

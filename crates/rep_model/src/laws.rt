@@ -12,7 +12,7 @@ ghost use Rattle.rep_op.specs.declared.op.Retained.{Retained};
 ghost use Rattle.rep_op.specs.declared.op.Op.TheVariants.{Retain as OfRetain};
 ghost use Rattle.rep_op.specs.Sets.{is_acknowledged, retain_at, IsConsistent, Agrees, Within, Same};
 ghost use Rattle.rep_model.specs.Views.{pending_at, pending, view, unseen, clients, is_named};
-ghost use Rattle.rep_model.specs.Topics.{retained, topics, has_topic, all_retained, retained_matching};
+ghost use Rattle.rep_model.specs.Topics.{retained, later_of, topics, has_topic, all_retained, retained_matching};
 ghost use Rattle.rep_model.specs.Fresh.{next_epoch, next_seq, next_clock};
 ghost use Rattle.rep_model.specs.Keep.{keep, IsKeptOf, CountsAs, Below};
 ghost use Rattle.rep_model.specs.Ranges.{is_within, in_ranges, AreApart};
@@ -56,15 +56,18 @@ pub fn leaves_only()
         ⊎ (is_acknowledged c W name ≡ true) }
 {}
 
-/// What is retained of a topic is the last: it stands in the set, and nothing later does. It leaves
-/// only by what is retained later: what is retained in a part is retained in the whole, or something
-/// later of the topic is. A next clock is free at every gateway, and what is retained under it wins.
+/// What is retained of a topic is the last: it stands in the set, and nothing later does. Of two
+/// sets together it is the later of both. It leaves only by what is retained later: what is retained
+/// in a part is retained in the whole, or something later of the topic is. A next clock is free at
+/// every gateway, and what is retained under it wins.
 pub fn retained_laws()
     ensures last { (t : List ℕ) (S : List Op) (k : Retained) → retained t S ≡ Some k
         → (retain_at t S (clock_of k) ≡ Some k)
         × ((name : ℕ × ℕ) → is_some (retain_at t S name) ≡ true
         → is_lt (clock_cmp (clock_of k) name) ≡ false) }
     ensures some { (t : List ℕ) (S : List Op) → has_topic t S ≡ is_some (retained t S) }
+    ensures both { (t : List ℕ) (A B : List Op)
+        → retained t (A ++ B) ≡ later_of (retained t A) (retained t B) }
     ensures leaves { (t : List ℕ) (S W : List Op) (k : Retained) → Within S W
         → retained t S ≡ Some k → (later : Retained) × (retained t W ≡ Some later)
         × ((later ≡ k) ⊎ IsTrue (is_lt (clock_cmp (clock_of k) (clock_of later)))) }

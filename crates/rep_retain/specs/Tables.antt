@@ -35,14 +35,11 @@ abbrev pub kept_in : List ℕ → List (List ℕ × Retained) → Option Retaine
 kept_in t [] = None
 kept_in t (e ∷ es) = if same_topic t e.0 then Some e.1 else kept_in t es
 
--- the later of two, and of two with one name the first
-abbrev pub later_of : Retained → Retained → Retained
-later_of own kept = if is_lt (clock_cmp (clock_of own) (clock_of kept)) then kept else own
-
 -- what a table has of a topic once one more was retained of it
 abbrev pub latest_of : Option Retained → Retained → Retained
 latest_of None kept = kept
-latest_of (Some own) kept = later_of own kept
+latest_of (Some own) kept =
+    if is_lt (clock_cmp (clock_of own) (clock_of kept)) then kept else own
 
 -- the table once more was retained of a topic
 abbrev pub with_kept : List ℕ → Retained → List (List ℕ × Retained) → List (List ℕ × Retained)
