@@ -122,6 +122,18 @@ no_clock t (OfPut d p) e = refl
 no_clock t (Ack d r f l) e = refl
 no_clock t (OfRetain u k) e = absurd (true≢false (sym e))
 
+-- ---- a set of topics alone
+
+module _ (S : List Op) (t : AreOfTopics S) (c : List ℕ) where
+  pub no_operations : operations c S ≡ []
+  no_operations = unread (operation_of c) false (no_operation c) S t
+
+  pub no_puts : puts c S ≡ []
+  no_puts = unread (put_of c) false (no_put c) S t
+
+  pub none_acknowledged : (name : ℕ × ℕ) → is_acknowledged c S name ≡ false
+  none_acknowledged name = unread_any (acknowledges c name) false (no_acknowledgement c name) S t
+
 -- ---- two sets
 
 module _ (A T : List Op) where

@@ -1,5 +1,5 @@
 -- What is retained of topics: of thin sets the same; and the law of the last.
-use Rattle.std.proofs.Common.{◌≡◌, ℕ, ◌+◌, ◌<◌, ◌≤◌, ◌^◌, Bool, true, false, cond, ◌||◌, ◌⊎◌, ◌↔◌, nat_lt, if◌then◌else◌, List, [], ◌∷◌, ◌++◌, filter, filter_map, Option, Some, None, is_some, IsTrue, IfSome, IsSomeAnd, Contains, refl, sym, ap, ◌∙◌, subst, true≢false, inl, inr, Ordering, Less, Equal, Greater, nat_cmp, is_eq, is_lt, arith, le_antisymm}
+use Rattle.std.proofs.Common.{◌≡◌, ℕ, ◌+◌, ◌<◌, ◌≤◌, ◌^◌, Bool, true, false, cond, not, ◌||◌, ◌⊎◌, ◌↔◌, nat_lt, if◌then◌else◌, List, [], ◌∷◌, ◌++◌, filter, filter_map, Option, Some, None, is_some, IsTrue, IfSome, IsSomeAnd, Contains, refl, sym, ap, ◌∙◌, subst, true≢false, inl, inr, Ordering, Less, Equal, Greater, nat_cmp, is_eq, is_lt, arith, le_antisymm}
 use Rattle.std.specs.Prelude.{option_and_then, option_map}
 use Rattle.std.specs.List.{list_any, cons_option}
 use Rattle.std.specs.List.Sorted.{IsStrictlySortedBy}
@@ -17,10 +17,10 @@ use Rattle.rep_op.specs.Sets.{same_topic, retain_of, retain_at, Within}
 use Rattle.rep_model.specs.Views.{names, in_order}
 use Rattle.rep_model.specs.Topics.{clocks, latest, retained, later_of, topic_in, topics, names_topic, has_topic, told_of, all_retained, is_offered, retained_matching}
 use Rattle.rep_model.specs.Fresh.{largest, one_more, clock_in, next_clock}
-use Rattle.rep_model.specs.Keep.{is_outdone, CountsAs}
+use Rattle.rep_model.specs.Keep.{is_outdone, keep, CountsAs}
 use Rattle.rep_model.proofs.Lookup.{or_else, is_entry_of, is_some-find_map, list_any-weaker, list_any-picks, find-in_order, is_sorted-in_order}
 use Rattle.rep_model.proofs.Greatest.{has, not_below, greatest-has, greatest-reaches, largest-least, largest-reaches}
-use Rattle.rep_model.proofs.Readers.{clock_total, clock_exact, topic_total, topic_exact, has_clock, retain_at_both}
+use Rattle.rep_model.proofs.Readers.{clock_total, clock_exact, topic_total, topic_exact, has_clock, retain_at_both, retain_at_keep}
 use Rattle.rep_model.proofs.Thin.{Thin, not_outdone_itself, retained-thin}
 use Rattle.rep_model.proofs.Joins.{same_by_counts}
 use Rattle.rep_model.proofs.Named.{one_client, sorted_names}
@@ -270,6 +270,21 @@ retained-is t S k here last = go (latest t S) (latest-reaches t S (clock_of k) (
     go : (v : Option (ℕ × ℕ)) → IsSomeAnd v (λ g. is_lt (clock_cmp g (clock_of k)) ≡ false) → IfSome v (λ g. is_some (retain_at t S g) ≡ true) → option_and_then (retain_at t S) v ≡ Some k
     go None r h = absurd r
     go (Some g) r h = ap (retain_at t S) (level g r (last g h) (clock_cmp g (clock_of k)) refl) ∙ here
+
+-- what must be kept under a name is what is retained
+pub kept-last : (t : List ℕ) (S : List Op) (n : ℕ × ℕ) (k : Retained) → retain_at t (keep S) n ≡ Some k → retained t S ≡ Some k
+kept-last t S n k e =
+    let parts = kept_parts (is_outdone n (latest t S)) (retain_at t S n) (sym (retain_at_keep t S n) ∙ e) in
+    let named : clock_of k ≡ n = (retain_occurs t S n k parts.1).1 in
+    retained-is t S k (ap (retain_at t S) named ∙ parts.1) (λ m h. ap (λ (q : ℕ × ℕ). is_lt (clock_cmp q m)) named ∙ not_after m (latest t S) (latest-reaches t S m h) parts.0)
+  where
+    kept_parts : (b : Bool) (o : Option Retained) → cond (not b) o None ≡ Some k → (b ≡ false) × (o ≡ Some k)
+    kept_parts false o h = (refl, h)
+    kept_parts true o h = absurd (true≢false (sym (ap is_some h)))
+
+    not_after : (m : ℕ × ℕ) (v : Option (ℕ × ℕ)) → IsSomeAnd v (λ g. is_lt (clock_cmp g m) ≡ false) → is_outdone n v ≡ false → is_lt (clock_cmp n m) ≡ false
+    not_after m None r h = absurd r
+    not_after m (Some g) r h = not_below clock_cmp clock_total n g m h r
 
 -- where nothing is retained, nothing ever was
 pub retained-none : (t : List ℕ) (S : List Op) → retained t S ≡ None → (n : ℕ × ℕ) → retain_at t S n ≡ None
