@@ -51,7 +51,7 @@ turned t u e =
 -- ---- what a table has of a topic
 
 -- at most one, under its name
-abbrev one_of : Option Retained → List ((ℕ × ℕ) × Retained)
+abbrev pub one_of : Option Retained → List ((ℕ × ℕ) × Retained)
 one_of None = []
 one_of (Some k) = (clock_of k, k) ∷ []
 

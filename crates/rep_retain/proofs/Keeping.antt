@@ -19,7 +19,7 @@ use Rattle.rep_model.proofs.Readers.{clock_total, clock_exact, operation_at_keep
 use Rattle.rep_model.proofs.Topics.{retained-last, kept-last}
 use Rattle.rep_model.proofs.Beside.{no_operations, no_puts, none_acknowledged}
 use Rattle.rep_retain.specs.Tables.{entry_cmp, ops_of, kept_in, with_ops}
-use Rattle.rep_retain.proofs.Found.{are_of_topics, retains_found, ascends_ops, retained_found, retained_ops}
+use Rattle.rep_retain.proofs.Found.{one_of, are_of_topics, retains_found, ascends_ops, retained_found, retained_ops}
 
 nothing : {X : Type 0} (b : Bool) (o : Option X) (x : X) → o ≡ None → cond b o None ≡ Some x → ⊥
 nothing true o x none e = true≢false (sym (ap is_some (sym none ∙ e)))
@@ -32,11 +32,7 @@ under n (Some k) = cond (is_eq (clock_cmp n (clock_of k))) (Some k) None
 
 pub retain_at_found : (t : List ℕ) (es : List (List ℕ × Retained)) → Ascends entry_cmp es → (n : ℕ × ℕ) → retain_at t (ops_of es) n ≡ under n (kept_in t es)
 unfolding under
-retain_at_found t es h n = ap (find clock_cmp n) (retains_found t es h) ∙ elim (kept_in t es) as (λ o. find clock_cmp n (one_under o) ≡ under n o) [ None ↦ refl | Some k ↦ refl ]
-  where
-    abbrev one_under : Option Retained → List ((ℕ × ℕ) × Retained)
-    one_under None = []
-    one_under (Some k) = (clock_of k, k) ∷ []
+retain_at_found t es h n = ap (find clock_cmp n) (retains_found t es h) ∙ elim (kept_in t es) as (λ o. find clock_cmp n (one_of o) ≡ under n o) [ None ↦ refl | Some k ↦ refl ]
 
 module _ (es : List (List ℕ × Retained)) (ops : List Op) (h : Ascends entry_cmp es) (t : AreOfTopics ops) where
   abbrev both : List Op
