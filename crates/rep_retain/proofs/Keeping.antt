@@ -70,7 +70,6 @@ module _ (es : List (List ℕ × Retained)) (ops : List Op) (h : Ascends entry_c
   upper_retains u n k e = go (kept_in u next) (sym (kept_is u)) (sym (retain_at_found u next (ascends_ops es ops h) n) ∙ e)
     where
       go : (o : Option Retained) → retained u both ≡ o → under n o ≡ Some k → retain_at u both n ≡ Some k
-      unfolding under
       go None is e = absurd (true≢false (sym (ap is_some e)))
       go (Some l) is e = named (clock_cmp n (clock_of l)) refl e
         where
