@@ -4,6 +4,12 @@
 //! clock, and of gateways with one clock the greatest. It stands beside a replica of clients; both
 //! together are a replica.
 //!
+//! - `table`: the table (`Topics`).
+//!
 //! The definitions are in `specs/`: `Tables` (a table, and what it becomes with operations),
 //! `Refusals` (why it takes no more). `proofs/Rows` has small tables.
 #![tactic(auto)]
+
+mod table;
+
+pub use table::Topics;
