@@ -134,6 +134,15 @@ module _ (S : List Op) (t : AreOfTopics S) (c : List ℕ) where
   pub none_acknowledged : (name : ℕ × ℕ) → is_acknowledged c S name ≡ false
   none_acknowledged name = unread_any (acknowledges c name) false (no_acknowledgement c name) S t
 
+-- ---- a set of clients alone
+
+module _ (S : List Op) (c : AreOfClients S) where
+  pub no_retains : (t : List ℕ) → retains t S ≡ []
+  no_retains t = unread (retain_of t) true (no_retain t) S c
+
+  pub no_topics_of : topics S ≡ []
+  no_topics_of = ap (λ es. names (in_order topic_name_cmp es)) (unread topic_in true no_topic S c)
+
 -- ---- two sets
 
 module _ (A T : List Op) where

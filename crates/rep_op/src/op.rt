@@ -1,6 +1,6 @@
 //! Stamps, puts and operations.
 
-ghost use Rattle.std.specs.Prelude.{◌≡◌, true, false, IfOk, MatchOption};
+ghost use Rattle.std.specs.Prelude.{◌≡◌, true, IfOk};
 ghost use Rattle.rep_op.specs.Orders.{client_of};
 ghost use Rattle.rep_op.specs.Orders as spec;
 
@@ -126,16 +126,16 @@ impl Retained {
 }
 
 impl Op {
-    /// Whose state it is an operation on; nobody's if it is of a topic.
-    pub fn client(&self) -> Option<&ClientId>
-        ensures { MatchOption result (spec.is_of_client self.now ≡ false)
-            (λ client. (spec.is_of_client self.now ≡ true) × (client.now ≡ client_of self.now)) }
+    /// Whose state it is an operation on, if it is not of a topic.
+    pub fn client(&self) -> &ClientId
+        requires { spec.is_of_client self.now ≡ true }
+        ensures { result.now ≡ client_of self.now }
     {
         match self {
-            Op::Session { client, .. } => Some(client),
-            Op::Put { client, .. } => Some(client),
-            Op::Ack { client, .. } => Some(client),
-            Op::Retain { .. } => None,
+            Op::Session { client, .. } => client,
+            Op::Put { client, .. } => client,
+            Op::Ack { client, .. } => client,
+            Op::Retain { .. } => unreachable!(),
         }
     }
 

@@ -158,6 +158,7 @@ impl Delta {
         ensures parts { self.now ≡ result.0.now ++ result.1.now }
         ensures clients { AreOfClients result.0.now }
         ensures topics { AreOfTopics result.1.now }
+        ensures made { AreWellMade self.now }
     {
         let ops = self.ops();
         ops.split_at(clients_in_front(ops))

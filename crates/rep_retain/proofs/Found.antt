@@ -35,13 +35,13 @@ are_of_topics (e ∷ es) = (refl, are_of_topics es)
 
 -- ---- topics that are compared
 
-apart : (t u : List ℕ) (o : Ordering) → topic_name_cmp t u ≡ o → is_eq o ≡ false → same_topic t u ≡ false
+pub apart : (t u : List ℕ) (o : Ordering) → topic_name_cmp t u ≡ o → is_eq o ≡ false → same_topic t u ≡ false
 apart t u o e no = sym (is_eq-slice_cmp t u) ∙ ap is_eq e ∙ no
 
-tied : (t u : List ℕ) → topic_name_cmp t u ≡ Equal → t ≡ u
+pub tied : (t u : List ℕ) → topic_name_cmp t u ≡ Equal → t ≡ u
 tied t u e = topic_exact t u e
 
-turned : (t u : List ℕ) → same_topic t u ≡ false → same_topic u t ≡ false
+pub turned : (t u : List ℕ) → same_topic t u ≡ false → same_topic u t ≡ false
 turned t u e =
     elim (same_topic u t) as (λ b. same_topic u t ≡ b → b ≡ false) [
       | true ↦ λ q. absurd (true≢false (sym ((bytes_eq-Decides t u).1 (sym (same_topic-true u t q))) ∙ e))
@@ -100,7 +100,7 @@ kept_with u t v (a ∷ es) =
       | false ↦ λ _. refl
     ] refl
 
-ascends_op : (es : List (List ℕ × Retained)) (op : Op) → Ascends entry_cmp es → Ascends entry_cmp (with_op es op)
+pub ascends_op : (es : List (List ℕ × Retained)) (op : Op) → Ascends entry_cmp es → Ascends entry_cmp (with_op es op)
 ascends_op es (OfSession c s i o) h = h
 ascends_op es (OfPut c p) h = h
 ascends_op es (Ack c r f l) h = h

@@ -19,6 +19,7 @@ use Rattle.rep_model.proofs.Readers.{clock_total, clock_exact, operation_at_keep
 use Rattle.rep_model.proofs.Topics.{retained-last, kept-last}
 use Rattle.rep_model.proofs.Beside.{no_operations, no_puts, none_acknowledged}
 use Rattle.rep_retain.specs.Tables.{entry_cmp, ops_of, kept_in, with_ops}
+use Rattle.rep_retain.specs.Refusals.{under}
 use Rattle.rep_retain.proofs.Found.{one_of, are_of_topics, retains_found, ascends_ops, retained_found, retained_ops}
 
 nothing : {X : Type 0} (b : Bool) (o : Option X) (x : X) → o ≡ None → cond b o None ≡ Some x → ⊥
@@ -26,12 +27,7 @@ nothing true o x none e = true≢false (sym (ap is_some (sym none ∙ e)))
 nothing false o x none e = true≢false (sym (ap is_some e))
 
 -- what a table has under a name
-under : (n : ℕ × ℕ) → Option Retained → Option Retained
-under n None = None
-under n (Some k) = cond (is_eq (clock_cmp n (clock_of k))) (Some k) None
-
 pub retain_at_found : (t : List ℕ) (es : List (List ℕ × Retained)) → Ascends entry_cmp es → (n : ℕ × ℕ) → retain_at t (ops_of es) n ≡ under n (kept_in t es)
-unfolding under
 retain_at_found t es h n = ap (find clock_cmp n) (retains_found t es h) ∙ elim (kept_in t es) as (λ o. find clock_cmp n (one_of o) ≡ under n o) [ None ↦ refl | Some k ↦ refl ]
 
 module _ (es : List (List ℕ × Retained)) (ops : List Op) (h : Ascends entry_cmp es) (t : AreOfTopics ops) where
@@ -57,7 +53,6 @@ module _ (es : List (List ℕ × Retained)) (ops : List Op) (h : Ascends entry_c
   none_kept c name e = true≢false (sym e ∙ is_acknowledged_keep c both name ∙ none_acknowledged both both_topics c name)
 
   lower_retains : (u : List ℕ) (n : ℕ × ℕ) (k : Retained) → retain_at u (keep both) n ≡ Some k → retain_at u (ops_of next) n ≡ Some k
-  unfolding under
   lower_retains u n k e =
       let last = kept-last u both n k e in
       let named : clock_of k ≡ n = (retain_occurs u (keep both) n k e).1 in
@@ -66,7 +61,6 @@ module _ (es : List (List ℕ × Retained)) (ops : List Op) (h : Ascends entry_c
       ∙ ap (λ o. cond (is_eq o) (Some k) None) (tied_itself clock_total (clock_of k))
 
   upper_retains : (u : List ℕ) (n : ℕ × ℕ) (k : Retained) → retain_at u (ops_of next) n ≡ Some k → retain_at u both n ≡ Some k
-  unfolding under
   upper_retains u n k e = go (kept_in u next) (sym (kept_is u)) (sym (retain_at_found u next (ascends_ops es ops h) n) ∙ e)
     where
       go : (o : Option Retained) → retained u both ≡ o → under n o ≡ Some k → retain_at u both n ≡ Some k

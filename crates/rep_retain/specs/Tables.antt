@@ -16,6 +16,10 @@ use Rattle.rep_model.specs.declared.fault.TheConstants.{MOST_RETAINED}
 abbrev pub entry_cmp : List ℕ × Retained → List ℕ × Retained → Ordering
 entry_cmp a b = topic_name_cmp a.0 b.0
 
+-- how an entry is ordered against a topic
+abbrev pub by_topic : List ℕ → List ℕ × Retained → Ordering
+by_topic t e = topic_name_cmp e.0 t
+
 -- the operation that an entry stands for
 abbrev pub op_of : List ℕ × Retained → Op
 op_of e = OfRetain e.0 e.1
@@ -56,3 +60,8 @@ with_op es (OfRetain t kept) = with_kept t kept es
 abbrev pub with_ops : List (List ℕ × Retained) → List Op → List (List ℕ × Retained)
 with_ops es [] = es
 with_ops es (op ∷ ops) = with_ops (with_op es op) ops
+
+-- the table once what is staged is in its place; if nothing is staged, it stays
+abbrev pub moved : List (List ℕ × Retained) → Option (List (List ℕ × Retained)) → List (List ℕ × Retained)
+moved es None = es
+moved es (Some next) = next
