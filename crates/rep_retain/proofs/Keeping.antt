@@ -1,5 +1,5 @@
 -- A table with operations keeps what must be kept of both, and nothing that both have not.
-use Rattle.std.proofs.Common.{◌≡◌, ℕ, Bool, true, false, cond, not, List, [], ◌∷◌, ◌++◌, Option, Some, None, is_some, refl, sym, ap, ◌∙◌, subst, true≢false, Ordering, Less, Equal, Greater, is_eq}
+use Rattle.std.proofs.Common.{◌≡◌, ℕ, Bool, true, false, cond, not, List, [], ◌∷◌, ◌++◌, Option, Some, None, is_some, refl, sym, ap, ◌∙◌, subst, true≢false, Ordering, Less, Equal, Greater, is_eq, is_lt}
 use Rattle.std.specs.FinMap.{find}
 use Rattle.std.proofs.lemmas.Cmp.{tied_itself}
 use Rattle.sn_tables.proofs.Ascending.{Ascends}
@@ -10,12 +10,12 @@ use Rattle.rep_op.specs.declared.op.Retained.{Retained}
 use Rattle.rep_op.specs.declared.op.Op.{Op}
 use Rattle.rep_op.specs.Orders.{operation_cmp, put_cmp, clock_of, clock_cmp, is_of_client, AreOfTopics}
 use Rattle.rep_op.specs.Sets.{operation_at, put_at, is_acknowledged, retain_at}
-use Rattle.rep_model.specs.Views.{visible}
+use Rattle.rep_model.specs.Views.{greatest, names, visible}
 use Rattle.rep_model.specs.Topics.{retained}
-use Rattle.rep_model.specs.Keep.{is_below, keep, IsKeptOf}
+use Rattle.rep_model.specs.Keep.{is_below, is_outdone, keep, IsKeptOf}
 use Rattle.rep_model.proofs.Joins.{all-both}
 use Rattle.rep_model.proofs.Occurring.{retain_occurs}
-use Rattle.rep_model.proofs.Readers.{clock_total, clock_exact, operation_at_keep, put_at_keep, is_acknowledged_keep}
+use Rattle.rep_model.proofs.Readers.{clock_total, clock_exact, operation_at_keep, put_at_keep, is_acknowledged_keep, retain_at_keep}
 use Rattle.rep_model.proofs.Topics.{retained-last, kept-last}
 use Rattle.rep_model.proofs.Beside.{no_operations, no_puts, none_acknowledged}
 use Rattle.rep_retain.specs.Tables.{entry_cmp, ops_of, kept_in, with_ops}
@@ -29,6 +29,18 @@ nothing false o x none e = true≢false (sym (ap is_some e))
 -- what a table has under a name
 pub retain_at_found : (t : List ℕ) (es : List (List ℕ × Retained)) → Ascends entry_cmp es → (n : ℕ × ℕ) → retain_at t (ops_of es) n ≡ under n (kept_in t es)
 retain_at_found t es h n = ap (find clock_cmp n) (retains_found t es h) ∙ elim (kept_in t es) as (λ o. find clock_cmp n (one_of o) ≡ under n o) [ None ↦ refl | Some k ↦ refl ]
+
+-- a table keeps itself: each of its entries is the last of its topic
+kept_one : (n : ℕ × ℕ) (o : Option Retained) → cond (not (is_outdone n (greatest clock_cmp (names (one_of o))))) (find clock_cmp n (one_of o)) None ≡ find clock_cmp n (one_of o)
+kept_one n None = refl
+kept_one n (Some k) = elim (clock_cmp n (clock_of k)) as (λ r. cond (not (is_lt r)) (cond (is_eq r) (Some k) None) None ≡ cond (is_eq r) (Some k) None) [ Less ↦ refl | Equal ↦ refl | Greater ↦ refl ]
+
+pub table_kept : (es : List (List ℕ × Retained)) → Ascends entry_cmp es → (t : List ℕ) (n : ℕ × ℕ) → retain_at t (keep (ops_of es)) n ≡ retain_at t (ops_of es) n
+table_kept es h t n =
+    retain_at_keep t (ops_of es) n
+    ∙ ap (λ (rs : List ((ℕ × ℕ) × Retained)). cond (not (is_outdone n (greatest clock_cmp (names rs)))) (find clock_cmp n rs) None) (retains_found t es h)
+    ∙ kept_one n (kept_in t es)
+    ∙ sym (ap (find clock_cmp n) (retains_found t es h))
 
 module _ (es : List (List ℕ × Retained)) (ops : List Op) (h : Ascends entry_cmp es) (t : AreOfTopics ops) where
   abbrev both : List Op

@@ -1,15 +1,15 @@
 //! A table of topics.
 
-ghost use Rattle.std.specs.Prelude.{◌≡◌, ◌<◌, ◌≤◌, ◌⊎◌, ◌++◌, ◌∷◌, ◌+◌, ◌↔◌, [], drop, filter, false, Some, IsTrue, IfOk, OnOk, IfErr, MatchOption, vec_len};
+ghost use Rattle.std.specs.Prelude.{◌≡◌, ◌<◌, ◌≤◌, ◌⊎◌, ◌++◌, ◌∷◌, ◌+◌, ◌↔◌, ℕ, List, [], drop, filter, false, Some, IsTrue, IfOk, OnOk, IfErr, MatchOption, vec_len};
 ghost use Rattle.std.specs.Option.{option_copied};
 ghost use Rattle.std.specs.Ordering.{is_lt};
 ghost use Rattle.rep_op.specs.Orders.{AreOfTopics, is_of_client, subject_of, clock_of, clock_cmp};
-ghost use Rattle.rep_op.specs.Sets.{Agrees};
+ghost use Rattle.rep_op.specs.Sets.{retain_at, Agrees};
 ghost use Rattle.rep_ops.specs.Making.{AreWellMade};
 ghost use Rattle.sn_tables.specs.Tables.{is_ascending};
 ghost use Rattle.sn_tables.specs.inner.Tables.{IsPlace, IsAt, IsGap};
 ghost use Rattle.rep_model.specs.Taking.{AllAgree};
-ghost use Rattle.rep_model.specs.Keep.{IsKeptOf};
+ghost use Rattle.rep_model.specs.Keep.{keep, IsKeptOf};
 ghost use Rattle.rep_model.specs.Topics as topics;
 ghost use Rattle.rep_model.specs.Fresh as fresh;
 ghost use Rattle.rep_retain.specs.Tables.{entry_cmp, by_topic, op_of, ops_of, kept_in, with_kept, with_op, with_ops};
@@ -416,6 +416,8 @@ impl Topics {
     pub fn push_to(&self, alloc: Global, ops: &mut Vec<Op>) -> Result<(), NoMemory>
         ensures ok { OnOk result (ops.new.items ≡ ops.old.items ++ ops_of self.now) }
         ensures made { AreWellMade (ops_of self.now) }
+        ensures stays { (t : List ℕ) (name : ℕ × ℕ)
+            → retain_at t (keep (ops_of self.now)) name ≡ retain_at t (ops_of self.now) name }
     {
         push_ops(alloc, ops, self.entries.as_slice())
     }

@@ -13,5 +13,5 @@ loop-op-preserved c =
     let rest = drop (i + 1) ops in
     let here = next_of ops i op c.loop-op-test.true ∙ ap (λ x. x ∷ rest) (sym c.op-item.is) in record {
       ascending = subst (λ es. IsTrue (is_ascending entry_cmp es)) (sym c.in_ok-put_op.ensures) (ascending_op es op c.loop-op.invariant.ascending);
-      with = ap (λ es. with_ops es rest) c.in_ok-put_op.ensures ∙ ap (with_ops es) (sym here) ∙ c.loop-op.invariant.with;
+      made = ap (λ es. with_ops es rest) c.in_ok-put_op.ensures ∙ ap (with_ops es) (sym here) ∙ c.loop-op.invariant.made;
     }

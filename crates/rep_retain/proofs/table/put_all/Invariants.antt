@@ -6,5 +6,5 @@ use Rattle.rep_retain.proofs.table.put_all.Given as goal
 abbrev pub invariant-loop-op : goal.invariant-loop-op
 invariant-loop-op l = record {
   ascending : IsTrue (is_ascending entry_cmp l.entries.items);
-  with : with_ops l.entries.items (drop l.op-index l.ops) ≡ with_ops l.fn.entries.items l.ops;
+  made : with_ops l.entries.items (drop l.op-index l.ops) ≡ with_ops l.fn.entries.items l.ops;
 }
