@@ -8,7 +8,7 @@ use Rattle.rep_op.specs.declared.op.Stamp.{Stamp}
 use Rattle.rep_op.specs.declared.op.Op.{Op}
 use Rattle.rep_op.specs.declared.op.Op.TheVariants.{Session as OfSession, Put as OfPut, Ack, Retain as OfRetain}
 use Rattle.rep_op.specs.Orders.{stamp_cmp, operation_cmp, put_cmp, clock_cmp, client_of}
-use Rattle.rep_op.specs.Sets.{same_client, operation_of, operations, operation_at, put_of, puts, put_at, acknowledges, is_acknowledged, retain_of, retain_at}
+use Rattle.rep_op.specs.Sets.{same_client, operation_of, operations, operation_at, put_of, puts, put_at, acknowledges, is_acknowledged, retain_of, retains, retain_at}
 use Rattle.rep_model.specs.Views.{greatest, take_stamp, names, visible, history, history_at, session_of, in_order, pending, view, names_client, is_named}
 use Rattle.rep_model.specs.Fresh.{largest, seq_of, greatest_epoch}
 use Rattle.rep_model.specs.Limits.{is_parked, parked, range_of, joined, above_a_gap, sum_to, exceptions}
@@ -135,5 +135,8 @@ module _ (S : List Op) where
   other_retain t (Ack d origin first last) e = refl
   other_retain t (OfRetain u kept) e = absurd (true≢false (sym ((bytes_eq-Decides [] []).1 refl) ∙ e))
 
+  pub retains_own : (t : List ℕ) → retains t S ≡ retains t (of_client [] S)
+  retains_own t = reads_own [] (retain_of t) (other_retain t) S
+
   pub retain_at_own : (t : List ℕ) (name : ℕ × ℕ) → retain_at t S name ≡ retain_at t (of_client [] S) name
-  retain_at_own t name = ap (find clock_cmp name) (reads_own [] (retain_of t) (other_retain t) S)
+  retain_at_own t name = ap (find clock_cmp name) (retains_own t)

@@ -14,7 +14,7 @@ use Rattle.rep_state.proofs.Entering.{seen_row}
 use Rattle.rep_entry.proofs.Owning.{found_holds}
 use Rattle.rep_state.proofs.Reading.{own_found}
 use Rattle.rep_state.proofs.Rows.{table_rows}
-use Rattle.rep_state.proofs.replica.FoldedReplica.client_at.Goals as goal
+use Rattle.rep_state.proofs.replica.FoldedClientsClientSet.client_at.Goals as goal
 
 pub returns-in_err-client : goal.returns-in_err-client
 returns-in_err-client c =

@@ -13,7 +13,7 @@ use Rattle.rep_state.proofs.Entering.{seen_row}
 use Rattle.rep_entry.proofs.Owning.{found_holds}
 use Rattle.rep_state.proofs.Reading.{own_found}
 use Rattle.rep_state.proofs.Rows.{table_rows}
-use Rattle.rep_state.proofs.replica.FoldedReplica.next_candidate.Goals as goal
+use Rattle.rep_state.proofs.replica.FoldedClientsClientSet.next_candidate.Goals as goal
 
 pub returns-in_err-behind : goal.returns-in_err-behind
 returns-in_err-behind c =

@@ -4,7 +4,7 @@ use Rattle.rep_shared.specs.Rows.{flat}
 use Rattle.rep_shared.proofs.Flat.{clients_flat}
 use Rattle.rep_state.specs.Tables.{by_client, rows_of}
 use Rattle.rep_state.proofs.Rows.{table_rows}
-use Rattle.rep_state.proofs.replica.FoldedReplica.clients.Goals as goal
+use Rattle.rep_state.proofs.replica.FoldedClientsClientSet.clients.Goals as goal
 
 pub returns-clause-ok : goal.returns-clause-ok
 returns-clause-ok c =

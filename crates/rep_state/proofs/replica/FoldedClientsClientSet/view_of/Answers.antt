@@ -11,7 +11,7 @@ use Rattle.rep_state.proofs.Entering.{seen_row}
 use Rattle.rep_entry.proofs.Owning.{found_holds}
 use Rattle.rep_state.proofs.Reading.{own_found}
 use Rattle.rep_state.proofs.Rows.{table_rows}
-use Rattle.rep_state.proofs.replica.FoldedReplica.view_of.Goals as goal
+use Rattle.rep_state.proofs.replica.FoldedClientsClientSet.view_of.Goals as goal
 
 pub returns-in_err-entry : goal.returns-in_err-entry
 returns-in_err-entry c =

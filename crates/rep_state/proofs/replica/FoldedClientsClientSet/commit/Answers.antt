@@ -6,7 +6,7 @@ use Rattle.rep_state.specs.Tables.{by_client, rows_of}
 use Rattle.rep_entry.specs.Staging.{staged_of, planned, AreReady}
 use Rattle.rep_state.proofs.Indexed.{in_order}
 use Rattle.rep_state.proofs.Staging.{planned_future, are_movable}
-use Rattle.rep_state.proofs.replica.FoldedReplica.commit.Goals as goal
+use Rattle.rep_state.proofs.replica.FoldedClientsClientSet.commit.Goals as goal
 
 pub move_in-requires-clause-movable : goal.move_in-requires-clause-movable
 move_in-requires-clause-movable c =

@@ -6,7 +6,7 @@ use Rattle.rep_shared.proofs.Flat.{of_flat}
 use Rattle.rep_shared.proofs.Numbers.{next_one}
 use Rattle.rep_state.specs.Tables.{by_client, rows_of}
 use Rattle.rep_state.proofs.Rows.{table_rows}
-use Rattle.rep_state.proofs.replica.FoldedReplica.next_seq.Goals as goal
+use Rattle.rep_state.proofs.replica.FoldedClientsClientSet.next_seq.Goals as goal
 
 pub returns : goal.returns
 returns c =
