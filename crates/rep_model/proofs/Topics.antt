@@ -64,7 +64,7 @@ module _ (t : List ℕ) where
   there-topic S n h = list_any-weaker (finds n) (names_topic t) (finds-names n) S (finds-reads S n ∙ h)
 
   -- the last is there
-  latest-there : (S : List Op) → IfSome (latest t S) (λ g. is_some (retain_at t S g) ≡ true)
+  pub latest-there : (S : List Op) → IfSome (latest t S) (λ g. is_some (retain_at t S g) ≡ true)
   latest-there S = elim (latest t S) as (λ v. IfSome v (λ g. has clock_cmp g (clocks t S) ≡ true) → IfSome v (λ g. is_some (retain_at t S g) ≡ true)) [
     | None ↦ λ _. tt
     | Some g ↦ λ h. sym (has_clock t S g) ∙ h
@@ -256,6 +256,18 @@ module _ (t : List ℕ) (S : List Op) (k : Retained) where
           → (later : Retained) × (option_and_then (retain_at t W) v ≡ Some later) × ((later ≡ k) ⊎ IsTrue (is_lt (clock_cmp (clock_of k) (clock_of later))))
       go None r h = absurd r
       go (Some g) r h = found g r (retain_at t W g) refl h
+
+-- the last name is that of what is retained
+pub latest-retained : (t : List ℕ) (S : List Op) → latest t S ≡ option_map clock_of (retained t S)
+latest-retained t S = go (latest t S) (latest-there t S)
+  where
+    found : (g : ℕ × ℕ) (o : Option Retained) → retain_at t S g ≡ o → is_some o ≡ true → Some g ≡ option_map clock_of o
+    found g None e h = absurd (true≢false (sym h))
+    found g (Some k) e h = ap Some (sym (retain_occurs t S g k e).1)
+
+    go : (v : Option (ℕ × ℕ)) → IfSome v (λ g. is_some (retain_at t S g) ≡ true) → v ≡ option_map clock_of (option_and_then (retain_at t S) v)
+    go None h = refl
+    go (Some g) h = found g (retain_at t S g) refl h
 
 -- what stands in a set, and nothing later does, is retained
 pub retained-is : (t : List ℕ) (S : List Op) (k : Retained) → retain_at t S (clock_of k) ≡ Some k → ((name : ℕ × ℕ) → is_some (retain_at t S name) ≡ true → is_lt (clock_cmp (clock_of k) name) ≡ false)

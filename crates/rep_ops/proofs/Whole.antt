@@ -10,20 +10,20 @@ use Rattle.rep_ops.specs.Reading.{AreOctets, whole_at, reading_by}
 use Rattle.rep_ops.specs.Spelling.{max_octets}
 use Rattle.rep_read.proofs.Laws.{extended, Law, bind_ok, guard_ok, ok_is}
 
-ended : {A : Type 0} (x : List A × List ℕ) (d : List A) → cond (length x.1 == 0) (Ok x.0) (Err faults.Trailing) ≡ Ok d → (x.0 ≡ d) × (x.1 ≡ [])
+ended : {A : Type 0} (x : A × List ℕ) (d : A) → cond (length x.1 == 0) (Ok x.0) (Err faults.Trailing) ≡ Ok d → (x.0 ≡ d) × (x.1 ≡ [])
 ended x d e = let g = guard_ok (length x.1 == 0) faults.Trailing x.0 d e in (g.1, nil_from_length x.1 (eqb-true _ _ g.0))
 
-cut_short : {A : Type 0} (d : List A) (rest : List ℕ) (r : Result (List A × List ℕ) OpsFault) → rest ≢ [] → Ok (d, []) ≡ extended rest r → ⊥
+cut_short : {A : Type 0} (d : A) (rest : List ℕ) (r : Result (A × List ℕ) OpsFault) → rest ≢ [] → Ok (d, []) ≡ extended rest r → ⊥
 cut_short {A} d rest (Ok x) ne e =
     let pair : (d, []) ≡ (x.0, x.1 ++ rest) = ok_is _ _ e in
-    let none : [] ≡ x.1 ++ rest = ap (λ (p : List A × List ℕ). p.1) pair in
+    let none : [] ≡ x.1 ++ rest = ap (λ (p : A × List ℕ). p.1) pair in
     let len : 0 ≡ length (x.1 ++ rest) = ap length none in
     ne (nil_from_length rest (omega (arith, length-append x.1 rest)))
 cut_short d rest (Err f) ne e = absurd cc
 
-module _ {A : Type 0} (read : Reader (List A)) (text : List A → List ℕ) (Fits : List A → Type 0) (law : Law read text Fits) where
+module _ {A : Type 0} (read : Reader A) (text : A → List ℕ) (Fits : A → Type 0) (law : Law read text Fits) where
   -- what is read is written so
-  pub takes : (bytes : List ℕ) (d : List A) → AreOctets bytes → reading_by read bytes ≡ Ok d → (bytes ≡ text d) × Fits d × (length (text d) ≤ max_octets)
+  pub takes : (bytes : List ℕ) (d : A) → AreOctets bytes → reading_by read bytes ≡ Ok d → (bytes ≡ text d) × Fits d × (length (text d) ≤ max_octets)
   unfolding whole_at
   takes bytes d octets e =
       elim (cases_Bool (nat_lt max_octets (length bytes))) [
@@ -39,7 +39,7 @@ module _ {A : Type 0} (read : Reader (List A)) (text : List A → List ℕ) (Fit
       ]
 
   -- what is written is read again
-  pub again : (d : List A) → Fits d → length (text d) ≤ max_octets → reading_by read (text d) ≡ Ok d
+  pub again : (d : A) → Fits d → length (text d) ≤ max_octets → reading_by read (text d) ≡ Ok d
   unfolding whole_at
   again d h size =
       let short : nat_lt max_octets (length (text d)) ≡ false = le-ltb _ _ size in
@@ -47,14 +47,14 @@ module _ {A : Type 0} (read : Reader (List A)) (text : List A → List ℕ) (Fit
       rw (short, front) refl
 
   -- no text begins another
-  pub one : (a b : List A) (x y : List ℕ) → Fits a → Fits b → text a ++ x ≡ text b ++ y → (a ≡ b) × (x ≡ y)
+  pub one : (a b : A) (x y : List ℕ) → Fits a → Fits b → text a ++ x ≡ text b ++ y → (a ≡ b) × (x ≡ y)
   one a b x y fa fb e =
       let both : Ok (a, x) ≡ Ok (b, y) = sym (law.again a x fa) ∙ (ap read e ∙ law.again b y fb) in
       let pair : (a, x) ≡ (b, y) = ok_is (a, x) (b, y) both in
-      (ap (λ (p : List A × List ℕ). p.0) pair, ap (λ (p : List A × List ℕ). p.1) pair)
+      (ap (λ (p : A × List ℕ). p.0) pair, ap (λ (p : A × List ℕ). p.1) pair)
 
   -- what is cut is told so
-  pub cut : (d : List A) (front rest : List ℕ) → Fits d → length (text d) ≤ max_octets → text d ≡ front ++ rest → rest ≢ [] → reading_by read front ≡ Err faults.Truncated
+  pub cut : (d : A) (front rest : List ℕ) → Fits d → length (text d) ≤ max_octets → text d ≡ front ++ rest → rest ≢ [] → reading_by read front ≡ Err faults.Truncated
   unfolding whole_at
   cut d front rest fits size e ne =
       let len : length (text d) ≡ length front + length rest = ap length e ∙ length-append front rest in
@@ -66,7 +66,7 @@ module _ {A : Type 0} (read : Reader (List A)) (text : List A → List ℕ) (Fit
       ]
 
   -- and so is what stands after
-  pub behind : (d : List A) (rest : List ℕ) → Fits d → length (text d ++ rest) ≤ max_octets → rest ≢ [] → reading_by read (text d ++ rest) ≡ Err faults.Trailing
+  pub behind : (d : A) (rest : List ℕ) → Fits d → length (text d ++ rest) ≤ max_octets → rest ≢ [] → reading_by read (text d ++ rest) ≡ Err faults.Trailing
   unfolding whole_at
   behind d rest fits size ne =
       let short : nat_lt max_octets (length (text d ++ rest)) ≡ false = le-ltb _ _ size in

@@ -44,12 +44,12 @@ text_at read follows bytes =
     if version.0 == 1 then values_at read follows version.1 else Err faults.Version
 
 -- a text, and nothing after it
-unfoldable pub whole_at : {A : Type 0} → Reader (List A) → List ℕ → Result (List A) OpsFault
+unfoldable pub whole_at : {A : Type 0} → Reader A → List ℕ → Result A OpsFault
 whole_at read bytes = read bytes >>= λ x. if length x.1 == 0 then Ok x.0 else Err faults.Trailing
 
 -- what the octets say, or why they are no such text: Limit, then the first fault of the reader,
 -- last Trailing
-abbrev pub reading_by : {A : Type 0} → Reader (List A) → List ℕ → Result (List A) OpsFault
+abbrev pub reading_by : {A : Type 0} → Reader A → List ℕ → Result A OpsFault
 reading_by read bytes =
     if nat_lt max_octets (length bytes) then Err faults.Limit else whole_at read bytes
 

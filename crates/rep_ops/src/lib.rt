@@ -39,9 +39,9 @@ pub use delta::{Delta, no_prefix, one_delta, one_older_reading, one_reading};
 pub use rep_op::{ClientId, MAX_OPERATIONS, Op, OpsFault, Put, Retained, Stamp, Subject, Version};
 pub use rep_read::{
     read_client, read_counted_eight, read_counted_octet, read_eight, read_four, read_octet,
-    read_two,
+    read_topic, read_two,
 };
-pub use rep_write::write_client;
+pub use rep_write::{write_client, write_text};
 pub use size::MAX_OCTETS;
 pub use split::deltas_of;
 pub use version::version_of;

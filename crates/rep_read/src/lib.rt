@@ -21,6 +21,6 @@ mod table;
 
 pub use field::{
     read_client, read_counted_eight, read_counted_octet, read_eight, read_four, read_octet,
-    read_two,
+    read_topic, read_two,
 };
 pub use op::read_op;

@@ -16,3 +16,4 @@ mod write;
 mod write_session;
 
 pub use write::{write_client, write_op};
+pub use write_session::write_text;
