@@ -28,7 +28,7 @@ use Rattle.rep_digest.specs.Digests.{Digested}
 use Rattle.rep_digest.specs.WellMade.{IsRange, IsOrigin, OriginsAscend, IsEntry, ClientsAscend, AreClients, IsRetained, TopicsAscend, AreTopics, IsDigest}
 use Rattle.rep_digest.specs.Spelling.{ranges_octets, range_octets, origin_octets, seen_octets, origins_octets, entry_octets, retained_octets, topics_octets, spelled, spelling, IsWithinLimit}
 use Rattle.rep_digest.specs.inner.Spelling.{AreFew, IsWritable}
-use Rattle.rep_digest.specs.Reading.{entry_at, retained_at, ranges_apart, are_apart, origins_ascend, is_ordered, is_next, may_follow, topic_may_follow, topics_at, of_clients, of_both, digest_at, reading}
+use Rattle.rep_digest.specs.Reading.{entry_at, retained_at, ranges_apart, are_apart, origins_ascend, is_ordered, is_next, may_follow, topic_may_follow, topics_at, of_clients, of_both, clients_at, digest_at, reading}
 use Rattle.rep_digest.proofs.Entries.{FitsOrigin, FitsEntry, entry_law, FitsRetained, retained_law}
 
 -- ---- the order
@@ -276,9 +276,6 @@ fits_topics ts h size =
     }
 
 -- ---- both
-
-abbrev clients_at : Reader (List ClientEntry)
-clients_at = values_at entry_at may_follow
 
 abbrev clients_text : List ClientEntry → List ℕ
 clients_text d = big_bytes 4 (length d) ++ flat_map entry_octets d

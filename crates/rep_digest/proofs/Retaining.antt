@@ -20,13 +20,10 @@ use Rattle.rep_model.proofs.Readers.{clock_exact, same_topic-true}
 use Rattle.rep_model.proofs.Topics.{latest-retained, latest-there, topics-ascend, all_retained-counts}
 use Rattle.rep_digest.specs.declared.entry.RetainedEntry.{RetainedEntry}
 use Rattle.rep_digest.specs.Digests.{entry_of_topic, topic_entry, topic_entries}
+use Rattle.rep_digest.specs.inner.Steps.{entry_for}
 use Rattle.rep_digest.specs.WellMade.{IsRetained, TopicsAscend, AreTopics}
 
 -- ---- what is said is read off what is retained
-
--- the entry of a topic with what is retained of it
-abbrev pub entry_for : List ℕ × Retained → RetainedEntry
-entry_for e = entry_of_topic e.0 (clock_of e.1)
 
 mapped : (t : List ℕ) (o : Option Retained) → option_map (entry_of_topic t) (option_map clock_of o) ≡ option_map entry_for (option_map (λ k. (t, k)) o)
 mapped t None = refl

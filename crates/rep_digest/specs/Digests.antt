@@ -69,6 +69,10 @@ pub record Digested : Type 0 where
   pub clients : List ClientEntry
   pub topics : List RetainedEntry
 
+-- these entries, of clients and of topics
+abbrev pub digested : List ClientEntry → List RetainedEntry → Digested
+digested clients topics = record { clients = clients; topics = topics }
+
 -- the digest of the set
 abbrev pub digest : List Op → Digested
-digest S = record { clients = client_entries S; topics = topic_entries S }
+digest S = digested (client_entries S) (topic_entries S)

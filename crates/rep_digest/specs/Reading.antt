@@ -121,14 +121,24 @@ of_clients clients = record { clients = clients; topics = [] }
 abbrev pub of_both : List ClientEntry × List RetainedEntry → Digested
 of_both x = record { clients = x.0; topics = x.1 }
 
+-- the entries of clients
+abbrev pub clients_at : Reader (List ClientEntry)
+clients_at = values_at entry_at may_follow
+
+-- a digest of version 1, after its version
+abbrev pub alone_at : Reader Digested
+alone_at = made of_clients clients_at
+
+-- a digest of version 2, after its version
+abbrev pub both_at : Reader Digested
+both_at = made of_both (both clients_at topics_at)
+
 -- the version, the entries of clients, and in version 2 the entries of topics
 unfoldable pub digest_at : Reader Digested
 digest_at bytes =
     octet_at bytes >>= λ version.
-    if version.0 == 1 then made of_clients (values_at entry_at may_follow) version.1
-    else (if version.0 == 2
-    then made of_both (both (values_at entry_at may_follow) topics_at) version.1
-    else Err faults.Version)
+    if version.0 == 1 then alone_at version.1
+    else (if version.0 == 2 then both_at version.1 else Err faults.Version)
 
 -- What the octets say, or the first fault for which they are no digest. The order is checked when
 -- an entry is whole.

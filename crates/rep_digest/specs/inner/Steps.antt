@@ -9,7 +9,10 @@ use Rattle.rep_digest.specs.declared.groups.Acknowledged.{Acknowledged}
 use Rattle.rep_model.specs.declared.view.ClientView.{ClientView}
 use Rattle.rep_digest.specs.declared.entry.OriginEntry.{OriginEntry}
 use Rattle.rep_digest.specs.declared.entry.ClientEntry.{ClientEntry}
-use Rattle.rep_digest.specs.Digests.{has_ranges, numbers_from}
+use Rattle.rep_op.specs.declared.op.Retained.{Retained}
+use Rattle.rep_op.specs.Orders.{clock_of}
+use Rattle.rep_digest.specs.declared.entry.RetainedEntry.{RetainedEntry}
+use Rattle.rep_digest.specs.Digests.{has_ranges, numbers_from, entry_of_topic}
 
 -- ---- the acknowledgements of each client
 
@@ -74,3 +77,9 @@ drafted_entry c view acks = record {
   prefix = view.prefix;
   origins = drafted_origins acks view.pending;
 }
+
+-- ---- the entry of a topic
+
+-- the entry of a topic with what is retained of it
+abbrev pub entry_for : List ℕ × Retained → RetainedEntry
+entry_for e = entry_of_topic e.0 (clock_of e.1)

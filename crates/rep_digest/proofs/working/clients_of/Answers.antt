@@ -7,7 +7,7 @@ use Rattle.rep_model.proofs.Named.{clients-ascend}
 use Rattle.rep_op.specs.Values.{AreValues}
 use Rattle.rep_digest.specs.inner.Steps.{groups}
 use Rattle.rep_digest.proofs.Worked.{worked}
-use Rattle.rep_digest.proofs.working.worked_out.Goals as goal
+use Rattle.rep_digest.proofs.working.clients_of.Goals as goal
 
 pub acknowledgements-requires : goal.acknowledgements-requires
 acknowledgements-requires g c =
