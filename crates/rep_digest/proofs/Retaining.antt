@@ -1,5 +1,5 @@
 -- What a digest says of topics.
-use Rattle.std.proofs.Common.{◌≡◌, ℕ, ◌<◌, ◌≤◌, ◌^◌, Bool, true, false, ◌&&◌, if◌then◌else◌, nat_le, List, [], ◌∷◌, map, Option, Some, None, is_some, IfSome, IsTrue, refl, sym, ap, ◌∙◌, subst, true≢false, leb-true, Less}
+use Rattle.std.proofs.Common.{◌≡◌, ℕ, ◌<◌, ◌≤◌, ◌^◌, Bool, true, false, ◌&&◌, if◌then◌else◌, nat_le, List, [], ◌∷◌, ◌++◌, map, drop, append-nil, append_assoc, Option, Some, None, is_some, IfSome, IsTrue, refl, sym, ap, ◌∙◌, subst, true≢false, leb-true, Less}
 use Rattle.std.specs.Prelude.{option_map}
 use Rattle.std.specs.List.{filter_map, cons_option, AllByRecursion}
 use Rattle.std.specs.List.Sorted.{IsStrictlySortedBy}
@@ -41,6 +41,18 @@ of_topics S (t ∷ ts) =
 
 pub topics_said : (S : List Op) → topic_entries S ≡ map entry_for (all_retained S)
 topics_said S = of_topics S (topics S)
+
+-- one topic more, of those that are left
+pub said_more : (front new : List RetainedEntry) (all : List (List ℕ × Retained)) (place behind : ℕ) (e : List ℕ × Retained) → drop place all ≡ e ∷ drop behind all → new ≡ front ++ entry_for e ∷ []
+    → front ++ map entry_for (drop place all) ≡ map entry_for all → new ++ map entry_for (drop behind all) ≡ map entry_for all
+said_more front new all place behind e next more so_far =
+    ap (λ (xs : List RetainedEntry). xs ++ map entry_for (drop behind all)) more
+    ∙ append_assoc front (entry_for e ∷ []) (map entry_for (drop behind all))
+    ∙ ap (λ (xs : List (List ℕ × Retained)). front ++ map entry_for xs) (sym next) ∙ so_far
+
+-- where none is left, all are said
+pub said_all : (made : List RetainedEntry) (all : List (List ℕ × Retained)) (place : ℕ) → drop place all ≡ [] → made ++ map entry_for (drop place all) ≡ map entry_for all → made ≡ map entry_for all
+said_all made all place none so_far = sym (append-nil made) ∙ ap (λ (xs : List (List ℕ × Retained)). made ++ map entry_for xs) (sym none) ∙ so_far
 
 -- what counts as a set says the same of topics
 pub topics_counted : (S K : List Op) → CountsAs S K → topic_entries K ≡ topic_entries S

@@ -17,7 +17,7 @@ pub fn topics_of<R: Replica>(alloc: Global, replica: &R) -> Result<Vec<RetainedE
 {
     let mut entries = Vec::new(alloc);
     let mut place = 0;
-    'topics: while let Some((behind, topic, kept)) = replica.topic_at(place) {
+    while let Some((behind, topic, kept)) = replica.topic_at(place) {
         push_entry(alloc, &mut entries, topic, kept)?;
         place = behind;
     }

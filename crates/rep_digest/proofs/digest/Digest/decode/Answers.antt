@@ -2,6 +2,7 @@ use Rattle.std.proofs.Common.{Err, Ok, ap, sym, ◌∙◌, inl, inr, arith}
 use Rattle.std.proofs.lemmas.Result.{err_from_is_err_and}
 use Rattle.rep_read.proofs.Laws.{ok_is}
 use Rattle.rep_ops.proofs.Listed.{only_memory}
+use Rattle.rep_digest.specs.Digests.{Digested, digested}
 use Rattle.rep_digest.specs.Reading.{reading}
 use Rattle.rep_digest.proofs.Format.{read_spelled, read_again}
 use Rattle.rep_digest.proofs.digest.Digest.decode.Goals as goal
@@ -14,13 +15,17 @@ returns-in_err-read_digest-clause-only c = λ d is size s.
 
 pub invariant_of-result : goal.invariant_of-result
 invariant_of-result c =
-    let read = read_spelled c.args.bytes.now c.in_ok-read_digest.field-0.items (λ i. omega (arith, c.type_inv.bytes i)) c.in_ok-read_digest.ensures in
+    let d : Digested = digested c.in_ok-read_digest.clients.items c.in_ok-read_digest.topics.items in
+    let read = read_spelled c.args.bytes.now d (λ i. omega (arith, c.type_inv.bytes i)) c.in_ok-read_digest.ensures in
     (read.0, read.1)
 
 pub returns-clause-ok : goal.returns-clause-ok
-returns-clause-ok c = (read_spelled c.args.bytes.now c.in_ok-read_digest.field-0.items (λ i. omega (arith, c.type_inv.bytes i)) c.in_ok-read_digest.ensures).2
+returns-clause-ok c =
+    let d : Digested = digested c.in_ok-read_digest.clients.items c.in_ok-read_digest.topics.items in
+    (read_spelled c.args.bytes.now d (λ i. omega (arith, c.type_inv.bytes i)) c.in_ok-read_digest.ensures).2
 
 pub returns-clause-only : goal.returns-clause-only
 returns-clause-only c = λ d is size s.
-    let same = ok_is c.in_ok-read_digest.field-0.items d (sym c.in_ok-read_digest.ensures ∙ ap reading s ∙ read_again d is size) in
+    let own : Digested = digested c.in_ok-read_digest.clients.items c.in_ok-read_digest.topics.items in
+    let same = ok_is own d (sym c.in_ok-read_digest.ensures ∙ ap reading s ∙ read_again d is size) in
     inl (ap (λ entries. Ok entries) same)
