@@ -65,6 +65,18 @@ pub enum Subject {
     Topic(TopicName),
 }
 
+impl Subject {
+    /// An equal one.
+    pub fn copied(&self, alloc: Global) -> Result<Subject, NoMemory>
+        ensures { IfOk result (λ made. made ≡ self.now) }
+    {
+        match self {
+            Subject::Client(client) => Ok(Subject::Client(client.copied(alloc)?)),
+            Subject::Topic(topic) => Ok(Subject::Topic(topic.copied(alloc)?)),
+        }
+    }
+}
+
 /// An operation on the state of a client, or of a topic.
 #[derive(Debug, Drop, PartialEq, Eq)]
 pub enum Op {

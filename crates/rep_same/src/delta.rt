@@ -4,7 +4,7 @@ ghost use Rattle.std.specs.Prelude.{◌≡◌, ◌↔◌, IsTrue};
 
 use super::change::same_change;
 use super::view::same_put;
-use rep_model::rep_ops::{ClientId, Delta, Op, Retained};
+use rep_model::rep_ops::{ClientId, Delta, Op, Retained, Subject};
 use sn_topic::TopicName;
 
 /// Whether two clients are one.
@@ -23,6 +23,13 @@ pub fn same_topic(a: &TopicName, b: &TopicName) -> bool
 
 /// Whether what is retained of two topics is equal.
 pub fn same_retained(a: &Retained, b: &Retained) -> bool
+    ensures { IsTrue result ↔ (a.now ≡ b.now) }
+{
+    a == b
+}
+
+/// Whether two refusals are about the same client or topic.
+pub fn same_subject(a: &Subject, b: &Subject) -> bool
     ensures { IsTrue result ↔ (a.now ≡ b.now) }
 {
     a == b

@@ -3,8 +3,9 @@ use Rattle.std.specs.Prelude.{◌≡◌, ℕ, ◌⊎◌, List, [], ◌∷◌, �
 use Rattle.std.specs.List.{AllByRecursion, filter_map}
 use Rattle.sn_session.specs.declared.change.SessionOp.{SessionOp}
 use Rattle.rep_op.specs.declared.op.Op.{Op}
-use Rattle.rep_op.specs.declared.op.Op.TheVariants.{Session as OfSession, Put as OfPut, Ack}
-use Rattle.rep_op.specs.Sets.{operation_at, put_at}
+use Rattle.rep_op.specs.declared.op.Op.TheVariants.{Session as OfSession, Put as OfPut, Ack, Retain as OfRetain}
+use Rattle.rep_op.specs.Orders.{clock_of}
+use Rattle.rep_op.specs.Sets.{operation_at, put_at, retain_at}
 use Rattle.rep_model.specs.Views.{pending_at}
 use Rattle.sn_plan.specs.declared.draft.NewPut.{NewPut}
 use Rattle.sn_plan.specs.declared.plan.Plan.{Plan}
@@ -15,11 +16,12 @@ use Rattle.sn_plan.specs.Plans.{plan_of}
 use Rattle.sn_plan.specs.Flush.{stamp_of}
 
 -- a session operation of the client under a stamp of the gateway; a message that the gateway made;
--- an acknowledgement by the client
+-- an acknowledgement by the client; what the gateway retained
 abbrev pub IsOwn : ℕ → List ℕ → Op → Type 0
 IsOwn g c (OfSession d stamp counter change) = (d ≡ c) × (stamp.gateway ≡ g)
 IsOwn g c (OfPut d put) = put.origin ≡ g
 IsOwn g c (Ack d origin first last) = d ≡ c
+IsOwn g c (OfRetain t kept) = kept.gateway ≡ g
 
 -- none of the client's session operations in the set is under a stamp of the gateway
 abbrev pub HasNoneOf : ℕ → List ℕ → List Op → Type 0
@@ -32,11 +34,12 @@ AddsNone g c S D =
     → operation_at c D (stamp_of epoch g, counter) ≡ Some change
     → operation_at c S (stamp_of epoch g, counter) ≡ Some change
 
--- the set has nothing under the name of the session operation or message
+-- the set has nothing under the name of the session operation or message, or of what is retained
 abbrev pub IsFresh : List Op → Op → Type 0
 IsFresh S (OfSession c stamp counter change) = operation_at c S (stamp, counter) ≡ None
 IsFresh S (OfPut c put) = put_at c S (put.seq, put.origin) ≡ None
 IsFresh S (Ack c origin first last) = Unit {0}
+IsFresh S (OfRetain t kept) = retain_at t S (clock_of kept) ≡ None
 
 -- each is fresh in the set with the operations before it, so no name occurs twice
 abbrev pub AreFresh : List Op → List Op → Type 0
@@ -55,6 +58,7 @@ message_of (OfSession c stamp counter change) = None
 message_of (OfPut c put) =
     Some (record { client = c; topic = put.topic; qos = put.qos; body = put.body })
 message_of (Ack c origin first last) = None
+message_of (OfRetain t kept) = None
 
 -- the messages of the operations, in their order
 abbrev pub messages : List Op → List NewPut
@@ -67,6 +71,7 @@ Waits S c acks (OfPut d put) =
     (pending_at d S (put.seq, put.origin) ≡ Some put)
     ⊎ ((d ≡ c) × Contains acks (put.seq, put.origin))
 Waits S c acks (Ack d origin first last) = Unit {0}
+Waits S c acks (OfRetain t kept) = Unit {0}
 
 -- the plan is that of a draft for a client, with at most one message for each client
 pub record IsOfDraft (g : ℕ) (seen : Seen) (plan : Plan) : Type 0 where
