@@ -13,7 +13,7 @@ use Rattle.rep_model.specs.Keep.{keep, CountsAs}
 use Rattle.rep_model.specs.Held.{IsHeld}
 use Rattle.rep_model.proofs.Joins.{same_refl}
 use Rattle.rep_answer.specs.Answers.{IsRest, IsAnswer}
-use Rattle.rep_digest.specs.declared.entry.ClientEntry.{ClientEntry}
+use Rattle.rep_digest.specs.Digests.{Digested}
 
 no-cons : {A : Type 0} (x : A) (xs : List A) → [] ≡ x ∷ xs → ⊥
 no-cons x xs e = absurd cc
@@ -92,11 +92,12 @@ delta-one ops d e h k = one_delta d e h.delta k.delta (Same-trans d ops e h.same
 pub delta-same : (X Y d e : List Op) → Same X Y → IsDeltaOf X d → IsDeltaOf Y e → d ≡ e
 delta-same X Y d e same h k = one_delta d e h.delta k.delta (Same-trans d X e h.same (Same-trans X Y e same (Same-sym e Y k.same)))
 
-rest-one : (asked : List ClientEntry) (S X Y : List Op) → IsRest asked S X → IsRest asked S Y → Same X Y
+rest-one : (asked : Digested) (S X Y : List Op) → IsRest asked S X → IsRest asked S Y → Same X Y
 rest-one asked S X Y h k = record {
   operations_same = λ c name. h.operations_left c name ∙ sym (k.operations_left c name);
   puts_same = λ c name. h.puts_left c name ∙ sym (k.puts_left c name);
   acknowledgements_same = λ c name. h.acknowledgements_left c name ∙ sym (k.acknowledgements_left c name);
+  retains_same = λ t name. h.retains_left t name ∙ sym (k.retains_left t name);
 }
 
 deltas-one : (X Y : List Op) (ds es : List (List Op)) → Same X Y → AreDeltasOf X ds → AreDeltasOf Y es → ds ≡ es
@@ -104,7 +105,7 @@ deltas-one X Y ds es same h k =
     let whole : h.0 ≡ k.0 = delta-same X Y h.0 k.0 same h.1 k.1 in
     split-one k.0 ds es (subst (λ (w : List Op). IsSplit w ds) whole h.2) k.2
 
-pub answer-one : (asked : List ClientEntry) (S : List Op) (ds es : List (List Op)) → IsAnswer asked S ds → IsAnswer asked S es → ds ≡ es
+pub answer-one : (asked : Digested) (S : List Op) (ds es : List (List Op)) → IsAnswer asked S ds → IsAnswer asked S es → ds ≡ es
 answer-one asked S ds es h k = deltas-one h.0 k.0 ds es (rest-one asked _ h.0 k.0 h.1 k.1) h.2 k.2
 
 -- ---- what must be kept of a set, as deltas
