@@ -5,8 +5,7 @@ use Rattle.rep_op.specs.declared.op.Op.{Op}
 use Rattle.rep_ops.specs.Making.{IsDeltaOf}
 use Rattle.rep_ops.specs.Spelling.{max_octets}
 use Rattle.rep_ops.specs.Splitting.{all_of}
-use Rattle.rep_digest.specs.declared.entry.ClientEntry.{ClientEntry}
-use Rattle.rep_digest.specs.Digests.{digest}
+use Rattle.rep_digest.specs.Digests.{Digested, digest}
 use Rattle.rep_digest.specs.Spelling.{spelling, IsWithinLimit as IsDigestWithinLimit}
 use Rattle.rep_digest.proofs.Counted.{same_digest}
 use Rattle.rep_answer.proofs.Completing.{same_answer}
@@ -235,7 +234,7 @@ module _ {D : Type 0} {G : Ghosts D} (g : Gateway) (old : State G) (s : Stands g
       (inl ((subst IsDigestWithinLimit digest_taken within, is_out ∙ (λ i. record { sends = []; made = None; answer = []; digest = Some (digest_taken i); view = None }), refl), refl))
   digest_leads new (Err refusals.Full) (long, u) =
       same_leads g old s (OrWant (Err refusals.Full) (λ before next made. DigestStep before (Err refusals.Full) next × (made ≡ []))) (Unit {0}) new u
-      (inl ((subst (λ (d : List ClientEntry). max_octets < length (spelling d)) digest_taken long, refl), refl))
+      (inl ((subst (λ (d : Digested). max_octets < length (spelling d)) digest_taken long, refl), refl))
   digest_leads new (Err refusals.Memory) u = wants (λ before next made. DigestStep before (Err refusals.Memory) next × (made ≡ [])) (Unit {0}) new u
   digest_leads new (Err refusals.Halted) h = absurd h
   digest_leads new (Err (refusals.Frame fault)) h = absurd h
@@ -244,7 +243,7 @@ module _ {D : Type 0} {G : Ghosts D} (g : Gateway) (old : State G) (s : Stands g
   digest_leads new (Err refusals.Exhausted) h = absurd h
   digest_leads new (Err (refusals.Journal fault)) h = absurd h
 
-  reply_leads : (new : State G) (asked : List ClientEntry) (answer : Result Out Refusal) → AnswerCall old asked answer new
+  reply_leads : (new : State G) (asked : Digested) (answer : Result Out Refusal) → AnswerCall old asked answer new
       → LeadsTo (OrWant answer (λ before next made. ReplyStep before asked answer next × (made ≡ []))) (Unit {0}) g old new
   reply_leads new asked (Ok out) (is_answer, is_out, u) =
       same_leads g old s (OrWant (Ok out) (λ before next made. ReplyStep before asked (Ok out) next × (made ≡ []))) (Unit {0}) new u

@@ -16,9 +16,8 @@ use Rattle.rep_model.specs.Keep.{keep, is_below}
 use Rattle.rep_model.specs.Views.{visible}
 use Rattle.rep_model.proofs.Joins.{all-left, all-right, all-moved}
 use Rattle.rep_model.proofs.Readers.{operation_at_keep, put_at_keep, is_acknowledged_keep}
-use Rattle.rep_digest.specs.declared.entry.ClientEntry.{ClientEntry}
 use Rattle.rep_answer.specs.Answers.{covers_operation, covers_put, covers_acknowledgement, IsRest, IsAnswer}
-use Rattle.rep_digest.specs.Digests.{digest}
+use Rattle.rep_digest.specs.Digests.{Digested, digest}
 use Rattle.gw_answer.specs.declared.out.Out.{Out}
 use Rattle.gw_answer.specs.declared.refusal.Refusal.{Refusal}
 use Rattle.gw_answer.specs.declared.refusal.Refusal.TheVariants as refusals
@@ -89,7 +88,7 @@ but : (b a : Bool) → (not b && a) ≡ true → a ≡ true
 but false a e = e
 but true a e = absurd (true≢false (sym e))
 
-rest-within : (d : List ClientEntry) (S X : List Op) → IsRest d S X → Within X S
+rest-within : (d : Digested) (S X : List Op) → IsRest d S X → Within X S
 rest-within d S X r = record {
   operations_in = λ c name change e. without (covers_operation d c name) (operation_at c S name) change (sym (r.operations_left c name) ∙ e);
   puts_in = λ c name put e. without (covers_put d c name) (put_at c S name) put (sym (r.puts_left c name) ∙ e);
@@ -120,7 +119,7 @@ none-answered S = record {
   within = record { operations_in = λ c name change e. absurd (none-some change e); puts_in = λ c name put e. absurd (none-some put e); acknowledgements_in = λ c name e. absurd (true≢false (sym e)) };
 }
 
-some-answered : (d : List ClientEntry) (S : List Op) (made : List (List Op)) → IsAnswer d S made → AllByRecursion IsWritable made → Answered S made
+some-answered : (d : Digested) (S : List Op) (made : List (List Op)) → IsAnswer d S made → AllByRecursion IsWritable made → Answered S made
 some-answered d S made h writable =
     let whole = deltas-delta h.0 made h.2 in record {
       proper = parts-proper made whole;

@@ -80,7 +80,7 @@ fn decoded(alloc: Global, bytes: &[u8]) -> Result<Digest, OpsFault> {
 
 /// Of how many clients a digest is.
 fn print_count(text: &mut String, digest: &Digest) -> Result<(), Stop> {
-    let count = digest.entries().len();
+    let count = digest.clients().len();
     Ok(writeln!(text, "digest of {count}")?)
 }
 

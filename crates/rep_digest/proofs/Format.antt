@@ -340,7 +340,7 @@ two_law = made_law of_both (both clients_at topics_at) (λ x. clients_text x.0 +
     (both_law clients_at clients_text FitsClients clients_law topics_at topics_octets AreSome topics_law) both_text FitsBoth
     (λ x h. (refl, h)) (λ d h. ((d.clients, d.topics), refl, h, refl))
 
-abbrev FitsDigest : Digested → Type 0
+abbrev pub FitsDigest : Digested → Type 0
 FitsDigest d = FitsClients d.clients × FitsTopics d.topics
 
 no_topics : FitsTopics []
@@ -405,7 +405,7 @@ version_stable octet after more =
       ])
     ]
 
-digest_law : Law digest_at spelling FitsDigest
+pub digest_law : Law digest_at spelling FitsDigest
 unfolding digest_at
 digest_law = record {
   takes = digest_takes;
@@ -427,7 +427,7 @@ topics_within cs (e ∷ ts) =
     let sum = length-append (text_of Two entry_octets cs) (topics_octets (e ∷ ts)) in
     omega (arith, sum)
 
-fits_digest : (d : Digested) → IsDigest d → IsWithinLimit d → FitsDigest d
+pub fits_digest : (d : Digested) → IsDigest d → IsWithinLimit d → FitsDigest d
 fits_digest d h size =
     let front = clients_within d.clients d.topics in
     let back = topics_within d.clients d.topics in

@@ -5,9 +5,8 @@ use Rattle.std.specs.List.{AllByRecursion}
 use Rattle.std.specs.declared.alloc.Global.{Global}
 use Rattle.rep_op.specs.declared.op.Op.{Op}
 use Rattle.rep_ops.specs.Spelling.{max_octets}
-use Rattle.rep_digest.specs.declared.entry.ClientEntry.{ClientEntry}
 use Rattle.rep_answer.specs.Answers.{IsAnswer}
-use Rattle.rep_digest.specs.Digests.{digest}
+use Rattle.rep_digest.specs.Digests.{Digested, digest}
 use Rattle.rep_digest.specs.Spelling.{spelling, IsWithinLimit as IsDigestWithinLimit}
 use Rattle.sn_local.specs.declared.config.Config.{Config}
 use Rattle.jr_disk.specs.declared.disk.Disk.{Ghosts}
@@ -70,7 +69,7 @@ abbrev pub IsStood : {D : Type 0} {G : Ghosts D} → State G → Type 0
 IsStood state = (gateway : Gateway) × IsShown gateway state
 
 -- what a peer answers to a digest, by what it keeps
-abbrev pub IsAnswered : List ClientEntry → List Op → Result Out Refusal → Type 0
+abbrev pub IsAnswered : Digested → List Op → Result Out Refusal → Type 0
 IsAnswered asked kept (Ok out) =
     IsAnswer asked kept out.answer × (out ≡ record (only_sends []) { answer = out.answer })
 IsAnswered asked kept (Err refusal) = ⊥
