@@ -4,7 +4,7 @@ use Rattle.std.specs.List.{AllByRecursion}
 use Rattle.std.proofs.lemmas.Bool.{or_cases, or_from}
 use Rattle.std.proofs.lemmas.List.Elements.{All-contains, All-nil}
 use Rattle.rep_op.specs.declared.op.Op.{Op}
-use Rattle.rep_op.specs.declared.op.Op.TheVariants.{Session as OfSession, Put as OfPut, Ack}
+use Rattle.rep_op.specs.declared.op.Op.TheVariants.{Session as OfSession, Put as OfPut, Ack, Retain as OfRetain}
 use Rattle.rep_op.specs.Sets.{acknowledges, is_acknowledged}
 use Rattle.rep_model.proofs.Readers.{is_acknowledged_both}
 use Rattle.sn_local.specs.Seen.{Seen}
@@ -30,11 +30,13 @@ written-acks : (g : ℕ) (c e : List ℕ) (name : ℕ × ℕ) (op : Op) → IsWr
 written-acks g c e name (OfSession d stamp counter change) h = refl
 written-acks g c e name (OfPut d p) h = refl
 written-acks g c e name (Ack d origin first last) h = absurd h
+written-acks g c e name (OfRetain topic kept) h = absurd h
 
 numbered-acks : (g : ℕ) (seq : List ℕ → Option ℕ) (e : List ℕ) (name : ℕ × ℕ) (op : Op) → IsNumbered g seq op → acknowledges e name op ≡ false
 numbered-acks g seq e name (OfSession d stamp counter change) h = refl
 numbered-acks g seq e name (OfPut d p) h = refl
 numbered-acks g seq e name (Ack d origin first last) h = absurd h
+numbered-acks g seq e name (OfRetain topic kept) h = absurd h
 
 -- of two parts that acknowledge, the one that acknowledges nothing is left out
 first-part : (e : List ℕ) (name : ℕ × ℕ) (xs ys : List Op) → is_acknowledged e ys name ≡ false → is_acknowledged e (xs ++ ys) name ≡ true → is_acknowledged e xs name ≡ true

@@ -7,7 +7,7 @@ use Rattle.sn_session.specs.declared.change.SessionOp.{SessionOp}
 use Rattle.sn_session.specs.Session.{is_take}
 use Rattle.rep_op.specs.declared.op.Stamp.{Stamp}
 use Rattle.rep_op.specs.declared.op.Op.{Op}
-use Rattle.rep_op.specs.declared.op.Op.TheVariants.{Session as OfSession, Put as OfPut, Ack}
+use Rattle.rep_op.specs.declared.op.Op.TheVariants.{Session as OfSession, Put as OfPut, Ack, Retain as OfRetain}
 use Rattle.rep_ops.specs.Deltas.{IsDelta}
 use Rattle.rep_op.specs.Ranges.{is_change}
 use Rattle.rep_op.specs.Sets.{operation_at}
@@ -39,6 +39,7 @@ take-at-zero (OfSession c stamp counter change) made =
     at-zero (is_take change) counter (and_parts (is_stamp stamp) (is_counted counter change) (and_parts (is_stamp stamp && is_counted counter change) (is_change change) made).0).1
 take-at-zero (OfPut c put) made = tt
 take-at-zero (Ack c origin first last) made = tt
+take-at-zero (OfRetain topic kept) made = tt
 
 delta-takes : (delta : List Op) → IsDelta delta → AllByRecursion IsTakeAtZero delta
 delta-takes delta d = all-weaken (λ op. IsTrue (is_well_made op)) IsTakeAtZero take-at-zero delta d.well_made

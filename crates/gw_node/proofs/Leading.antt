@@ -1,6 +1,7 @@
 -- Each call of a node is an event of the gateway that it stands for.
 use Rattle.std.proofs.Common.{◌≡◌, ◌≢◌, ◌⊎◌, ℕ, ◌+◌, ◌<◌, length, if◌then◌else◌, Bool, true, false, true≢false, inl, inr, List, [], ◌∷◌, ◌++◌, Option, Some, None, Result, Ok, Err, refl, sym, ap, ◌∙◌, subst, append-nil}
 use Rattle.std.specs.Prelude.{IsTrue}
+use Rattle.rep_op.specs.declared.op.Subject.{Subject}
 use Rattle.rep_op.specs.declared.op.Op.{Op}
 use Rattle.rep_ops.specs.Making.{IsDeltaOf}
 use Rattle.rep_ops.specs.Spelling.{max_octets}
@@ -67,7 +68,7 @@ module _ {D : Type 0} {G : Ghosts D} (g : Gateway) (old : State G) (s : Stands g
   nothing = record { same = refl; none = refl }
 
   -- operations that cannot be taken
-  conflict_taken : (plan : Plan) (c : List ℕ) → AreTooMuch old.kept plan.ops (refusals.Conflict c) → IsTooMuch g plan (refusals.Conflict c)
+  conflict_taken : (plan : Plan) (c : Subject) → AreTooMuch old.kept plan.ops (refusals.Conflict c) → IsTooMuch g plan (refusals.Conflict c)
   conflict_taken plan c (inl (delta, is_delta, h)) = (delta, is_delta, conflict_with_taken g.taken old.kept delta c s.keeps h)
   conflict_taken plan c (inr (e, h)) = absurd (cc)
 

@@ -6,7 +6,7 @@ use Rattle.std.proofs.lemmas.List.Concat.{flat_map-append}
 use Rattle.std.proofs.lemmas.List.Elements.{All-from_recursion, All-contains, Contains-append_left, Contains-append_right}
 use Rattle.std.proofs.lemmas.Option.{none-some, same_Some}
 use Rattle.rep_op.specs.declared.op.Op.{Op}
-use Rattle.rep_op.specs.declared.op.Op.TheVariants.{Session as OfSession, Put as OfPut, Ack}
+use Rattle.rep_op.specs.declared.op.Op.TheVariants.{Session as OfSession, Put as OfPut, Ack, Retain as OfRetain}
 use Rattle.rep_ops.specs.Deltas.{IsDelta}
 use Rattle.rep_ops.specs.Splitting.{all_of}
 use Rattle.rep_model.proofs.Joins.{all-moved}
@@ -49,11 +49,13 @@ if_some : (op : Op) (P Q : Op → Type 0) → (P op → Q op) → IfSome (number
 if_some (OfSession c s k o) P Q f h = f h
 if_some (OfPut c p) P Q f h = f h
 if_some (Ack c origin first last) P Q f h = tt
+if_some (OfRetain topic kept) P Q f h = f h
 
 always : (op : Op) (P : Op → Type 0) → P op → IfSome (number_of op) (λ number. P op)
 always (OfSession c s k o) P h = h
 always (OfPut c p) P h = h
 always (Ack c origin first last) P h = tt
+always (OfRetain topic kept) P h = h
 
 told-before : (ts made : List (List Op)) (op : Op) → IsTold ts op → IsTold (ts ++ made) op
 told-before ts made op h = if_some op (Contains (all_of ts)) (Contains (all_of (ts ++ made)))

@@ -14,7 +14,7 @@ use Rattle.sn_session.specs.Session.{applied, empty_session, is_take}
 use Rattle.rep_op.specs.declared.op.Stamp.{Stamp}
 use Rattle.rep_op.specs.declared.op.Put.{Put}
 use Rattle.rep_op.specs.declared.op.Op.{Op}
-use Rattle.rep_op.specs.declared.op.Op.TheVariants.{Session as OfSession, Put as OfPut, Ack}
+use Rattle.rep_op.specs.declared.op.Op.TheVariants.{Session as OfSession, Put as OfPut, Ack, Retain as OfRetain}
 use Rattle.rep_op.specs.Orders.{ShareName, HasTwice, put_cmp}
 use Rattle.rep_ops.specs.Making.{AreWellMade, AreApart}
 use Rattle.rep_op.specs.Ranges.{is_change, is_session}
@@ -179,6 +179,7 @@ abbrev IsNoAck : Op → Type 0
 IsNoAck (OfSession c stamp counter change) = Unit {0}
 IsNoAck (OfPut c put) = Unit {0}
 IsNoAck (Ack c origin first last) = ⊥
+IsNoAck (OfRetain topic kept) = ⊥
 
 none_of : {X : Type 0} (a b : Option X) → or_else a b ≡ None → (a ≡ None) × (b ≡ None)
 none_of None b e = (refl, e)
@@ -188,6 +189,7 @@ fresh-before : (S more : List Op) (op : Op) → IsFresh (S ++ more) op → IsFre
 fresh-before S more (OfSession c s i o) h = (none_of (operation_at c S (s, i)) (operation_at c more (s, i)) (sym (operation_at_both c S more (s, i)) ∙ h)).0
 fresh-before S more (OfPut c p) h = (none_of (put_at c S (p.seq, p.origin)) (put_at c more (p.seq, p.origin)) (sym (put_at_both c S more (p.seq, p.origin)) ∙ h)).0
 fresh-before S more (Ack c origin first last) h = tt
+fresh-before S more (OfRetain topic kept) h = tt
 
 fresh-all : (S ops : List Op) → AreFresh S ops → AllByRecursion (IsFresh S) ops
 fresh-all S [] h = tt
@@ -219,12 +221,14 @@ fresh-apart S (Ack c r f l) b h n e = absurd n
 -- but for acknowledgements, which are not written under fresh names
 abbrev ApartIfFresh : Op → Op → Type 0
 ApartIfFresh (Ack c origin first last) b = Unit {0}
+ApartIfFresh (OfRetain topic kept) b = Unit {0}
 ApartIfFresh a b = Apart a b
 
 if-fresh : (S : List Op) (a b : Op) → IsFresh (S ++ a ∷ []) b → ApartIfFresh a b
 if-fresh S (OfSession c s i o) b h = fresh-apart S (OfSession c s i o) b h tt
 if-fresh S (OfPut c p) b h = fresh-apart S (OfPut c p) b h tt
 if-fresh S (Ack c r f l) b h = tt
+if-fresh S (OfRetain topic kept) b h = tt
 
 fresh-pairs : (S ops : List Op) → AreFresh S ops → Pairwise ApartIfFresh ops
 fresh-pairs S [] h = tt
@@ -278,11 +282,13 @@ written-no-ack : (g : ℕ) (c : List ℕ) (op : Op) → IsWritten g c op → IsN
 written-no-ack g c (OfSession d s i o) h = tt
 written-no-ack g c (OfPut d p) h = absurd h
 written-no-ack g c (Ack d r f l) h = absurd h
+written-no-ack g c (OfRetain topic kept) h = absurd h
 
 numbered-no-ack : (g : ℕ) (seq : List ℕ → Option ℕ) (op : Op) → IsNumbered g seq op → IsNoAck op
 numbered-no-ack g seq (OfSession d s i o) h = absurd h
 numbered-no-ack g seq (OfPut d p) h = tt
 numbered-no-ack g seq (Ack d r f l) h = absurd h
+numbered-no-ack g seq (OfRetain topic kept) h = absurd h
 
 module _ (g : ℕ) (c : List ℕ) (S : List Op) (d : Drafted) (plan : Plan) (planned : plan_of g c (seen_of S) d ≡ Some plan)
     (numbered : 1 ≤ g) (flush : IsFlush g c S) (made : AreWellMade S) (sound : Sound d) where

@@ -11,7 +11,7 @@ use Rattle.sn_session.specs.declared.change.SessionOp.TheVariants.{Take, Presenc
 use Rattle.sn_tables.specs.Received.{is_received}
 use Rattle.sn_frame.specs.declared.frame.Frame.{Frame}
 use Rattle.rep_op.specs.declared.op.Op.{Op}
-use Rattle.rep_op.specs.declared.op.Op.TheVariants.{Session as OfSession, Put as OfPut, Ack}
+use Rattle.rep_op.specs.declared.op.Op.TheVariants.{Session as OfSession, Put as OfPut, Ack, Retain as OfRetain}
 use Rattle.sn_local.specs.declared.config.Addr.{Addr}
 use Rattle.sn_local.specs.declared.local.LocalChange.TheVariants.{Heard, EndDialog}
 use Rattle.sn_local.specs.Locals.{Local}
@@ -43,6 +43,7 @@ module _ (seen : Seen) (A : List ℕ → ℕ → Type 0) where
   IsSettled (OfSession c stamp counter change) = IsCarried seen A c change
   IsSettled (OfPut c p) = Unit {0}
   IsSettled (Ack c origin first last) = Unit {0}
+  IsSettled (OfRetain topic kept) = Unit {0}
 
   abbrev pub AreSettled : List Op → Type 0
   AreSettled ops = AllByRecursion IsSettled ops
@@ -88,6 +89,7 @@ module _ (seen : Seen) (A : List ℕ → ℕ → Type 0) where
   numbered-settled g seq (OfSession c stamp counter change) h = absurd h
   numbered-settled g seq (OfPut c p) h = tt
   numbered-settled g seq (Ack c origin first last) h = tt
+  numbered-settled g seq (OfRetain topic kept) h = tt
 
   module _ (g : ℕ) (plan : Plan) where
     of-settled : (c : List ℕ) (d : Drafted) → Carried seen A c d → plan_of g c seen d ≡ Some plan → AreSettled plan.ops

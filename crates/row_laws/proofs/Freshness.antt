@@ -4,7 +4,7 @@ use Rattle.std.specs.List.{AllByRecursion, cons_option}
 use Rattle.std.proofs.lemmas.Option.{same_Some}
 use Rattle.std.proofs.lemmas.Bool.{or_left, or_right}
 use Rattle.rep_op.specs.declared.op.Op.{Op}
-use Rattle.rep_op.specs.declared.op.Op.TheVariants.{Session as OfSession, Put as OfPut, Ack}
+use Rattle.rep_op.specs.declared.op.Op.TheVariants.{Session as OfSession, Put as OfPut, Ack, Retain as OfRetain}
 use Rattle.rep_op.specs.Sets.{put_of, puts, put_at, is_acknowledged}
 use Rattle.rep_model.specs.Views.{view}
 use Rattle.rep_model.specs.Fresh.{largest, next_epoch, seq_of, next_seq}
@@ -29,6 +29,7 @@ abbrev pub IsUnacknowledged : List Op → Op → Type 0
 IsUnacknowledged S (OfSession c stamp counter change) = Unit {0}
 IsUnacknowledged S (OfPut c put) = is_acknowledged c S (put.seq, put.origin) ≡ false
 IsUnacknowledged S (Ack c origin first last) = Unit {0}
+IsUnacknowledged S (OfRetain topic kept) = Unit {0}
 
 by_test : (b : Bool) → (b ≡ true → ⊥) → b ≡ false
 by_test true f = absurd (f refl)
@@ -53,6 +54,7 @@ written-puts : (g : ℕ) (c e : List ℕ) (op : Op) → IsWritten g c op → put
 written-puts g c e (OfSession d stamp counter change) h = refl
 written-puts g c e (OfPut d p) h = absurd h
 written-puts g c e (Ack d origin first last) h = absurd h
+written-puts g c e (OfRetain topic kept) h = absurd h
 
 module _ (g : ℕ) (seq : List ℕ → Option ℕ) where
   -- the client's next number is free
@@ -96,11 +98,13 @@ module _ (g : ℕ) (c : List ℕ) (S : List Op) (d : Drafted) (plan : Plan) (pla
   written-unacked (OfSession e stamp counter change) h = tt
   written-unacked (OfPut e p) h = absurd h
   written-unacked (Ack e origin first last) h = absurd h
+  written-unacked (OfRetain topic kept) h = absurd h
 
   numbered-unacked : (op : Op) → IsNumbered g seq_in op → IsUnacknowledged S op
   numbered-unacked (OfSession e stamp counter change) h = absurd h
   numbered-unacked (OfPut e p) h = ap (λ o. is_acknowledged e S (p.seq, o)) h.0 ∙ unacked e g S p.seq h.1
   numbered-unacked (Ack e origin first last) h = absurd h
+  numbered-unacked (OfRetain topic kept) h = absurd h
 
   pub plan-unacked : AllByRecursion (IsUnacknowledged S) plan.ops
   plan-unacked =

@@ -6,7 +6,7 @@ use Rattle.std.proofs.lemmas.Bool.{or_cases, and_parts, or_from}
 use Rattle.std.proofs.lemmas.List.Elements.{Contains-push, Contains-append_left, Contains-append_right}
 use Rattle.rep_op.specs.declared.op.Put.{Put}
 use Rattle.rep_op.specs.declared.op.Op.{Op}
-use Rattle.rep_op.specs.declared.op.Op.TheVariants.{Session as OfSession, Put as OfPut, Ack}
+use Rattle.rep_op.specs.declared.op.Op.TheVariants.{Session as OfSession, Put as OfPut, Ack, Retain as OfRetain}
 use Rattle.rep_op.specs.Sets.{same_client, put_at, acknowledges, is_acknowledged}
 use Rattle.rep_model.specs.Views.{pending_at, view}
 use Rattle.rep_model.specs.Fresh.{next_epoch, next_seq}
@@ -32,11 +32,13 @@ written-acks : (g : ℕ) (c e : List ℕ) (name : ℕ × ℕ) (op : Op) → IsWr
 written-acks g c e name (OfSession d stamp counter change) h = refl
 written-acks g c e name (OfPut d p) h = refl
 written-acks g c e name (Ack d origin first last) h = absurd h
+written-acks g c e name (OfRetain topic kept) h = absurd h
 
 numbered-acks : (g : ℕ) (seq : List ℕ → Option ℕ) (e : List ℕ) (name : ℕ × ℕ) (op : Op) → IsNumbered g seq op → acknowledges e name op ≡ false
 numbered-acks g seq e name (OfSession d stamp counter change) h = refl
 numbered-acks g seq e name (OfPut d p) h = refl
 numbered-acks g seq e name (Ack d origin first last) h = absurd h
+numbered-acks g seq e name (OfRetain topic kept) h = absurd h
 
 -- the acknowledgement of one put
 one-acked : (c e : List ℕ) (name own : ℕ × ℕ) → acknowledges e name (ack_of c own) ≡ true → (e ≡ c) × (own ≡ name)

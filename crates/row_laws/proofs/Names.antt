@@ -3,7 +3,7 @@ use Rattle.std.proofs.Common.{◌≡◌, ℕ, List, ◌++◌, map, Option, Some,
 use Rattle.std.specs.List.{AllByRecursion}
 use Rattle.sn_session.specs.declared.change.SessionOp.{SessionOp}
 use Rattle.rep_op.specs.declared.op.Op.{Op}
-use Rattle.rep_op.specs.declared.op.Op.TheVariants.{Session as OfSession, Put as OfPut, Ack}
+use Rattle.rep_op.specs.declared.op.Op.TheVariants.{Session as OfSession, Put as OfPut, Ack, Retain as OfRetain}
 use Rattle.rep_op.specs.declared.op.Stamp.{Stamp}
 use Rattle.rep_op.specs.Orders.{operation_cmp}
 use Rattle.rep_op.specs.Sets.{same_client, operation_of, operation_at}
@@ -25,6 +25,7 @@ abbrev pub IsWritten : ℕ → List ℕ → Op → Type 0
 IsWritten g c (OfSession d stamp counter change) = (d ≡ c) × (stamp.gateway ≡ g)
 IsWritten g c (OfPut d p) = ⊥
 IsWritten g c (Ack d origin first last) = ⊥
+IsWritten g c (OfRetain topic kept) = ⊥
 
 module _ (g : ℕ) (c : List ℕ) where
   abbrev pub AllOwn : List Op → Type 0
@@ -43,11 +44,13 @@ module _ (g : ℕ) (c : List ℕ) where
   is_own (OfSession d stamp counter change) h = h
   is_own (OfPut d p) h = absurd h
   is_own (Ack d origin first last) h = absurd h
+  is_own (OfRetain topic kept) h = absurd h
 
   numbered-own : (seq : List ℕ → Option ℕ) (op : Op) → IsNumbered g seq op → IsOwn g c op
   numbered-own seq (OfSession d stamp counter change) h = absurd h
   numbered-own seq (OfPut d p) h = h.0
   numbered-own seq (Ack d origin first last) h = absurd h
+  numbered-own seq (OfRetain topic kept) h = absurd h
 
   pub plan-own : (seen : Seen) (d : Drafted) (plan : Plan) → plan_of g c seen d ≡ Some plan → AllOwn plan.ops
   plan-own seen d plan e =
@@ -65,6 +68,7 @@ own-entry g c e (OfSession d stamp counter change) h =
     ]
 own-entry g c e (OfPut d p) h = tt
 own-entry g c e (Ack d origin first last) h = tt
+own-entry g c e (OfRetain topic kept) h = tt
 
 none_if : {X : Type 0} (P : Type 0) (o : Option X) → IfSome o (λ _. P) → ¬ P → o ≡ None
 none_if P None h k = refl

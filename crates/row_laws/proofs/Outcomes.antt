@@ -6,7 +6,7 @@ use Rattle.std.proofs.lemmas.List.Elements.{filter_map-append}
 use Rattle.sn_session.specs.declared.change.SessionOp.{SessionOp}
 use Rattle.sn_session.specs.Session.{applied, empty_session}
 use Rattle.rep_op.specs.declared.op.Op.{Op}
-use Rattle.rep_op.specs.declared.op.Op.TheVariants.{Session as OfSession, Put as OfPut, Ack}
+use Rattle.rep_op.specs.declared.op.Op.TheVariants.{Session as OfSession, Put as OfPut, Ack, Retain as OfRetain}
 use Rattle.rep_op.specs.Sets.{operation_of, operations}
 use Rattle.rep_model.specs.Views.{visible, history, session_of, view}
 use Rattle.rep_model.specs.Fresh.{next_epoch, next_seq}
@@ -31,11 +31,13 @@ own-else : (g : ℕ) (c e : List ℕ) → ¬ (e ≡ c) → (op : Op) → IsOwn g
 own-else g c e h (OfSession d stamp counter change) own = ap (λ b. if b then Some ((stamp, counter), change) else None) (same_client-apart e d (λ s. h (s ∙ own.0)))
 own-else g c e h (OfPut d p) own = refl
 own-else g c e h (Ack d origin first last) own = refl
+own-else g c e h (OfRetain topic kept) own = refl
 
 numbered-else : (g : ℕ) (seq : List ℕ → Option ℕ) (e : List ℕ) (op : Op) → IsNumbered g seq op → IsElse e op
 numbered-else g seq e (OfSession d stamp counter change) h = absurd h
 numbered-else g seq e (OfPut d p) h = refl
 numbered-else g seq e (Ack d origin first last) h = absurd h
+numbered-else g seq e (OfRetain topic kept) h = absurd h
 
 module _ (g : ℕ) (c : List ℕ) (S : List Op) (d : Drafted) (plan : Plan) (planned : plan_of g c (seen_of S) d ≡ Some plan) where
   abbrev seq : List ℕ → Option ℕ

@@ -6,7 +6,7 @@ use Rattle.sn_session.specs.declared.session.Session.{Session}
 use Rattle.sn_session.specs.declared.change.SessionOp.{SessionOp}
 use Rattle.sn_session.specs.declared.change.SessionOp.TheVariants.{Take}
 use Rattle.rep_op.specs.declared.op.Op.{Op}
-use Rattle.rep_op.specs.declared.op.Op.TheVariants.{Session as OfSession, Put as OfPut, Ack}
+use Rattle.rep_op.specs.declared.op.Op.TheVariants.{Session as OfSession, Put as OfPut, Ack, Retain as OfRetain}
 use Rattle.rep_model.specs.declared.view.ClientView.{ClientView}
 use Rattle.sn_plan.specs.declared.draft.NewPut.{NewPut}
 use Rattle.sn_plan.specs.declared.plan.Plan.{Plan}
@@ -55,6 +55,7 @@ abbrev pub IsNumbered : ℕ → (List ℕ → Option ℕ) → Op → Type 0
 IsNumbered g seq (OfSession d stamp counter change) = ⊥
 IsNumbered g seq (OfPut d p) = (p.origin ≡ g) × (seq d ≡ Some p.seq)
 IsNumbered g seq (Ack d origin first last) = ⊥
+IsNumbered g seq (OfRetain topic kept) = ⊥
 
 module _ (g : ℕ) (seq : List ℕ → Option ℕ) where
   pub puts-behind : (puts : List NewPut) (before after : List Op) → with_puts g seq puts before ≡ Some after → (more : List Op) × (after ≡ before ++ more) × AllByRecursion (IsNumbered g seq) more

@@ -3,7 +3,7 @@ use Rattle.std.proofs.Common.{◌≡◌, ℕ, ◌⊎◌, true, List, ◌++◌, S
 use Rattle.rep_op.specs.declared.op.Stamp.{Stamp}
 use Rattle.rep_op.specs.declared.op.Put.{Put}
 use Rattle.rep_op.specs.declared.op.Op.{Op}
-use Rattle.rep_op.specs.Sets.{operation_at, put_at, is_acknowledged, Same}
+use Rattle.rep_op.specs.Sets.{operation_at, put_at, is_acknowledged, retain_at, Same}
 use Rattle.rep_model.specs.Views.{pending_at}
 use Rattle.rep_model.specs.Keep.{keep}
 use Rattle.rep_model.specs.Taking.{AllAgree}
@@ -14,7 +14,7 @@ use Rattle.sn_local.specs.Seen.{seen_of}
 use Rattle.sn_plan.specs.Own.{AddsNone, IsOfDraft}
 use Rattle.sn_plan.specs.Flush.{IsFlush, AreFlush}
 use Rattle.row_laws.proofs.Freshness.{plan-fresh}
-use Rattle.sn_plan.proofs.Standing.{plan-fits, new-operation, new-put}
+use Rattle.sn_plan.proofs.Standing.{plan-fits, new-operation, new-put, new-retain}
 use Rattle.row_laws.proofs.Leaving.{plan-leaves}
 use Rattle.row_laws.proofs.Known.{known-own, known-others, same-behind}
 use Rattle.row_laws.proofs.Flushness.{flush-step, flush-same}
@@ -46,3 +46,6 @@ module _ (g : ℕ) (S : List Op) (plan : Plan) (p : IsOfDraft g (seen_of S) plan
 
   pub step-new_put : AreFlush g S → (c : List ℕ) (name : ℕ × ℕ) → is_some (put_at c delta name) ≡ true → put_at c S name ≡ None
   step-new_put flush = new-put S plan.ops (plan-fresh g p.client S p.draft plan p.is (flush p.client) p.one_each) delta same
+
+  pub step-new_retain : AreFlush g S → (t : List ℕ) (name : ℕ × ℕ) → is_some (retain_at t delta name) ≡ true → retain_at t S name ≡ None
+  step-new_retain flush = new-retain S plan.ops (plan-fresh g p.client S p.draft plan p.is (flush p.client) p.one_each) delta same

@@ -4,7 +4,7 @@ use Rattle.std.specs.List.{AllByRecursion}
 use Rattle.std.proofs.lemmas.Option.{same_Some}
 use Rattle.std.proofs.lemmas.List.Elements.{filter_map-append}
 use Rattle.rep_op.specs.declared.op.Op.{Op}
-use Rattle.rep_op.specs.declared.op.Op.TheVariants.{Session as OfSession, Put as OfPut, Ack}
+use Rattle.rep_op.specs.declared.op.Op.TheVariants.{Session as OfSession, Put as OfPut, Ack, Retain as OfRetain}
 use Rattle.rep_op.specs.Sets.{put_at, is_acknowledged, Stands}
 use Rattle.rep_model.proofs.Readers.{is_acknowledged_both}
 use Rattle.rep_model.proofs.Thin.{pending_at-reads}
@@ -35,6 +35,7 @@ written-messages : (g : ℕ) (c : List ℕ) (op : Op) → IsWritten g c op → m
 written-messages g c (OfSession d stamp counter change) h = refl
 written-messages g c (OfPut d p) h = absurd h
 written-messages g c (Ack d origin first last) h = absurd h
+written-messages g c (OfRetain topic kept) h = absurd h
 
 pub plan-messages : (g : ℕ) (c : List ℕ) (seen : Seen) (d : Drafted) (plan : Plan) → plan_of g c seen d ≡ Some plan → messages plan.ops ≡ d.puts
 plan-messages g c seen d plan planned =
@@ -54,6 +55,7 @@ module _ (g : ℕ) (c : List ℕ) (S : List Op) (d : Drafted) (plan : Plan) (pla
         | false ↦ λ f. inl (pending_at-reads e (S ++ plan.ops) (p.seq, p.origin) ∙ ap (λ b. cond (not b) (put_at e (S ++ plan.ops) (p.seq, p.origin)) None) f ∙ h)
       ] refl
   waits (Ack e origin first last) h u = tt
+  waits (OfRetain topic kept) h u = tt
 
   pub plan-waits : IsFlush g c S → IsOneEach d.puts → AllByRecursion (Waits (S ++ plan.ops) c d.acks) plan.ops
   plan-waits flush one = all-both (Stands (S ++ plan.ops)) (IsUnacknowledged S) (Waits (S ++ plan.ops) c d.acks) waits plan.ops

@@ -3,7 +3,7 @@ use Rattle.std.proofs.Common.{◌≡◌, ℕ, Bool, true, false, cond, not, ◌&
 use Rattle.std.proofs.lemmas.Bool.Decides.{nat_tests}
 use Rattle.std.proofs.lemmas.Option.{same_Some}
 use Rattle.rep_op.specs.declared.op.Op.{Op}
-use Rattle.rep_op.specs.declared.op.Op.TheVariants.{Session as OfSession, Put as OfPut, Ack}
+use Rattle.rep_op.specs.declared.op.Op.TheVariants.{Session as OfSession, Put as OfPut, Ack, Retain as OfRetain}
 use Rattle.rep_op.specs.Sets.{put_of, puts, put_at, acknowledges, is_acknowledged}
 use Rattle.rep_model.specs.Views.{pending_at, pending, view}
 use Rattle.rep_model.specs.Fresh.{next_epoch, next_seq}
@@ -63,6 +63,7 @@ written_no_put : (g : ℕ) (c e : List ℕ) (op : Op) → IsWritten g c op → p
 written_no_put g c e (OfSession d stamp counter change) h = refl
 written_no_put g c e (OfPut d p) h = absurd h
 written_no_put g c e (Ack d origin first last) h = absurd h
+written_no_put g c e (OfRetain topic kept) h = absurd h
 
 module _ (g : ℕ) (c : List ℕ) (S : List Op) (d : Drafted) (plan : Plan) (planned : plan_of g c (seen_of S) d ≡ Some plan) (none : d.puts ≡ []) where
   cut : Parts g c (view c S) (next_epoch c S) (λ e. next_seq e g S) d plan.ops

@@ -5,7 +5,7 @@ use Rattle.std.specs.FinMap.Entries.{same_entries}
 use Rattle.std.proofs.lemmas.Bool.{and_parts, or_cases}
 use Rattle.std.proofs.lemmas.List.Folds.{list_any-append}
 use Rattle.rep_op.specs.declared.op.Op.{Op}
-use Rattle.rep_op.specs.declared.op.Op.TheVariants.{Session as OfSession, Put as OfPut, Ack}
+use Rattle.rep_op.specs.declared.op.Op.TheVariants.{Session as OfSession, Put as OfPut, Ack, Retain as OfRetain}
 use Rattle.rep_op.specs.Orders.{client_cmp}
 use Rattle.rep_op.specs.Sets.{same_client}
 use Rattle.rep_model.specs.Views.{names, in_order, named, clients, names_client, is_named}
@@ -59,6 +59,7 @@ abbrev IsPutForNamed : List Op → Op → Type 0
 IsPutForNamed S (OfSession d stamp counter change) = Unit {0}
 IsPutForNamed S (OfPut d p) = is_named d S ≡ true
 IsPutForNamed S (Ack d origin first last) = Unit {0}
+IsPutForNamed S (OfRetain topic kept) = Unit {0}
 
 puts_for_named : (S ops : List Op) → AllByRecursion (IsForNamed S) (messages ops) → AllByRecursion (IsPutForNamed S) ops
 puts_for_named S [] all = tt
