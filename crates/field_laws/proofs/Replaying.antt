@@ -5,6 +5,7 @@ use Rattle.std.specs.declared.sync.Arc.{Arc}
 use Rattle.std.specs.declared.alloc.Global.{Global}
 use Rattle.std.proofs.lemmas.Option.{none-some, same_Some}
 use Rattle.std.proofs.lemmas.List.Elements.{All-contains_itself, recursion_from_All}
+use Rattle.rep_op.specs.declared.op.Subject.{Subject}
 use Rattle.rep_op.specs.declared.op.Op.{Op}
 use Rattle.sn_local.specs.declared.config.Config.{Config}
 use Rattle.sn_plan.proofs.Lists.{all-weaken}
@@ -224,7 +225,7 @@ run-one old [] (a ∷ answers) others one other room f g h k = absurd h
 run-one old (event ∷ events) [] others one other room f g h k = absurd h
 run-one old (event ∷ events) (a ∷ answers) [] one other room f g h k = absurd k
 
-said-conflict : (answer : Result (Arc Out Global) NodeFault) (client : List ℕ) → said answer ≡ Err (refusals.Conflict client) → answer ≡ Err (faults.Conflict client)
+said-conflict : (answer : Result (Arc Out Global) NodeFault) (client : Subject) → said answer ≡ Err (refusals.Conflict client) → answer ≡ Err (faults.Conflict client)
 said-conflict (Ok out) client e = absurd cc
 said-conflict (Err (faults.Conflict c)) client e = cc
 said-conflict (Err (faults.Frame fault)) client e = absurd cc
@@ -237,7 +238,7 @@ said-conflict (Err faults.Memory) client e = absurd cc
 
 -- no answer is a Conflict
 abbrev pub HaveNoConflict : List Answer → Type 0
-HaveNoConflict answers = (client : List ℕ) → Contains answers (Node (Err (faults.Conflict client))) → ⊥
+HaveNoConflict answers = (client : Subject) → Contains answers (Node (Err (faults.Conflict client))) → ⊥
 
 calm-answer : (answers : List Answer) → HaveNoConflict answers → (answer : Answer) → Contains answers answer → IsCalm answer
 calm-answer answers f (Node answer) there = λ client e. f client (subst (λ (x : Answer). Contains answers x) (ap (λ (r : Result (Arc Out Global) NodeFault). Node r) (said-conflict answer client e)) there)

@@ -4,7 +4,7 @@ use Rattle.std.specs.List.{AllByRecursion}
 use Rattle.std.proofs.lemmas.List.Concat.{flat_map-append}
 use Rattle.std.proofs.lemmas.List.Elements.{All-from_recursion, All-contains, Contains-append_left, Contains-append_right}
 use Rattle.rep_op.specs.declared.op.Op.{Op}
-use Rattle.rep_op.specs.Sets.{operation_at, put_at, is_acknowledged, Stands, Within, Same}
+use Rattle.rep_op.specs.Sets.{operation_at, put_at, is_acknowledged, retain_at, Stands, Within, Same}
 use Rattle.rep_model.proofs.Joins.{all-moved, same-elements, same_sym, same_trans, within-standing}
 use Rattle.rep_model.proofs.Named.{clients-thin}
 use Rattle.rep_model.proofs.Thin.{thin-same, view-thin}
@@ -161,6 +161,7 @@ same-within A B f g = record {
   operations_same = λ c name. options-alike (operation_at c A name) (operation_at c B name) (f.operations_in c name) (g.operations_in c name);
   puts_same = λ c name. options-alike (put_at c A name) (put_at c B name) (f.puts_in c name) (g.puts_in c name);
   acknowledgements_same = λ c name. tests-alike (is_acknowledged c A name) (is_acknowledged c B name) (f.acknowledgements_in c name) (g.acknowledgements_in c name);
+  retains_same = λ t name. options-alike (retain_at t A name) (retain_at t B name) (f.retains_in t name) (g.retains_in t name);
 }
 
 -- of parts of a field, that which has all operations of another has what stands in it

@@ -6,6 +6,7 @@
 
 ghost use Rattle.std.specs.Prelude.{◌≡◌, ℕ, ◌⊎◌, ◌↔◌, true, List, ◌++◌, Some, None, Ok, Err, IfSome, Contains, slice_get};
 ghost use Rattle.rep_op.specs.declared.op.Op.{Op};
+ghost use Rattle.rep_op.specs.declared.op.Subject.{Subject};
 ghost use Rattle.rep_op.specs.declared.op.Put.{Put};
 ghost use Rattle.rep_ops.specs.Deltas.{IsDelta};
 ghost use Rattle.rep_ops.specs.Making.{IsDeltaOf};
@@ -68,9 +69,9 @@ pub fn steady_field()
         → IsPlan gateway occasion now (Some plan) → IsDeltaOf plan.ops delta
         → AllAgree gateway.taken delta }
     ensures no_conflict { (field : Field) (number i : ℕ) (gateway : Gateway) (occasion : Occasion)
-        (now : ℕ) (client : List ℕ) (new : Gateway) (made : List (List Op)) → IsSteady field
+        (now : ℕ) (of : Subject) (new : Gateway) (made : List (List Op)) → IsSteady field
         → IsAt field number i gateway → OwnStep gateway occasion now
-        (Err (refusals.Conflict client)) new made → ⊥ }
+        (Err (refusals.Conflict of)) new made → ⊥ }
 {}
 
 /// A field never contradicts itself, whatever fails in it. In whatever all its gateways have taken
@@ -95,13 +96,13 @@ pub fn consistent_field()
         → Contains field.deltas delta → AllAgree gateway.taken delta
         × AllAgree (keep gateway.taken) delta }
     ensures no_conflict { (configs : List Config) (events : List Event) (answers : List Answer)
-        (field : Field) (number i k : ℕ) (gateway : Gateway) (delta : List Op) (client : List ℕ)
+        (field : Field) (number i k : ℕ) (gateway : Gateway) (delta : List Op) (of : Subject)
         (new : Gateway) (made : List (List Op)) → Run (new_field configs) events answers field
         → IsAt field number i gateway → IsDeltaAt field k delta
-        → TakeStep gateway delta (Err (refusals.Conflict client)) new made → ⊥ }
+        → TakeStep gateway delta (Err (refusals.Conflict of)) new made → ⊥ }
     ensures never { (configs : List Config) (events : List Event) (answers : List Answer)
-        (field : Field) (client : List ℕ) → Run (new_field configs) events answers field
-        → Contains answers (Node (Err (faults.Conflict client))) → ⊥ }
+        (field : Field) (of : Subject) → Run (new_field configs) events answers field
+        → Contains answers (Node (Err (faults.Conflict of))) → ⊥ }
 {}
 
 /// No session operation and no message is made twice. Each that is anywhere in a field stands in

@@ -161,6 +161,6 @@ fn is_acknowledgement(op: &Op, client: &ClientId, put: &Put) -> bool {
                 && *first <= put.seq
                 && put.seq <= *last
         }
-        Op::Session { .. } | Op::Put { .. } => false,
+        Op::Session { .. } | Op::Put { .. } | Op::Retain { .. } => false,
     }
 }

@@ -145,6 +145,7 @@ puts_well c (OfPut d p ∷ S) made =
       | false ↦ puts_well c S made.1
     ]
 puts_well c (Ack d origin first last ∷ S) made = puts_well c S made.1
+puts_well c (OfRetain t k ∷ S) made = puts_well c S made.1
 
 values_well : (es : List ((ℕ × ℕ) × Put)) → AreWell es → AllByRecursion IsWell (map (λ e. e.1) es)
 values_well [] all = tt

@@ -15,17 +15,18 @@ use Rattle.rep_op.specs.declared.op.Stamp.{Stamp}
 use Rattle.rep_op.specs.declared.op.Put.{Put}
 use Rattle.rep_op.specs.declared.op.Op.{Op}
 use Rattle.rep_op.specs.declared.op.Op.TheVariants.{Session as OfSession, Put as OfPut, Ack, Retain as OfRetain}
-use Rattle.rep_op.specs.Orders.{ShareName, HasTwice, put_cmp}
+use Rattle.rep_op.specs.Orders.{ShareName, HasTwice, put_cmp, clock_of}
 use Rattle.rep_ops.specs.Making.{AreWellMade, AreApart}
 use Rattle.rep_op.specs.Ranges.{is_change, is_session}
-use Rattle.rep_op.specs.Sets.{operation_at, put_at}
+use Rattle.rep_op.specs.Sets.{operation_at, put_at, retain_at}
 use Rattle.rep_op.specs.WellMade.{is_stamp, is_counted, is_put, is_well_made}
 use Rattle.rep_ops.proofs.Rising.{all_at}
 use Rattle.rep_model.specs.declared.view.ClientView.{ClientView}
 use Rattle.rep_model.specs.Fresh.{one_more, next_epoch, next_seq, greatest_epoch, largest, seq_of}
 use Rattle.rep_model.specs.Views.{visible, history, session_of, view}
 use Rattle.rep_model.proofs.Lookup.{or_else}
-use Rattle.rep_model.proofs.Readers.{put_total, operation_at_both, put_at_both}
+use Rattle.rep_model.proofs.Readers.{put_total, operation_at_both, put_at_both, retain_at_both}
+use Rattle.sn_plan.proofs.Standing.{retain-alone}
 use Rattle.sn_plan.specs.declared.draft.NewPut.{NewPut}
 use Rattle.sn_plan.specs.declared.plan.Plan.{Plan}
 use Rattle.sn_plan.specs.Drafts.{Drafted}
@@ -179,7 +180,7 @@ abbrev IsNoAck : Op → Type 0
 IsNoAck (OfSession c stamp counter change) = Unit {0}
 IsNoAck (OfPut c put) = Unit {0}
 IsNoAck (Ack c origin first last) = ⊥
-IsNoAck (OfRetain topic kept) = ⊥
+IsNoAck (OfRetain topic kept) = Unit {0}
 
 none_of : {X : Type 0} (a b : Option X) → or_else a b ≡ None → (a ≡ None) × (b ≡ None)
 none_of None b e = (refl, e)
@@ -189,7 +190,7 @@ fresh-before : (S more : List Op) (op : Op) → IsFresh (S ++ more) op → IsFre
 fresh-before S more (OfSession c s i o) h = (none_of (operation_at c S (s, i)) (operation_at c more (s, i)) (sym (operation_at_both c S more (s, i)) ∙ h)).0
 fresh-before S more (OfPut c p) h = (none_of (put_at c S (p.seq, p.origin)) (put_at c more (p.seq, p.origin)) (sym (put_at_both c S more (p.seq, p.origin)) ∙ h)).0
 fresh-before S more (Ack c origin first last) h = tt
-fresh-before S more (OfRetain topic kept) h = tt
+fresh-before S more (OfRetain t k) h = (none_of (retain_at t S (clock_of k)) (retain_at t more (clock_of k)) (sym (retain_at_both t S more (clock_of k)) ∙ h)).0
 
 fresh-all : (S ops : List Op) → AreFresh S ops → AllByRecursion (IsFresh S) ops
 fresh-all S [] h = tt
@@ -210,25 +211,33 @@ fresh-apart S (OfSession c s i o) (OfSession d t j p) h n e =
     some_none (operation_at c (OfSession c s i o ∷ []) (s, i)) o (at_own c [] s i o refl) (moved ∙ free)
 fresh-apart S (OfSession c s i o) (OfPut d q) h n e = e
 fresh-apart S (OfSession c s i o) (Ack d r f l) h n e = e
+fresh-apart S (OfSession c s i o) (OfRetain t k) h n e = e
 fresh-apart S (OfPut c p) (OfSession d t j o) h n e = e
 fresh-apart S (OfPut c p) (OfPut d q) h n e =
     let free : put_at d (OfPut c p ∷ []) (q.seq, q.origin) ≡ None = (none_of (put_at d S (q.seq, q.origin)) (put_at d (OfPut c p ∷ []) (q.seq, q.origin)) (sym (put_at_both d S (OfPut c p ∷ []) (q.seq, q.origin)) ∙ h)).1 in
     let moved : put_at c (OfPut c p ∷ []) (p.seq, p.origin) ≡ put_at d (OfPut c p ∷ []) (q.seq, q.origin) = λ k. put_at (e.0 k) (OfPut c p ∷ []) (e.2 k, e.1 k) in
     some_none (put_at c (OfPut c p ∷ []) (p.seq, p.origin)) p (put-alone c p) (moved ∙ free)
 fresh-apart S (OfPut c p) (Ack d r f l) h n e = e
+fresh-apart S (OfPut c p) (OfRetain t k) h n e = e
+fresh-apart S (OfRetain t k) (OfSession d u j o) h n e = e
+fresh-apart S (OfRetain t k) (OfPut d q) h n e = e
+fresh-apart S (OfRetain t k) (Ack d r f l) h n e = e
+fresh-apart S (OfRetain t k) (OfRetain u l) h n e =
+    let free : retain_at u (OfRetain t k ∷ []) (clock_of l) ≡ None = (none_of (retain_at u S (clock_of l)) (retain_at u (OfRetain t k ∷ []) (clock_of l)) (sym (retain_at_both u S (OfRetain t k ∷ []) (clock_of l)) ∙ h)).1 in
+    let moved : retain_at t (OfRetain t k ∷ []) (clock_of k) ≡ retain_at u (OfRetain t k ∷ []) (clock_of l) = λ i. retain_at (e.0 i) (OfRetain t k ∷ []) (e.1 i, e.2 i) in
+    some_none (retain_at t (OfRetain t k ∷ []) (clock_of k)) k (retain-alone t k) (moved ∙ free)
 fresh-apart S (Ack c r f l) b h n e = absurd n
 
 -- but for acknowledgements, which are not written under fresh names
 abbrev ApartIfFresh : Op → Op → Type 0
 ApartIfFresh (Ack c origin first last) b = Unit {0}
-ApartIfFresh (OfRetain topic kept) b = Unit {0}
 ApartIfFresh a b = Apart a b
 
 if-fresh : (S : List Op) (a b : Op) → IsFresh (S ++ a ∷ []) b → ApartIfFresh a b
 if-fresh S (OfSession c s i o) b h = fresh-apart S (OfSession c s i o) b h tt
 if-fresh S (OfPut c p) b h = fresh-apart S (OfPut c p) b h tt
 if-fresh S (Ack c r f l) b h = tt
-if-fresh S (OfRetain topic kept) b h = tt
+if-fresh S (OfRetain t k) b h = fresh-apart S (OfRetain t k) b h tt
 
 fresh-pairs : (S ops : List Op) → AreFresh S ops → Pairwise ApartIfFresh ops
 fresh-pairs S [] h = tt
@@ -244,12 +253,15 @@ no-ack-first : (a b : Op) → IsNoAck a → ApartIfAck a b
 no-ack-first (OfSession c s i o) b n = tt
 no-ack-first (OfPut c p) b n = tt
 no-ack-first (Ack c r f l) b n = absurd n
+no-ack-first (OfRetain t k) b n = tt
 
 no-ack-second : (a b : Op) → IsNoAck b → ApartIfAck a b
 no-ack-second (OfSession c s i o) b n = tt
 no-ack-second (OfPut c p) b n = tt
+no-ack-second (OfRetain t k) b n = tt
 no-ack-second (Ack c r f l) (OfSession d t j o) n = λ e. e
 no-ack-second (Ack c r f l) (OfPut d q) n = λ e. e
+no-ack-second (Ack c r f l) (OfRetain t k) n = λ e. e
 no-ack-second (Ack c r f l) (Ack d s g m) n = absurd n
 
 no-ack-pairs : (ops : List Op) → AllByRecursion IsNoAck ops → Pairwise ApartIfAck ops
@@ -275,6 +287,7 @@ both-apart : (a b : Op) → ApartIfFresh a b → ApartIfAck a b → Apart a b
 both-apart (OfSession c s i o) b h k = h
 both-apart (OfPut c p) b h k = h
 both-apart (Ack c r f l) b h k = k
+both-apart (OfRetain t k) b h m = h
 
 -- ---- the plan
 

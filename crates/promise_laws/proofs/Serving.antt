@@ -59,6 +59,7 @@ has-more op ops p h = record { message = h.message; among = behind_there op (OfP
 pub message-there : (ops : List Op) (p : NewPut) → Contains (messages ops) p → HasMessage ops p
 message-there [] p h = absurd (none-there p h)
 message-there (OfSession c stamp counter change ∷ ops) p h = has-more (OfSession c stamp counter change) ops p (message-there ops p h)
+message-there (OfRetain t k ∷ ops) p h = has-more (OfRetain t k) ops p (message-there ops p h)
 message-there (Ack c origin first last ∷ ops) p h = has-more (Ack c origin first last) ops p (message-there ops p h)
 message-there (OfPut c x ∷ ops) p h =
     let m : NewPut = record { client = c; topic = x.topic; qos = x.qos; body = x.body } in

@@ -66,10 +66,12 @@ puts_for_named S [] all = tt
 puts_for_named S (OfSession d stamp counter change ∷ ops) all = (tt, puts_for_named S ops all)
 puts_for_named S (OfPut d p ∷ ops) all = (all.0, puts_for_named S ops all.1)
 puts_for_named S (Ack d origin first last ∷ ops) all = (tt, puts_for_named S ops all)
+puts_for_named S (OfRetain t k ∷ ops) all = (tt, puts_for_named S ops all)
 
 own_named : (g : ℕ) (c : List ℕ) (S : List Op) → is_named c S ≡ true → (op : Op) → IsOwn g c op → IsPutForNamed S op → IsOfNamed S op
 own_named g c S there (OfSession d stamp counter change) own is e h = ap (λ x. is_named x S) (same_client-true e d h ∙ own.0) ∙ there
 own_named g c S there (OfPut d p) own is e h = ap (λ x. is_named x S) (same_client-true e d h) ∙ is
+own_named g c S there (OfRetain t k) own is e h = absurd (true≢false (sym h))
 own_named g c S there (Ack d origin first last) own is e h =
     ap (λ x. is_named x S) (same_client-true e d (and_parts (same_client e d) (nat_le first last) h).0 ∙ own) ∙ there
 
