@@ -91,5 +91,6 @@ fn limit_words(limit: Limit) -> &'static str {
         Limit::Pending => "messages that wait for one client",
         Limit::Parked => "session operations that wait for earlier ones",
         Limit::Exceptions => "acknowledgements above one that is missing",
+        Limit::Retained => "topics with something retained",
     }
 }
