@@ -4,7 +4,7 @@ ghost use Rattle.std.specs.Prelude.{◌<◌, ◌^◌};
 ghost use Rattle.std.specs.List.{AllByRecursion};
 ghost use Rattle.rep_op.specs.Values.{IsEntryValue, IsSubscriptionValue, IsWillValue, IsWillTopicValue, IsExchangeValue, IsSessionValue, IsChangeValue, IsValue};
 
-use super::op::{Op, Put};
+use super::op::{Op, Put, Retained};
 use sn_session::{Outbound, Session, SessionOp, Will, WillTopic};
 use sn_tables::{Subscription, TopicEntry};
 
@@ -171,8 +171,9 @@ pub fn is_value(op: &Op)
         }
         Op::Retain { topic, retained } => {
             let _topic = topic.bytes();
-            let _clock = retained.clock;
-            let _gateway = retained.gateway;
+            let Retained { clock, gateway, .. } = retained;
+            let _clock = *clock;
+            let _gateway = *gateway;
         }
     }
 }
