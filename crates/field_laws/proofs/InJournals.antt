@@ -110,10 +110,10 @@ made-later old mid (Frame number from bytes now) (Node answer) delta i maker h t
     own-later old mid number i maker (Datagram from bytes) now (said answer) delta at h.0 h.1 h.2 h.3 h.4 h.5 h.6 there
 made-later old mid (Tick number now) (Node answer) delta i maker h there may at =
     own-later old mid number i maker Clock now (said answer) delta at h.0 h.1 h.2 h.3 h.4 h.5 h.6 there
-made-later old mid (Frame number from bytes now) (Views views) delta i maker h there may at = absurd h
+made-later old mid (Frame number from bytes now) (Views views topics) delta i maker h there may at = absurd h
 made-later old mid (Frame number from bytes now) (Records count) delta i maker h there may at = absurd h
 made-later old mid (Frame number from bytes now) Nothing delta i maker h there may at = absurd h
-made-later old mid (Tick number now) (Views views) delta i maker h there may at = absurd h
+made-later old mid (Tick number now) (Views views topics) delta i maker h there may at = absurd h
 made-later old mid (Tick number now) (Records count) delta i maker h there may at = absurd h
 made-later old mid (Tick number now) Nothing delta i maker h there may at = absurd h
 made-later old mid (Take number k) answer delta i maker h there may at = absurd may

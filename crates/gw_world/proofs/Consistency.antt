@@ -60,7 +60,7 @@ IsAtPeace answer = Unit {0}
 
 abbrev pub IsPeaceful : Answer → Type 0
 IsPeaceful (Node answer) = IsAtPeace (said answer)
-IsPeaceful (Views views) = Unit {0}
+IsPeaceful (Views views topics) = Unit {0}
 IsPeaceful (Records count) = Unit {0}
 IsPeaceful Nothing = Unit {0}
 
@@ -223,14 +223,14 @@ after-sound old (Restart number kept) (Records count) new h s w d =
       whole = subst WholeField (sym h.4) (whole-again old s w number h.0 h.1 h.2 kept due);
       peaceful = tt;
     }
-after-sound old (Show number) (Views views) new h s w d = record { flush = subst FlushField (sym h.4) s; whole = subst WholeField (sym h.4) w; peaceful = tt }
-after-sound old (Frame number from bytes now) (Views views) new h s w d = absurd h
-after-sound old (Tick number now) (Views views) new h s w d = absurd h
-after-sound old (Take number delta) (Views views) new h s w d = absurd h
-after-sound old (Asks number peer) (Views views) new h s w d = absurd h
+after-sound old (Show number) (Views views topics) new h s w d = record { flush = subst FlushField (sym h.4) s; whole = subst WholeField (sym h.4) w; peaceful = tt }
+after-sound old (Frame number from bytes now) (Views views topics) new h s w d = absurd h
+after-sound old (Tick number now) (Views views topics) new h s w d = absurd h
+after-sound old (Take number delta) (Views views topics) new h s w d = absurd h
+after-sound old (Asks number peer) (Views views topics) new h s w d = absurd h
 after-sound old (Show number) (Node answer) new h s w d = absurd h
-after-sound old (Compact number) (Views views) new h s w d = absurd h
-after-sound old (Restart number kept) (Views views) new h s w d = absurd h
+after-sound old (Compact number) (Views views topics) new h s w d = absurd h
+after-sound old (Restart number kept) (Views views topics) new h s w d = absurd h
 after-sound old (Restart number kept) (Node answer) new h s w d = absurd h
 after-sound old (Frame number from bytes now) (Records count) new h s w d = absurd h
 after-sound old (Tick number now) (Records count) new h s w d = absurd h
@@ -239,7 +239,7 @@ after-sound old (Asks number peer) (Records count) new h s w d = absurd h
 after-sound old (Compact number) (Records count) new h s w d = absurd h
 after-sound old (Show number) (Records count) new h s w d = absurd h
 after-sound old (WriteFails number bytes sync) (Node answer) new h s w d = absurd h
-after-sound old (WriteFails number bytes sync) (Views views) new h s w d = absurd h
+after-sound old (WriteFails number bytes sync) (Views views topics) new h s w d = absurd h
 after-sound old (WriteFails number bytes sync) (Records count) new h s w d = absurd h
 after-sound old (Frame number from bytes now) Nothing new h s w d = absurd h
 after-sound old (Tick number now) Nothing new h s w d = absurd h

@@ -10,6 +10,7 @@ use Rattle.rep_model.specs.Views.{view}
 use Rattle.rep_model.specs.Taking.{AllAgree}
 use Rattle.rep_model.proofs.Joins.{view-counts}
 use Rattle.rep_model.proofs.Named.{clients-counts}
+use Rattle.rep_model.proofs.Topics.{all_retained-counts}
 use Rattle.sn_local.specs.declared.config.Config.{Config}
 use Rattle.jr_disk.specs.declared.disk.Disk.{Ghosts}
 use Rattle.gw_answer.specs.declared.out.Out.{Out}
@@ -186,24 +187,24 @@ module _ {D : Type 0} {G : Ghosts D} (field : Field) (r : IsReached field) (ks :
           shown = moved i _ news m (restarted left at.gateway) went.0;
           listed = unlisted next is_next;
         }
-    event_reaches (Show n) news next (Views views) (i, place, ((kept, there, is_views), same, is_next)) =
+    event_reaches (Show n) news next (Views views topics) (i, place, ((kept, there, is_views, is_topics), same, is_next)) =
         let at = shown_at field.gateways ks i kept s there in
         let counts = at.shown.stands.keeps.counts in
         let known : shown kept.kept ≡ shown at.gateway.taken =
         λ j. map (λ c. (c, view-counts c at.gateway.taken kept.kept counts j)) (clients-counts at.gateway.taken kept.kept counts j) in
         record {
           new = field;
-          after = (i, at.gateway, (place_there n i place, at.place), is_views ∙ known, refl);
+          after = (i, at.gateway, (place_there n i place, at.place), is_views ∙ known, refl, is_topics ∙ all_retained-counts at.gateway.taken kept.kept counts);
           shown = subst (λ xs. AreShown field.gateways xs) (sym same) s;
           listed = listed ∙ sym is_next;
         }
-    event_reaches (Frame n from bytes now) news next (Views views) (i, place, h) = absurd h
-    event_reaches (Tick n now) news next (Views views) (i, place, h) = absurd h
-    event_reaches (Take n delta) news next (Views views) (i, place, (ops, there, h, is_next)) = absurd h
-    event_reaches (Asks n m) news next (Views views) (i, place, ((j, other, h), same)) = absurd h
+    event_reaches (Frame n from bytes now) news next (Views views topics) (i, place, h) = absurd h
+    event_reaches (Tick n now) news next (Views views topics) (i, place, h) = absurd h
+    event_reaches (Take n delta) news next (Views views topics) (i, place, (ops, there, h, is_next)) = absurd h
+    event_reaches (Asks n m) news next (Views views topics) (i, place, ((j, other, h), same)) = absurd h
     event_reaches (Show n) news next (Node answer) (i, place, (h, same, is_next)) = absurd h
-    event_reaches (Compact n) news next (Views views) (i, place, (h, is_next)) = absurd h
-    event_reaches (Restart n left) news next (Views views) (i, place, (h, is_next)) = absurd h
+    event_reaches (Compact n) news next (Views views topics) (i, place, (h, is_next)) = absurd h
+    event_reaches (Restart n left) news next (Views views topics) (i, place, (h, is_next)) = absurd h
     event_reaches (Restart n left) news next (Node answer) (i, place, (h, is_next)) = absurd h
     event_reaches (Frame n from bytes now) news next (Records count) (i, place, h) = absurd h
     event_reaches (Tick n now) news next (Records count) (i, place, h) = absurd h
@@ -212,7 +213,7 @@ module _ {D : Type 0} {G : Ghosts D} (field : Field) (r : IsReached field) (ks :
     event_reaches (Compact n) news next (Records count) (i, place, (h, is_next)) = absurd h
     event_reaches (Show n) news next (Records count) (i, place, (h, same, is_next)) = absurd h
     event_reaches (WriteFails n bytes sync) news next (Node answer) (i, place, (h, is_next)) = absurd h
-    event_reaches (WriteFails n bytes sync) news next (Views views) (i, place, (h, is_next)) = absurd h
+    event_reaches (WriteFails n bytes sync) news next (Views views topics) (i, place, (h, is_next)) = absurd h
     event_reaches (WriteFails n bytes sync) news next (Records count) (i, place, (h, is_next)) = absurd h
     event_reaches (Frame n from bytes now) news next Nothing (i, place, h) = absurd h
     event_reaches (Tick n now) news next Nothing (i, place, h) = absurd h

@@ -50,7 +50,7 @@ AreMadeOnce deltas =
 -- the delta that an answer reports as made
 abbrev pub made_by : Answer → List (List Op)
 made_by (Node answer) = made_of (said answer)
-made_by (Views views) = []
+made_by (Views views topics) = []
 made_by (Records count) = []
 made_by Nothing = []
 
@@ -88,7 +88,7 @@ told answers = flat_map made_by answers
 -- digest
 abbrev pub brought_by : Answer → List (List Op)
 brought_by (Node answer) = made_of (said answer) ++ answered_of (said answer)
-brought_by (Views views) = []
+brought_by (Views views topics) = []
 brought_by (Records count) = []
 brought_by Nothing = []
 

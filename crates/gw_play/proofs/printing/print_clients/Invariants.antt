@@ -1,7 +1,7 @@
 use Rattle.std.proofs.Common.{◌≡◌, ◌++◌, take, flat_map}
 use Rattle.std.specs.Prelude.{string_bytes}
 use Rattle.gw_play.specs.Printing.{client_text}
-use Rattle.gw_play.proofs.printing.print_views.Given as goal
+use Rattle.gw_play.proofs.printing.print_clients.Given as goal
 
 -- the lines of each so far
 abbrev pub invariant-loop-view : goal.invariant-loop-view
