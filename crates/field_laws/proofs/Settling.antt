@@ -5,6 +5,8 @@ use Rattle.std.proofs.lemmas.List.Concat.{flat_map-append}
 use Rattle.std.proofs.lemmas.List.Elements.{All-from_recursion, All-contains, Contains-append_left, Contains-append_right}
 use Rattle.rep_op.specs.declared.op.Op.{Op}
 use Rattle.rep_op.specs.Sets.{operation_at, put_at, is_acknowledged, retain_at, Stands, Within, Same}
+use Rattle.rep_model.specs.Topics.{all_retained}
+use Rattle.rep_model.proofs.Topics.{all_retained-thin}
 use Rattle.rep_model.proofs.Joins.{all-moved, same-elements, same_sym, same_trans, within-standing}
 use Rattle.rep_model.proofs.Named.{clients-thin}
 use Rattle.rep_model.proofs.Thin.{thin-same, view-thin}
@@ -213,3 +215,6 @@ field-complete configs events answers field one other h in_field too all others 
 
 pub shown-same : (A B : List Op) → Same A B → shown A ≡ shown B
 shown-same A B s = λ i. map (λ c. (c, view-thin A B (thin-same A B s) c i)) (clients-thin A B (thin-same A B s) i)
+
+pub retained-same : (A B : List Op) → Same A B → all_retained A ≡ all_retained B
+retained-same A B s = all_retained-thin A B (thin-same A B s)

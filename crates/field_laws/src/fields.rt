@@ -4,7 +4,7 @@
 //! is one induction. An answered delta leaves a gateway flush because of where its names are at
 //! home, and names are at home because gateways are flush.
 
-ghost use Rattle.std.specs.Prelude.{◌≡◌, ℕ, ◌⊎◌, ◌↔◌, true, List, ◌++◌, Some, None, Ok, Err, IfSome, Contains, slice_get};
+ghost use Rattle.std.specs.Prelude.{◌≡◌, ℕ, ◌⊎◌, ◌↔◌, true, List, ◌++◌, Some, None, Ok, Err, IfSome, IsTrue, Contains, slice_get};
 ghost use Rattle.rep_op.specs.declared.op.Op.{Op};
 ghost use Rattle.rep_op.specs.declared.op.Subject.{Subject};
 ghost use Rattle.rep_op.specs.declared.op.Put.{Put};
@@ -14,6 +14,10 @@ ghost use Rattle.rep_op.specs.Sets.{is_acknowledged, IsConsistent, Within, Same}
 ghost use Rattle.rep_ops.specs.Splitting.{all_of};
 ghost use Rattle.rep_model.specs.Keep.{keep, CountsAs};
 ghost use Rattle.rep_model.specs.Views.{view};
+ghost use Rattle.rep_model.specs.Topics.{retained, all_retained};
+ghost use Rattle.rep_op.specs.declared.op.Retained.{Retained};
+ghost use Rattle.rep_op.specs.Orders.{clock_of, clock_cmp};
+ghost use Rattle.std.specs.Ordering.{is_lt};
 ghost use Rattle.rep_model.specs.Taking.{AllAgree};
 ghost use Rattle.sn_local.specs.declared.config.Config.{Config};
 ghost use Rattle.sn_plan.specs.declared.plan.Plan.{Plan};
@@ -56,6 +60,16 @@ pub fn nothing_vanishes()
         → Contains (view c gateway.taken).pending put → Within gateway.taken other.taken
         → Contains (view c other.taken).pending put
         ⊎ (is_acknowledged c other.taken (put.seq, put.origin) ≡ true) }
+    ensures retained { (old new : Field) (more : List Event) (replies : List Answer) (i : ℕ)
+        (gateway later : Gateway) (t : List ℕ) (kept : Retained)
+        → slice_get old.gateways i ≡ Some gateway → retained t gateway.taken ≡ Some kept
+        → Run old more replies new → slice_get new.gateways i ≡ Some later
+        → (last : Retained) × (retained t later.taken ≡ Some last)
+        × ((last ≡ kept) ⊎ IsTrue (is_lt (clock_cmp (clock_of kept) (clock_of last)))) }
+    ensures retained_moves { (gateway other : Gateway) (t : List ℕ) (kept : Retained)
+        → retained t gateway.taken ≡ Some kept → Within gateway.taken other.taken
+        → (last : Retained) × (retained t other.taken ≡ Some last)
+        × ((last ≡ kept) ⊎ IsTrue (is_lt (clock_cmp (clock_of kept) (clock_of last)))) }
 {}
 
 /// Whatever happens in a field, each gateway stays flush, and what it wrote itself comes back to it
@@ -182,6 +196,8 @@ pub fn settled_field()
         → NoneFails events → Contains field.gateways one → Contains field.gateways other
         → HasTakenAll field one → HasTakenAll field other → Same one.taken other.taken }
     ensures shown { (one other : List Op) → Same one other → shown one ≡ shown other }
+    ensures kept { (one other : List Op) → Same one other
+        → all_retained one ≡ all_retained other }
 {}
 
 /// The answer to its digest completes a gateway. With the deltas that a peer answers, in whatever

@@ -8,6 +8,7 @@ use Rattle.std.specs.declared.alloc.Global.{Global}
 use Rattle.rep_op.specs.declared.op.Op.{Op}
 use Rattle.rep_model.specs.Views.{view}
 use Rattle.rep_model.specs.Taking.{AllAgree}
+use Rattle.rep_model.specs.Topics.{all_retained}
 use Rattle.rep_model.proofs.Joins.{view-counts}
 use Rattle.rep_model.proofs.Named.{clients-counts}
 use Rattle.rep_model.proofs.Topics.{all_retained-counts}
@@ -284,6 +285,17 @@ module _ {D : Type 0} {G : Ghosts D} where
       ap (λ x. view c (held x).kept) (sym is_node) ∙ (view-counts c g.taken (held n).kept s.0.stands.keeps.counts ∙ ap (λ (x : Gateway). view c x.taken) is_gateway)
   views_shown held (g ∷ gs) (n ∷ nodes) s (suc i) gateway node e f c = views_shown held gs nodes s.1 i gateway node e f c
 
+  retained_shown : {N : Type 0} (held : N → State G) (gs : List Gateway) (nodes : List N) → AreShown gs (map held nodes)
+      → (i : ℕ) (gateway : Gateway) (node : N) → slice_get gs i ≡ Some gateway → slice_get nodes i ≡ Some node
+      → all_retained (held node).kept ≡ all_retained gateway.taken
+  retained_shown held [] nodes s i gateway node e f = absurd (cc)
+  retained_shown held (g ∷ gs) [] s i gateway node e f = absurd s
+  retained_shown held (g ∷ gs) (n ∷ nodes) s zero gateway node e f =
+      let is_gateway : g ≡ gateway = cc in
+      let is_node : n ≡ node = cc in
+      ap (λ x. all_retained (held x).kept) (sym is_node) ∙ (all_retained-counts g.taken (held n).kept s.0.stands.keeps.counts ∙ ap (λ (x : Gateway). all_retained x.taken) is_gateway)
+  retained_shown held (g ∷ gs) (n ∷ nodes) s (suc i) gateway node e f = retained_shown held gs nodes s.1 i gateway node e f
+
   shown_push : (gs : List Gateway) (ks : List (State G)) (g : Gateway) (k : State G) → AreShown gs ks → IsShown g k → AreShown (gs ++ g ∷ []) (ks ++ k ∷ [])
   shown_push [] [] g k s one = (one, tt)
   shown_push (x ∷ gs) (y ∷ ks) g k s one = (s.0, shown_push gs ks g k s.1 one)
@@ -329,4 +341,5 @@ module _ {D : Type 0} {G : Ghosts D} where
         listed = sym end.3;
         shown = end.2;
         views = λ i gateway node e f c. views_shown held end.0.gateways nodes end.2 i gateway node e f c;
+        retained = λ i gateway node e f. retained_shown held end.0.gateways nodes end.2 i gateway node e f;
       }
