@@ -39,8 +39,9 @@ ghost use Rattle.field_laws.specs.Settings.{settings};
 /// No message vanishes. What a gateway has taken it keeps: its set only grows, whatever comes and
 /// whatever fails. So a message that waits for a client at a gateway, at any moment of a run, waits
 /// there at every later moment, or its acknowledgement is in the set of that gateway. The same
-/// holds at each gateway that has taken all that this one had. No gateway leaves the field, and
-/// each keeps its place, its number and its other settings.
+/// holds at each gateway that has taken all that this one had. What is retained of a topic is still
+/// retained then, or something later of the topic is. No gateway leaves the field, and each keeps
+/// its place, its number and its other settings.
 pub fn nothing_vanishes()
     ensures places { (old new : Field) (more : List Event) (replies : List Answer)
         → Run old more replies new → settings new ≡ settings old }
