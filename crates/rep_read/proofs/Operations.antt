@@ -390,9 +390,12 @@ op_takes v bytes x fits e =
 
 op_again : (v : Version) (op : Op) (rest : List ℕ) → FitsOp v op → op_at v (op_octets v op ++ rest) ≡ Ok (op, rest)
 unfolding op_at
-op_again v (OfSession c s i o) rest h = (session_op_law v).again (OfSession c s i o) rest h
-op_again v (OfPut c p) rest h = (put_op_law v).again (OfPut c p) rest h
-op_again v (Ack c r f l) rest h = (ack_law v).again (Ack c r f l) rest h
+op_again One (OfSession c s i o) rest h = (session_op_law One).again (OfSession c s i o) rest h
+op_again Two (OfSession c s i o) rest h = (session_op_law Two).again (OfSession c s i o) rest h
+op_again One (OfPut c p) rest h = (put_op_law One).again (OfPut c p) rest h
+op_again Two (OfPut c p) rest h = (put_op_law Two).again (OfPut c p) rest h
+op_again One (Ack c r f l) rest h = (ack_law One).again (Ack c r f l) rest h
+op_again Two (Ack c r f l) rest h = (ack_law Two).again (Ack c r f l) rest h
 op_again One (OfRetain t k) rest h = absurd (let no : false ≡ true = h.said in cc)
 op_again Two (OfRetain t k) rest h = retain_op_law.again (OfRetain t k) rest h
 
