@@ -25,18 +25,15 @@ all_get P [] i d h lt = absurd (omega (arith, lt))
 all_get P (x ∷ S) zero d h lt = h.0
 all_get P (x ∷ S) (suc i) d h lt = all_get P S i d h.1 (omega (arith, lt))
 
+one_more : (x : Op) (S : List Op) → AllByRecursion (Past 1 x) S → IsPartitionedBy is_of_client S → (i j : ℕ) (d : Op) → i ≤ j → j < length (x ∷ S) → is_of_client (get_or (x ∷ S) j d) ≡ true → is_of_client (get_or (x ∷ S) i d) ≡ true
+one_more x S past rest zero zero d le lt e = e
+one_more x S past rest zero (suc j) d le lt e = below_client x (get_or S j d) (all_get (Past 1 x) S j d past (omega (arith, lt))).below e
+one_more x S past rest (suc i) zero d le lt e = absurd (omega (arith, le))
+one_more x S past rest (suc i) (suc j) d le lt e = rest i j d (omega (arith, le)) (omega (arith, lt)) e
+
 rising_parted : (S : List Op) → Rising 1 S → IsPartitionedBy is_of_client S
 rising_parted [] h = λ i j d le lt e. absurd (omega (arith, lt))
-rising_parted (x ∷ S) h = parted
-  where
-    rest : IsPartitionedBy is_of_client S
-    rest = rising_parted S h.1
-
-    parted : (i j : ℕ) (d : Op) → i ≤ j → j < length (x ∷ S) → is_of_client (get_or (x ∷ S) j d) ≡ true → is_of_client (get_or (x ∷ S) i d) ≡ true
-    parted zero zero d le lt e = e
-    parted zero (suc j) d le lt e = below_client x (get_or S j d) (all_get (Past 1 x) S j d h.0 (omega (arith, lt))).below e
-    parted (suc i) zero d le lt e = absurd (omega (arith, le))
-    parted (suc i) (suc j) d le lt e = rest i j d (omega (arith, le)) (omega (arith, lt)) e
+rising_parted (x ∷ S) h = one_more x S h.0 (rising_parted S h.1)
 
 pub delta_parted : (S : List Op) → IsDelta S → IsPartitionedBy is_of_client S
 delta_parted S h = rising_parted S (rising_ascending S h.well_made h.ascending)
