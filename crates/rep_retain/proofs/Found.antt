@@ -36,7 +36,7 @@ are_of_topics (e ∷ es) = (refl, are_of_topics es)
 -- ---- topics that are compared
 
 pub apart : (t u : List ℕ) (o : Ordering) → topic_name_cmp t u ≡ o → is_eq o ≡ false → same_topic t u ≡ false
-apart t u o e no = sym (is_eq-slice_cmp t u) ∙ ap is_eq e ∙ no
+apart t u o e differ = sym (is_eq-slice_cmp t u) ∙ ap is_eq e ∙ differ
 
 pub tied : (t u : List ℕ) → topic_name_cmp t u ≡ Equal → t ≡ u
 tied t u e = topic_exact t u e

@@ -27,7 +27,7 @@ is_same : (t : List ℕ) (e : List ℕ × Retained) → by_topic t e ≡ Equal �
 is_same t e h = (bytes_eq-Decides t e.0).1 (sym (tied e.0 t h))
 
 is_other : (t : List ℕ) (e : List ℕ × Retained) (o : Ordering) → by_topic t e ≡ o → is_eq o ≡ false → same_topic t e.0 ≡ false
-is_other t e o h no = turned e.0 t (apart e.0 t o h no)
+is_other t e o h differ = turned e.0 t (apart e.0 t o h differ)
 
 -- what stands at its place is found
 pub found : (t : List ℕ) (es : List (List ℕ × Retained)) (i : ℕ) (d : List ℕ × Retained) → IsAt (by_topic t) es i → kept_in t es ≡ Some (get_or es i d).1

@@ -335,6 +335,7 @@ impl Topics {
             (ops_of (moved self.now staged))) }
         ensures fault { IfErr result (IsFull (ops_of self.now ++ ops.now)) }
     {
+        let _own = self.entries.len();
         if ops.is_empty() {
             return Ok(None);
         }

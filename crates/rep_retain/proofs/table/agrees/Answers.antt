@@ -7,8 +7,8 @@ use Rattle.rep_retain.proofs.Found.{entry_total}
 use Rattle.rep_retain.proofs.Keeping.{retain_at_found}
 use Rattle.rep_retain.proofs.table.agrees.Goals as goal
 
-pub returns-in-Retain : goal.returns-in-Retain
-returns-in-Retain c =
+pub returns : goal.returns
+returns c =
     let es = c.args.entries.now in
     let k = c.in-Retain.retained in
     let stood = retain_at_found c.in-Retain.topic es (from_test entry_cmp entry_total es c.requires.table) (clock_of k) in

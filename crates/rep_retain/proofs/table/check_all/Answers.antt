@@ -1,4 +1,4 @@
-use Rattle.std.proofs.Common.{false, Contains, refl, sym, subst, ◌∙◌, true≢false, ⊎_elim}
+use Rattle.std.proofs.Common.{◌≡◌, false, Contains, refl, sym, subst, ◌∙◌, true≢false, ⊎_elim}
 use Rattle.std.proofs.lemmas.List.Elements.{Contains-get_or, All-from_recursion, All-contains}
 use Rattle.rep_op.specs.declared.op.Op.{Op}
 use Rattle.rep_op.specs.Orders.{is_of_client}
