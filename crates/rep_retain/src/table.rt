@@ -390,13 +390,14 @@ impl Topics {
         }
     }
 
-    /// The topic at a place, with what is retained of it; nothing after the last.
-    pub fn at(&self, place: usize) -> Option<(&TopicName, &Retained)>
+    /// The topic at a place, with what is retained of it, and the place after it; nothing after the
+    /// last.
+    pub fn at(&self, place: usize) -> Option<(usize, &TopicName, &Retained)>
         ensures { MatchOption result
             (drop place (topics.all_retained (ops_of self.now)) ≡ [])
-            (λ found. drop place (topics.all_retained (ops_of self.now))
-            ≡ (found.0.now, found.1.now) ∷ drop (place + 1)
-            (topics.all_retained (ops_of self.now))) }
+            (λ found. (drop place (topics.all_retained (ops_of self.now))
+            ≡ (found.1.now, found.2.now) ∷ drop found.0 (topics.all_retained (ops_of self.now)))
+            × (found.0 ≡ place + 1)) }
     {
         entry_at(self.entries.as_slice(), place)
     }
@@ -413,6 +414,13 @@ impl Topics {
         offered(alloc, self.entries.as_slice(), asked)
     }
 
+    /// What the type promises of the operations that it stands for.
+    pub fn are_made(&self)
+        ensures { AreWellMade (ops_of self.now) }
+    {
+        let _own = self.entries.len();
+    }
+
     /// Puts what is kept after other operations.
     pub fn push_to(&self, alloc: Global, ops: &mut Vec<Op>) -> Result<(), NoMemory>
         ensures ok { OnOk result (ops.new.items ≡ ops.old.items ++ ops_of self.now) }
@@ -424,18 +432,19 @@ impl Topics {
     }
 }
 
-/// The entry at a place, in two parts; nothing after the last.
+/// The entry at a place, in two parts, and the place after it; nothing after the last.
 fn entry_at(
     entries: &[(TopicName, Retained)],
     place: usize,
-) -> Option<(&TopicName, &Retained)>
+) -> Option<(usize, &TopicName, &Retained)>
     ensures { MatchOption result (drop place entries.now ≡ [])
-        (λ found. drop place entries.now
-        ≡ (found.0.now, found.1.now) ∷ drop (place + 1) entries.now) }
+        (λ found. (drop place entries.now
+        ≡ (found.1.now, found.2.now) ∷ drop found.0 entries.now)
+        × (found.0 ≡ place + 1)) }
 {
     if place < entries.len() {
         let entry = &entries[place];
-        Some((&entry.0, &entry.1))
+        Some((place + 1, &entry.0, &entry.1))
     } else {
         None
     }

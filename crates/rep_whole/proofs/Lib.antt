@@ -1,3 +1,3 @@
 pub mod Refusing
-pub mod Holding
+pub mod Held
 pub mod Telling

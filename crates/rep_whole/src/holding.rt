@@ -25,6 +25,7 @@ pub(crate) fn both_to_keep<C: ClientSet>(
     ensures well { IfOk result (λ ops. AreWellMade ops.items) }
     ensures made { AreWellMade (C.kept clients.now ++ ops_of topics.now) }
 {
+    topics.are_made();
     let mut ops = clients.to_keep(alloc)?;
     match topics.push_to(alloc, &mut ops) {
         Ok(()) => Ok(ops),

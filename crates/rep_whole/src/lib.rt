@@ -8,7 +8,7 @@
 //! - `holding`: what must be kept of both.
 //!
 //! That each reader of a set reads one of the two is proved in `rep_model` (`proofs/Beside`). Here
-//! `proofs/` has what follows for refusals (`Refusing`), for what must be kept (`Holding`) and for
+//! `proofs/` has what follows for refusals (`Refusing`), for what must be kept (`Held`) and for
 //! what is answered (`Telling`).
 #![tactic(auto)]
 

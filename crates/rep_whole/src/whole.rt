@@ -104,8 +104,7 @@ impl<C: ClientSet> Replica for Whole<C> {
     }
 
     fn topic_at(&self, place: usize) -> Option<(usize, &TopicName, &Retained)> {
-        let (topic, kept) = self.topics.at(place)?;
-        Some((place + 1, topic, kept))
+        self.topics.at(place)
     }
 
     fn retained_matching(

@@ -4,7 +4,7 @@ use Rattle.rep_ops.specs.Making.{AreWellMade}
 use Rattle.rep_model.specs.Keep.{keep}
 use Rattle.rep_retain.specs.Tables.{ops_of}
 use Rattle.rep_retain.proofs.Found.{are_of_topics}
-use Rattle.rep_whole.proofs.Holding.{both_kept, made_both}
+use Rattle.rep_whole.proofs.Held.{both_kept, made_both}
 use Rattle.rep_whole.proofs.holding.both_to_keep.Goals as goal
 
 pub returns-in-Ok-clause-same : goal.returns-in-Ok-clause-same
@@ -17,3 +17,6 @@ returns-in-Ok-clause-same g c =
 pub returns-in-Ok-clause-well : goal.returns-in-Ok-clause-well
 returns-in-Ok-clause-well g c =
     subst AreWellMade (sym c.in-Ok.ensures.ok) (made_both c.in_ok-ops.ops.items (ops_of c.args.topics.now) c.in_ok-ops.ensures.well c.push_to.ensures.made)
+
+pub returns-in_err-ops-clause-made : goal.returns-in_err-ops-clause-made
+returns-in_err-ops-clause-made g c = made_both (g.C.ClientSet.kept c.args.clients.now) (ops_of c.args.topics.now) c.to_keep.ensures.made c.are_made.ensures

@@ -1,5 +1,5 @@
 use Rattle.std.proofs.Common.{◌++◌}
-use Rattle.rep_whole.proofs.Holding.{held_by}
+use Rattle.rep_whole.proofs.Held.{held_by}
 use Rattle.rep_retain.specs.Tables.{ops_of}
 use Rattle.rep_whole.proofs.whole.WholeReplica.held.Goals as goal
 

@@ -1,13 +1,8 @@
-use Rattle.std.proofs.Common.{◌∷◌, drop, refl, sym, ap, ◌∙◌}
 use Rattle.rep_model.proofs.Beside.{all_retained-back}
 use Rattle.rep_retain.specs.Tables.{ops_of}
 use Rattle.rep_whole.proofs.whole.WholeReplica.topic_at.Goals as goal
 
-pub returns-in_none-at : goal.returns-in_none-at
-returns-in_none-at g c = ?
-
 pub returns : goal.returns
 returns g c =
     let w = c.args.self.now in
-    let listed = all_retained-back (g.C.ClientSet.kept w.clients) (ops_of w.topics) w.own in
-    (rw listed c.in_some-topic.ensures, refl)
+    rw (all_retained-back (g.C.ClientSet.kept w.clients) (ops_of w.topics) w.own) c.at.ensures
