@@ -30,7 +30,7 @@ pub fn covers_retain(entries: &[RetainedEntry], topic: &TopicName, retained: &Re
 fn find_entry<'a>(entries: &'a [RetainedEntry], topic: &TopicName) -> Option<&'a RetainedEntry>
     requires { AreTopics entries.now }
     ensures { MatchOption result (topic_entry_of topic.now entries.now ≡ None)
-        (λ entry. topic_entry_of topic.now entries.now ≡ Some entry) }
+        (λ entry. topic_entry_of topic.now entries.now ≡ Some entry.now) }
 {
     match place(entries, topic) {
         Ok(at) => Some(&entries[at]),
