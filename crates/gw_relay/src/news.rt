@@ -290,10 +290,7 @@ fn is_of(name: &Name, op: &Op) -> bool
 fn is_name(name: &Name, kind: u8, gateway: u8, first: u64, last: u64) -> bool
     ensures { result ≡ spec.is_name kind gateway first last name.now }
 {
-    name.first == first
-        && name.last == last
-        && name.gateway == gateway
-        && name.kind == kind
+    name.first == first && name.last == last && name.gateway == gateway && name.kind == kind
 }
 
 /// Whether it is this client.

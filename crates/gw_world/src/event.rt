@@ -98,10 +98,7 @@ pub enum Answer {
     Node(Result<Arc<Out>, NodeFault>),
     /// The clients that a gateway knows, in ascending order, with their views; and the topics of
     /// which something was ever retained, in ascending order, with what is.
-    Views(
-        Sequence<(ClientId, ClientView)>,
-        Sequence<(TopicName, Retained)>,
-    ),
+    Views(Sequence<(ClientId, ClientView)>, Sequence<(TopicName, Retained)>),
     /// How many records a gateway read when it was opened again.
     Records(u64),
     /// Nothing was to be said: a failure was arranged.

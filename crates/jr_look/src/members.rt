@@ -81,7 +81,10 @@ fn retains(text: &mut String, topic: &TopicName, retained: &Retained) -> Result<
     let gateway = retained.gateway;
     let qos = retained.qos.number();
     let body = Quoted(retained.body.as_slice());
-    write!(text, "\"topic\":{topic},\"change\":\"retain\",\"clock\":{clock},")?;
+    write!(
+        text,
+        "\"topic\":{topic},\"change\":\"retain\",\"clock\":{clock},"
+    )?;
     write!(text, "\"gateway\":{gateway},\"qos\":{qos},\"body\":{body}")
 }
 

@@ -132,7 +132,7 @@ pub covered_retain : (t : List ℕ) (T : List Op) (name : ℕ × ℕ) → covers
 covered_retain t T name e last =
     said_topic (λ entry. is_as_late entry name ≡ true → is_some (retain_at t T name) ≡ true) T (topics T) t (λ none. absurd (true≢false (sym none)))
     (λ g is late.
-        let there : is_some (retain_at t T g) ≡ true = subst (λ v. IfSome v (λ g. is_some (retain_at t T g) ≡ true)) is (latest-there t T) in
-        let after : is_lt (clock_cmp g name) ≡ false = not_true (is_lt (clock_cmp g name)) late in
-        let before : is_lt (clock_cmp name g) ≡ false = sym (ap (is_outdone name) is) ∙ last in
-        ap (λ n. is_some (retain_at t T n)) (level name g before after (clock_cmp name g) refl) ∙ there) e
+    let there : is_some (retain_at t T g) ≡ true = subst (λ v. IfSome v (λ g. is_some (retain_at t T g) ≡ true)) is (latest-there t T) in
+    let after : is_lt (clock_cmp g name) ≡ false = not_true (is_lt (clock_cmp g name)) late in
+    let before : is_lt (clock_cmp name g) ≡ false = sym (ap (is_outdone name) is) ∙ last in
+    ap (λ n. is_some (retain_at t T n)) (level name g before after (clock_cmp name g) refl) ∙ there) e

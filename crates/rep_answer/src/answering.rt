@@ -13,7 +13,9 @@ ghost use Rattle.rep_answer.specs.Answers.{entry_of};
 ghost use Rattle.rep_answer.specs.inner.Steps.{before, outside, ack_of, left_of, left_by, IsLeft};
 ghost use Rattle.rep_answer.specs.inner.Steps as steps;
 
-use super::cover::{acknowledged_in, beginning_by, ending_from, find_entry, in_ranges, sees, waiting_in};
+use super::cover::{
+    acknowledged_in, beginning_by, ending_from, find_entry, in_ranges, sees, waiting_in,
+};
 use super::topic::covers_retain;
 use octets::NoMemory;
 use rep_digest::{ClientEntry, Digest};
@@ -63,12 +65,7 @@ fn left_of_deltas(alloc: Global, digest: &Digest, deltas: &[Delta]) -> Result<Ve
 }
 
 /// Copies what a digest leaves of operations after the others.
-fn add_left(
-    alloc: Global,
-    left: &mut Vec<Op>,
-    digest: &Digest,
-    ops: &[Op],
-) -> Result<(), NoMemory>
+fn add_left(alloc: Global, left: &mut Vec<Op>, digest: &Digest, ops: &[Op]) -> Result<(), NoMemory>
     requires { AreWellMade ops.now }
     ensures { OnOk result (left.new.items ≡ left.old.items ++ flat_map
         (left_by digest.now) ops.now) }
@@ -80,12 +77,7 @@ fn add_left(
 }
 
 /// Copies what a digest leaves of an operation after the others.
-fn add_left_of(
-    alloc: Global,
-    left: &mut Vec<Op>,
-    digest: &Digest,
-    op: &Op,
-) -> Result<(), NoMemory>
+fn add_left_of(alloc: Global, left: &mut Vec<Op>, digest: &Digest, op: &Op) -> Result<(), NoMemory>
     requires { IsTrue (made.is_well_made op.now) }
     ensures { OnOk result (left.new.items ≡ left.old.items ++ left_by digest.now op.now) }
 {

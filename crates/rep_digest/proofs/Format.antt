@@ -449,11 +449,14 @@ writable d h size = each_weaker FitsEntry IsWritable a_writable d (fits_text d h
 -- what is read is a digest, written so
 pub read_spelled : (bytes : List ℕ) (d : Digested) → AreOctets bytes → reading bytes ≡ Ok d → IsDigest d × IsWithinLimit d × (bytes ≡ spelling d)
 read_spelled bytes d octets e =
-    let w = takes digest_at spelling FitsDigest digest_law bytes d octets e in
-    (record {
-      clients = record { entries = some_entries d.clients w.1.0.fits w.1.0.ascending.0; ascend = w.1.0.ascending.1 };
-      topics = record { entries = each_weaker FitsRetained IsRetained a_topic d.topics w.1.1.fits; ascend = w.1.1.ascending };
-    }, w.2, w.0)
+    let w = takes digest_at spelling FitsDigest digest_law bytes d octets e in (
+      record {
+        clients = record { entries = some_entries d.clients w.1.0.fits w.1.0.ascending.0; ascend = w.1.0.ascending.1 };
+        topics = record { entries = each_weaker FitsRetained IsRetained a_topic d.topics w.1.1.fits; ascend = w.1.1.ascending };
+      },
+      w.2,
+      w.0,
+    )
 
 -- and what is written is read
 pub read_again : (d : Digested) → IsDigest d → IsWithinLimit d → reading (spelling d) ≡ Ok d

@@ -71,10 +71,10 @@ module _ (t : List ℕ) where
       let y = and_parts (nat_le 1 k.clock) (nat_le 1 k.gateway) x.0 in
       elim (same_topic t u) as (λ b. same_topic t u ≡ b → IfSome {T = (ℕ × ℕ) × Retained} (if b then Some (clock_of k, k) else None) (λ e. IsRetained (entry_of_topic t e.0))) [
         | true ↦ λ same. record {
-            topic = subst IsName (sym (same_topic-true t u same)) v.0;
-            clock = (leb-true 1 k.clock y.0, v.1);
-            gateway = (leb-true 1 k.gateway y.1, v.2);
-          }
+          topic = subst IsName (sym (same_topic-true t u same)) v.0;
+          clock = (leb-true 1 k.clock y.0, v.1);
+          gateway = (leb-true 1 k.gateway y.1, v.2);
+        }
         | false ↦ λ _. tt
       ] refl
 

@@ -249,11 +249,7 @@ fn conflict(alloc: Global, op: &Op) -> TakeFault
 }
 
 /// Whether operations of topics contradict nothing in a table.
-fn check_all(
-    alloc: Global,
-    entries: &[(TopicName, Retained)],
-    ops: &[Op],
-) -> Result<(), TakeFault>
+fn check_all(alloc: Global, entries: &[(TopicName, Retained)], ops: &[Op]) -> Result<(), TakeFault>
     requires table { IsTrue (is_ascending entry_cmp entries.now) }
     requires topics { AreOfTopics ops.now }
     ensures agree { OnOk result (AllAgree (ops_of entries.now) ops.now) }
