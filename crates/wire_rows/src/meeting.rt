@@ -312,7 +312,7 @@ fn happen<'a, T: Wait + Clock>(
         Act::Last => talk_all(rt, alloc, text, side, Phase::Quiet),
         Act::Sit => sit_down(rt, alloc, text, side),
         Act::Turn => turn(rt, alloc, text, side),
-        _ => happen_to(rt, alloc, place_of(side)?, act),
+        Act::Come(_) | Act::Idle(_) | Act::Takes(_) => happen_to(rt, alloc, place_of(side)?, act),
     }
 }
 
@@ -328,7 +328,7 @@ fn happen_to<T: Wait>(rt: &T, alloc: Global, place: &Place, act: &Act) -> Result
             place.set_takes(*count);
             Ok(())
         }
-        _ => Err(Stop::Line),
+        Act::Ask(..) | Act::Talk | Act::Last | Act::Sit | Act::Turn => Err(Stop::Line),
     }
 }
 
@@ -618,7 +618,7 @@ fn turn<'a, T: Wait>(
     let Some(OpenShift { shift, pass, seat }) = side.open.take() else {
         return Err(Stop::Line);
     };
-    let over = close(shift, both(alloc, pass, seat)?);
+    let over = close(shift, passes_of(alloc, pass, seat)?);
     let printed = print_turn(alloc, text, side.number, &over);
     open_next(alloc, side, over)?;
     side.pool.begin_shift(rt);
@@ -626,8 +626,8 @@ fn turn<'a, T: Wait>(
     printed
 }
 
-/// Both passes.
-fn both(alloc: Global, pass: Pass, seat: Pass) -> Result<Vec<Pass>, Stop> {
+/// The passes of a shift, in the order in which they are closed.
+fn passes_of(alloc: Global, pass: Pass, seat: Pass) -> Result<Vec<Pass>, Stop> {
     let mut passes = Vec::new(alloc);
     passes.push(pass)?;
     passes.push(seat)?;
