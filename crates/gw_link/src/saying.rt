@@ -121,7 +121,8 @@ fn say_piece<S: Drop>(
 ) -> Result<usize, End> {
     let mut count = most.min(ops.len()).max(1);
     for _ in 0..MOST_HALVES {
-        let octets = spelled(alloc, LinkMessage::Delta(delta_of(alloc, front(ops, count))?))?;
+        let piece = delta_of(alloc, front(ops, count))?;
+        let octets = spelled(alloc, LinkMessage::Delta(piece))?;
         if fits(octets.len(), count) {
             say_spelled(link, octets)?;
             return Ok(count);
