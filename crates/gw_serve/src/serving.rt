@@ -168,14 +168,12 @@ where
         mut buffer,
     } = room;
     let mut slots = seated(alloc, sender, root, passes, slots);
-    let bell = Bell::new();
-    let stop = AtomicBool::new(false);
     let shared = Shared {
         rt,
         alloc,
         shift,
-        bell: &bell,
-        stop: &stop,
+        bell: Bell::new(),
+        stop: AtomicBool::new(false),
         post,
         gate,
     };
@@ -189,15 +187,26 @@ where
         wire,
         buffer.as_mut_slice(),
     );
+    drop(shared);
     drop(buffer);
     let mut gathered = gather(alloc, sender, root, slots, back);
     let rest = drain(rt, receiver, root, &mut gathered.left);
     match first_cause(reading.fault, first_trouble(gathered.fault, rest)) {
-        Some(cause) => Err(ServeFault {
-            shift,
-            passes: gathered.passes,
-            cause,
-        }),
+        Some(cause) => {
+            let Gathered {
+                passes,
+                taken,
+                left,
+                fault: _,
+            } = gathered;
+            drop(taken);
+            drop(left);
+            Err(ServeFault {
+                shift,
+                passes,
+                cause,
+            })
+        }
         None => Ok(Served {
             shift,
             passes: gathered.passes,
@@ -304,8 +313,8 @@ where
 {
     let rt = shared.rt;
     let alloc = shared.alloc;
-    let bell = shared.bell;
-    let stop = shared.stop;
+    let bell = &shared.bell;
+    let stop = &shared.stop;
     let mut working = ||
         requires { All (IsFreshSlot (receives_on receiver.now)) slots.now }
         ensures { WorkedFrom (receives_on receiver.entry.now) slots.entry.now slots.exit.now }

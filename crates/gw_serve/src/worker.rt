@@ -95,9 +95,9 @@ pub struct Shared<'a, T: Wait, R: Replica, D: Disk, P: Post, G: Gate> {
     /// The shift that the calls are of.
     pub shift: &'a Shift<R, D>,
     /// By which the reader wakes them.
-    pub bell: &'a Bell,
+    pub bell: Bell,
     /// Whether the reader is to stop.
-    pub stop: &'a AtomicBool,
+    pub stop: AtomicBool,
     /// By which the replies go out.
     pub post: &'a P,
     /// What hears of each reply.
@@ -149,7 +149,7 @@ fn take_all<T: Wait, R: Replica, D: Disk + Drop, P: Post, G: Gate>(
         fault: _,
     } = seat;
     let rt = shared.rt;
-    let bell = shared.bell;
+    let bell = &shared.bell;
     let mut has_worked = false;
     for _ in rt.forever() {
         if !has_room(&mut taken, &mut left) {
