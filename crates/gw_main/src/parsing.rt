@@ -38,7 +38,7 @@ pub fn settings(alloc: Global, text: &str) -> Result<Settings, SettingsFault>
     }
 }
 
-/// What the keys before the lists say.
+/// What a document says in the keys before the lists.
 #[derive(Drop)]
 pub(crate) struct Plain {
     gateway: u8,
@@ -50,7 +50,7 @@ pub(crate) struct Plain {
     advertise: u16,
 }
 
-/// What the lists say, and the key after them.
+/// What it says in the lists, and in the key after them.
 #[derive(Drop)]
 pub(crate) struct Lists {
     field: Vec<Addr>,
@@ -72,7 +72,7 @@ fn settings_of(alloc: Global, table: &Table) -> Result<Settings, SettingsFault>
     }
 }
 
-/// What a document says in whose keys before the lists this stands.
+/// What a document says, whose keys before the lists were read.
 fn with_lists(alloc: Global, table: &Table, plain: Plain) -> Result<Settings, SettingsFault>
     requires plain { SaysPlain (table_view table.now) plain }
     ensures ok { IfOk result (Says (table_view table.now)) }
@@ -87,7 +87,7 @@ fn with_lists(alloc: Global, table: &Table, plain: Plain) -> Result<Settings, Se
     }
 }
 
-/// The settings that both make.
+/// Settings of both parts.
 fn joined(plain: Plain, lists: Lists) -> Settings
     ensures { (members : Members) → SaysPlain members plain → SaysLists members lists
         → Says members result }
@@ -109,7 +109,7 @@ fn joined(plain: Plain, lists: Lists) -> Settings
     }
 }
 
-/// What a document says in the keys before the lists.
+/// Reads the keys before the lists.
 fn plain_of(alloc: Global, table: &Table) -> Result<Plain, SettingsFault>
     ensures ok { IfOk result (SaysPlain (table_view table.now)) }
     ensures err { IfErr result (IsBad (table_view table.now)) }
@@ -132,7 +132,8 @@ fn plain_of(alloc: Global, table: &Table) -> Result<Plain, SettingsFault>
     })
 }
 
-/// What a document says in the lists and the key after them, where the keys before are good.
+/// Reads the lists, and the key after them. Where it refuses them, their keys are the first bad
+/// ones, if those before are good.
 fn lists_of(alloc: Global, table: &Table) -> Result<Lists, SettingsFault>
     ensures ok { IfOk result (SaysLists (table_view table.now)) }
     ensures err { IfErr result (IsBadAfter (table_view table.now)) }
