@@ -108,8 +108,8 @@ pub fn dropped(fault: &NodeFault) -> Result<(), NoMemory>
     }
 }
 
-/// The same, as the end of what asked.
-pub(crate) fn passed_over(fault: NodeFault) -> Result<(), End> {
+/// Drops what the gateway refused. Only want of memory ends what asked.
+pub(crate) fn drop_refusal(fault: NodeFault) -> Result<(), End> {
     let is_dropped = dropped(&fault);
     drop(fault);
     Ok(is_dropped?)

@@ -5,7 +5,7 @@ ghost use Rattle.std.specs.Arc.{arc_value};
 ghost use Rattle.gw_link.specs.Adding.{Adds, is_of_link};
 ghost use Rattle.gw_link.specs.inner.Calling as spec;
 
-use crate::calling::{End, call, passed_over};
+use crate::calling::{End, call, drop_refusal};
 use crate::link::{Heard, Link};
 use crate::outgoing::is_nothing;
 use crate::relay::{Relay, weight, weight_of_digest};
@@ -318,7 +318,7 @@ fn follow_answer<T: Wait, S: Drop>(
         Ok(Err(fault)) => {
             drop(news);
             note_refusal(rt, link, relay, &fault);
-            passed_over(fault)
+            drop_refusal(fault)
         }
         Ok(Ok(out)) => {
             let followed = follow(rt, alloc, link, stage, relay, news, &out);

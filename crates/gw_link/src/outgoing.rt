@@ -54,20 +54,23 @@ pub(crate) fn say<S: Drop>(
 ) -> Result<(), End>
     requires { IsNumbered message }
 {
-    let octets = spelled(alloc, &message);
-    drop(message);
-    say_spelled(link, octets?)
+    say_spelled(link, spelled(alloc, message)?)
 }
 
 /// The octets of a message. The number of a hello is not 0.
-pub(crate) fn spelled(alloc: Global, message: &LinkMessage) -> Result<Vec<u8>, End>
-    requires { IsNumbered message.now }
+pub(crate) fn spelled(alloc: Global, message: LinkMessage) -> Result<Vec<u8>, End>
+    requires { IsNumbered message }
 {
     let mut octets = Vec::new(alloc);
-    if link_out(alloc, &mut octets, message).is_err() {
-        return Err(End::Memory);
+    let written = link_out(alloc, &mut octets, &message);
+    drop(message);
+    match written {
+        Ok(()) => Ok(octets),
+        Err(_) => {
+            drop(octets);
+            Err(End::Memory)
+        }
     }
-    Ok(octets)
 }
 
 /// Puts the octets of a message after those that are to go out.

@@ -3,7 +3,7 @@
 ghost use Rattle.std.specs.Prelude.{◌≡◌, IfOk};
 ghost use Rattle.gw_link.specs.Adding.{Adds, is_of_link};
 
-use crate::calling::{End, call, passed_over};
+use crate::calling::{End, call, drop_refusal};
 use crate::hearing::second_of;
 use crate::link::Link;
 use crate::outgoing::{is_behind, say, say_spelled, spelled};
@@ -121,7 +121,8 @@ fn say_piece<S: Drop>(
 ) -> Result<usize, End> {
     let mut count = most.min(ops.len()).max(1);
     for _ in 0..MOST_HALVES {
-        let octets = spelled_delta(alloc, front(ops, count))?;
+        let piece = delta_of(alloc, front(ops, count))?;
+        let octets = spelled(alloc, LinkMessage::Delta(piece))?;
         if fits(octets.len(), count) {
             say_spelled(link, octets)?;
             return Ok(count);
@@ -130,14 +131,6 @@ fn say_piece<S: Drop>(
         count = (count / 2).max(1);
     }
     Err(End::Lost)
-}
-
-/// The octets of a message that tells operations.
-fn spelled_delta(alloc: Global, ops: &[Op]) -> Result<Vec<u8>, End> {
-    let message = LinkMessage::Delta(delta_of(alloc, ops)?);
-    let octets = spelled(alloc, &message);
-    drop(message);
-    octets
 }
 
 /// The first operations, so many.
@@ -215,7 +208,7 @@ fn out_of(answered: Result<Answer, End>) -> Result<Option<Arc<Out>>, End> {
         Err(end) => Err(end),
         Ok(Ok(out)) => Ok(Some(out)),
         Ok(Err(fault)) => {
-            passed_over(fault)?;
+            drop_refusal(fault)?;
             Ok(None)
         }
     }

@@ -61,20 +61,30 @@ pub fn begin<R: Replica, D: Disk + Drop, O: Write, E: Write>(
 {
     match open(alloc, settings, disk) {
         Ok((node, clients)) => {
-            let _ = writeln!(
-                out,
-                "gateway {} records {} clients {}",
-                settings.gateway,
-                node.records(),
-                clients
-            );
+            print_opened(out, settings.gateway, node.records(), clients);
             Ok(node)
         }
         Err(fault) => {
-            let _ = writeln!(err, "sngw: journal J{}", number_of(&fault));
+            let number = number_of(&fault);
+            drop(fault);
+            print_refused(err, number);
             Err(NO_JOURNAL)
         }
     }
+}
+
+/// Prints how an opened gateway stands.
+fn print_opened<O: Write>(out: &mut O, gateway: u8, records: u64, clients: usize) {
+    let _ = writeln!(
+        out,
+        "gateway {} records {} clients {}",
+        gateway, records, clients
+    );
+}
+
+/// Prints by which number a refused opening is told.
+fn print_refused<E: Write>(err: &mut E, number: u8) {
+    let _ = writeln!(err, "sngw: journal J{}", number);
 }
 
 /// Opens the gateway, and counts its clients.
@@ -102,14 +112,35 @@ fn open<R: Replica, D: Disk + Drop>(
     ensures may { IfErr result (λ fault. MayRefuse (told fault)) }
 {
     let Ok(config) = config_of(alloc, settings) else {
+        drop(disk);
         return Err(NodeFault::Memory);
     };
     match Node::open(alloc, config, disk) {
-        Err((_, fault)) => Err(fault),
-        Ok(node) => match node.clients(alloc) {
-            Err(NoMemory) => Err(NodeFault::Memory),
-            Ok(clients) => Ok((node, clients.len())),
+        Err((disk, fault)) => {
+            drop(disk);
+            Err(fault)
+        }
+        Ok(node) => match count_clients(alloc, &node) {
+            Err(NoMemory) => {
+                drop(node);
+                Err(NodeFault::Memory)
+            }
+            Ok(clients) => Ok((node, clients)),
         },
+    }
+}
+
+/// Counts the clients that a gateway knows.
+fn count_clients<R: Replica, D: Disk + Drop>(
+    alloc: Global,
+    node: &Node<R, D>,
+) -> Result<usize, NoMemory>
+    ensures { IfOk result (λ count. count
+        ≡ length (views.clients (state_of R.kept node.now).kept)) }
+{
+    match node.clients(alloc) {
+        Err(NoMemory) => Err(NoMemory),
+        Ok(clients) => Ok(clients.len()),
     }
 }
 

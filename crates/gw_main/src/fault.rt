@@ -6,53 +6,41 @@ ghost use Rattle.gw_main.specs.declared.fault.SettingsFault.TheVariants.{Memory}
 
 use octets::NoMemory;
 use std::alloc::{AllocError, AllocFailed};
+use std::fmt;
 use thiserror::Error;
 
 /// A key of the settings, in the order in which the keys are looked at.
 #[derive(Clone, Copy, Debug, PartialEq, Eq, Error)]
 pub enum Key {
     /// The gateway's number: 1 to 255.
-    #[error("gateway")]
     Gateway,
     /// The address of the UDP socket, as `a.b.c.d:port`.
-    #[error("listen")]
     Listen,
     /// The address at which links are accepted.
-    #[error("link")]
     Link,
     /// The path of the journal.
-    #[error("journal")]
     Journal,
     /// How many threads make calls for datagrams: 1 to 8, or else 2.
-    #[error("workers")]
     Workers,
     /// How many calls a shift has: 1 to 4,096, or else 4,096.
-    #[error("steps")]
     Steps,
     /// How many seconds pass between two ADVERTISE (MQTT-SN 1.2 section 5.4.1): 0 to 65,535; 0, or
     /// else, for none.
-    #[error("advertise")]
     Advertise,
     /// The addresses that ADVERTISE goes to, or else none.
-    #[error("field")]
     Field,
     /// The addresses of the gateways to be dialled, or else none.
-    #[error("peers")]
     Peers,
     /// The predefined topic ids: tables with `id` and `topic`, or else none.
-    #[error("predefined")]
     Predefined,
     /// The gateways that may be linked: whole numbers from 1 to 255, or else none are named, and
     /// all may.
-    #[error("numbers")]
     Numbers,
     /// The client ids that are let in: texts in which `?` stands for any octet and `*`, at the end,
     /// for any rest; or else none are named, and all are.
-    #[error("clients")]
     Clients,
     /// How many client ids that are new come in within a minute: 1 to 65,535; 0, or else, for any
     /// number.
-    #[error("newcomers")]
     Newcomers,
 }
 
@@ -76,6 +64,13 @@ impl Key {
             Key::Clients => "clients",
             Key::Newcomers => "newcomers",
         }
+    }
+}
+
+impl fmt::Display for Key {
+    /// Writes the key as it is written.
+    fn fmt<W: fmt::Write>(&self, f: &mut fmt::Formatter<W>) -> fmt::Result {
+        f.write_str(self.name())
     }
 }
 

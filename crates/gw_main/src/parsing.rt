@@ -1,15 +1,19 @@
 //! The settings of a text.
 
 ghost use Rattle.std.specs.Prelude.{◌≡◌, ◌≤◌, IfOk, IfErr, Some};
+ghost use Rattle.toml.specs.Data.{Members};
 ghost use Rattle.toml.specs.View.{table_view};
 ghost use Rattle.gw_main.specs.Reading.{Says, IsRead, IsRefused};
-ghost use Rattle.gw_main.specs.inner.Reading.{IsBad};
+ghost use Rattle.gw_main.specs.inner.Reading.{SaysPlain, SaysLists, IsBad, IsBadAfter};
 
 use super::fault::{Key, SettingsFault};
 use super::keys::{address_at, number_at, text_at};
 use super::lists::{addresses_at, clients_at, numbers_at, predefined_at};
 use super::options::Settings;
 use gw_shift::MAX_STEPS;
+use octets::Octets;
+use sn_local::Addr;
+use sn_topic::Predefined;
 use std::alloc::Global;
 use toml::Table;
 
@@ -34,9 +38,80 @@ pub fn settings(alloc: Global, text: &str) -> Result<Settings, SettingsFault>
     }
 }
 
+/// What a document says in the keys before the lists.
+#[derive(Drop)]
+pub(crate) struct Plain {
+    gateway: u8,
+    listen: Addr,
+    link: Addr,
+    journal: String,
+    workers: u8,
+    steps: u16,
+    advertise: u16,
+}
+
+/// What it says in the lists, and in the key after them.
+#[derive(Drop)]
+pub(crate) struct Lists {
+    field: Vec<Addr>,
+    peers: Vec<Addr>,
+    predefined: Predefined,
+    numbers: Vec<u8>,
+    clients: Vec<Octets>,
+    newcomers: u16,
+}
+
 /// What a document says.
 fn settings_of(alloc: Global, table: &Table) -> Result<Settings, SettingsFault>
     ensures ok { IfOk result (Says (table_view table.now)) }
+    ensures err { IfErr result (IsBad (table_view table.now)) }
+{
+    match plain_of(alloc, table) {
+        Err(fault) => Err(fault),
+        Ok(plain) => with_lists(alloc, table, plain),
+    }
+}
+
+/// What a document says, whose keys before the lists were read.
+fn with_lists(alloc: Global, table: &Table, plain: Plain) -> Result<Settings, SettingsFault>
+    requires plain { SaysPlain (table_view table.now) plain }
+    ensures ok { IfOk result (Says (table_view table.now)) }
+    ensures err { IfErr result (IsBad (table_view table.now)) }
+{
+    match lists_of(alloc, table) {
+        Err(fault) => {
+            drop(plain);
+            Err(fault)
+        }
+        Ok(lists) => Ok(joined(plain, lists)),
+    }
+}
+
+/// Settings of both parts.
+fn joined(plain: Plain, lists: Lists) -> Settings
+    ensures { (members : Members) → SaysPlain members plain → SaysLists members lists
+        → Says members result }
+{
+    Settings {
+        gateway: plain.gateway,
+        listen: plain.listen,
+        link: plain.link,
+        journal: plain.journal,
+        workers: plain.workers,
+        steps: plain.steps,
+        advertise: plain.advertise,
+        field: lists.field,
+        peers: lists.peers,
+        predefined: lists.predefined,
+        numbers: lists.numbers,
+        clients: lists.clients,
+        newcomers: lists.newcomers,
+    }
+}
+
+/// Reads the keys before the lists.
+fn plain_of(alloc: Global, table: &Table) -> Result<Plain, SettingsFault>
+    ensures ok { IfOk result (SaysPlain (table_view table.now)) }
     ensures err { IfErr result (IsBad (table_view table.now)) }
 {
     let gateway = number_at(table, Key::Gateway, 1, 255, None)?;
@@ -46,13 +121,7 @@ fn settings_of(alloc: Global, table: &Table) -> Result<Settings, SettingsFault>
     let workers = number_at(table, Key::Workers, 1, 8, Some(2))?;
     let steps = number_at(table, Key::Steps, 1, MAX_STEPS, Some(MAX_STEPS))?;
     let advertise = number_at(table, Key::Advertise, 0, 65_535, Some(0))?;
-    let field = addresses_at(alloc, table, Key::Field)?;
-    let peers = addresses_at(alloc, table, Key::Peers)?;
-    let predefined = predefined_at(alloc, table)?;
-    let numbers = numbers_at(alloc, table)?;
-    let clients = clients_at(alloc, table)?;
-    let newcomers = number_at(table, Key::Newcomers, 0, 65_535, Some(0))?;
-    Ok(Settings {
+    Ok(Plain {
         gateway: gateway as u8,
         listen,
         link,
@@ -60,6 +129,22 @@ fn settings_of(alloc: Global, table: &Table) -> Result<Settings, SettingsFault>
         workers: workers as u8,
         steps: steps as u16,
         advertise: advertise as u16,
+    })
+}
+
+/// Reads the lists, and the key after them. Where it refuses them, their keys are the first bad
+/// ones, if those before are good.
+fn lists_of(alloc: Global, table: &Table) -> Result<Lists, SettingsFault>
+    ensures ok { IfOk result (SaysLists (table_view table.now)) }
+    ensures err { IfErr result (IsBadAfter (table_view table.now)) }
+{
+    let field = addresses_at(alloc, table, Key::Field)?;
+    let peers = addresses_at(alloc, table, Key::Peers)?;
+    let predefined = predefined_at(alloc, table)?;
+    let numbers = numbers_at(alloc, table)?;
+    let clients = clients_at(alloc, table)?;
+    let newcomers = number_at(table, Key::Newcomers, 0, 65_535, Some(0))?;
+    Ok(Lists {
         field,
         peers,
         predefined,

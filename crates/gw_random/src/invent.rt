@@ -75,16 +75,16 @@ fn decoded(alloc: Global, bytes: &[u8]) -> Result<Frame, NoMemory> {
 /// The octets of what a client answers to a frame, if it answers.
 fn reply_octets(alloc: Global, draw: &mut Draw, sent: &Frame) -> Result<Option<Octets>, NoMemory> {
     match reply(alloc, draw, sent)? {
-        Some(frame) => spelled(alloc, frame),
+        Some(frame) => Ok(Some(spelled(alloc, frame)?)),
         None => Ok(None),
     }
 }
 
 /// The octets of a frame that a client sends.
-fn spelled(alloc: Global, frame: Frame) -> Result<Option<Octets>, NoMemory> {
+fn spelled(alloc: Global, frame: Frame) -> Result<Octets, NoMemory> {
     let octets = octets_of(alloc, &frame);
     drop(frame);
-    Ok(Some(octets?))
+    octets
 }
 
 impl Invention {

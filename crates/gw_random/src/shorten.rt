@@ -147,8 +147,7 @@ fn pass<R: Replica>(alloc: Global, field: &Field, short: &mut Short) -> Result<(
     done
 }
 
-/// The same with these counts: for each event, how many deltas there are before it, and how many it
-/// adds.
+/// Leaves out each event once, by how many deltas there are before it and how many it adds.
 fn leave_out_each<R: Replica>(
     alloc: Global,
     field: &Field,

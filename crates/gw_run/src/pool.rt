@@ -135,7 +135,7 @@ impl<S: Drop> Pool<S> {
     pub fn open<T: Wait>(&self, rt: &T, link: Link<S>) {
         let mut links = self.links.lock(rt);
         let origin = link.origin;
-        if is_kept(&mut links.waiting, link) {
+        if put_after(&mut links.waiting, link) {
             note(&mut links, origin, true);
         }
     }
@@ -154,7 +154,7 @@ impl<S: Drop> Pool<S> {
         let mut links = self.links.lock(rt);
         if let Some(link) = links.talked.pop() {
             let (origin, place) = (link.origin, link.place);
-            if !is_kept(&mut links.waiting, link) {
+            if !put_after(&mut links.waiting, link) {
                 note(&mut links, origin, false);
                 self.relay.leave(rt, place);
             }
@@ -171,7 +171,7 @@ impl<S: Drop> Pool<S> {
     pub(crate) fn give_back<T: Wait>(&self, rt: &T, link: Link<S>) {
         let mut links = self.links.lock(rt);
         let (origin, place) = (link.origin, link.place);
-        if !is_kept(&mut links.talked, link) {
+        if !put_after(&mut links.talked, link) {
             note(&mut links, origin, false);
             self.relay.leave(rt, place);
         }
@@ -202,8 +202,8 @@ impl<S: Drop> Pool<S> {
     }
 }
 
-/// Whether a link could be put after others. Where memory ran out it is closed.
-fn is_kept<S: Drop>(links: &mut Vec<Link<S>>, link: Link<S>) -> bool {
+/// Puts a link after others. False if memory ran out: then the link is closed.
+fn put_after<S: Drop>(links: &mut Vec<Link<S>>, link: Link<S>) -> bool {
     links.push(link).is_ok()
 }
 

@@ -14,7 +14,7 @@ ghost use Rattle.gw_serve.specs.declared.worker.Trouble.TheVariants as troubles;
 use crate::bell::Bell;
 use crate::queue::{CAPACITY, Cut, Datagram, Drains, Fair, Hand, Receiver, Sender, Ticket};
 use crate::reader::{Reading, read_all};
-use crate::worker::{Cause, Seat, Taken, Trouble, work};
+use crate::worker::{Cause, Seat, Shared, Taken, Trouble, work};
 use crossbeam_channel::bounded_with;
 use gw_shift::{Pass, Shift};
 use gw_wire::{Gate, Post, Wire};
@@ -109,6 +109,7 @@ where
     let Ok((sender, receiver, mut root)) = bounded_with::<Datagram, Hand, Fair, Global>(
         alloc, CAPACITY,
     ) else {
+        drop(room);
         return Err(ServeFault {
             shift,
             passes,
@@ -167,33 +168,45 @@ where
         mut buffer,
     } = room;
     let mut slots = seated(alloc, sender, root, passes, slots);
-    let bell = Bell::new();
-    let stop = AtomicBool::new(false);
-    let reading = read_and_work(
+    let shared = Shared {
         rt,
         alloc,
         shift,
-        sender,
-        receiver,
-        &bell,
-        &stop,
+        bell: Bell::new(),
+        stop: AtomicBool::new(false),
         post,
         gate,
+    };
+    let reading = read_and_work(
+        &shared,
+        sender,
+        receiver,
         turns,
         slots.as_mut_slice(),
         root,
         wire,
         buffer.as_mut_slice(),
     );
+    drop(shared);
     drop(buffer);
     let mut gathered = gather(alloc, sender, root, slots, back);
     let rest = drain(rt, receiver, root, &mut gathered.left);
     match first_cause(reading.fault, first_trouble(gathered.fault, rest)) {
-        Some(cause) => Err(ServeFault {
-            shift,
-            passes: gathered.passes,
-            cause,
-        }),
+        Some(cause) => {
+            let Gathered {
+                passes,
+                taken,
+                left,
+                fault: _,
+            } = gathered;
+            drop(taken);
+            drop(left);
+            Err(ServeFault {
+                shift,
+                passes,
+                cause,
+            })
+        }
         None => Ok(Served {
             shift,
             passes: gathered.passes,
@@ -268,15 +281,9 @@ fn seated(
 
 /// The reader in this thread, and the workers in others.
 fn read_and_work<T, R, D, W, P, G>(
-    rt: &T,
-    alloc: Global,
-    shift: &Shift<R, D>,
+    shared: &Shared<'_, T, R, D, P, G>,
     sender: &Sender,
     receiver: &Receiver,
-    bell: &Bell,
-    stop: &AtomicBool,
-    post: &P,
-    gate: &G,
     turns: u64,
     slots: &mut [Option<Seat>],
     root: &mut Ticket,
@@ -304,10 +311,14 @@ where
     ensures wire { result.fault ≡ Some causes.Wire → W.failures wire.old < W.failures wire.new }
     ensures behind { result.fault ≢ Some causes.Behind }
 {
+    let rt = shared.rt;
+    let alloc = shared.alloc;
+    let bell = &shared.bell;
+    let stop = &shared.stop;
     let mut working = ||
         requires { All (IsFreshSlot (receives_on receiver.now)) slots.now }
         ensures { WorkedFrom (receives_on receiver.entry.now) slots.entry.now slots.exit.now }
-    { work_all(rt, alloc, shift, receiver, bell, stop, post, gate, slots) };
+    { work_all(shared, receiver, slots) };
     let mut reading = || -> Reading
         requires { IsSeatAt (sends_on sender.now) root.now × (0 < (view root.now).parts)
             × ((view root.now).sent ≡ []) }
@@ -326,14 +337,8 @@ where
 
 /// A worker at each place.
 fn work_all<T, R, D, P, G>(
-    rt: &T,
-    alloc: Global,
-    shift: &Shift<R, D>,
+    shared: &Shared<'_, T, R, D, P, G>,
     receiver: &Receiver,
-    bell: &Bell,
-    stop: &AtomicBool,
-    post: &P,
-    gate: &G,
     slots: &mut [Option<Seat>],
 )
 where
@@ -351,28 +356,22 @@ where
         let at = |_place: usize, slot: &mut Option<Seat>|
             requires { IsFreshSlot (receives_on receiver.now) slot.now }
             ensures { IsWorkedSlot (receives_on receiver.entry.now) slot.entry.now slot.exit.now }
-        { work_at(rt, alloc, shift, receiver, bell, stop, post, gate, slot) };
-        thread::for_each_mut(rt, slots, count, &at);
+        { work_at(shared, receiver, slot) };
+        thread::for_each_mut(shared.rt, slots, count, &at);
     }
 }
 
 /// The work at one place.
 fn work_at<T: Wait, R: Replica, D: Disk + Drop, P: Post, G: Gate>(
-    rt: &T,
-    alloc: Global,
-    shift: &Shift<R, D>,
+    shared: &Shared<'_, T, R, D, P, G>,
     receiver: &Receiver,
-    bell: &Bell,
-    stop: &AtomicBool,
-    post: &P,
-    gate: &G,
     slot: &mut Option<Seat>,
 )
     requires fresh { IsFreshSlot (receives_on receiver.now) slot.old }
     ensures worked { IsWorkedSlot (receives_on receiver.now) slot.old slot.new }
 {
     if let Some(seat) = slot.take() {
-        *slot = Some(work(rt, alloc, shift, receiver, bell, stop, post, gate, seat));
+        *slot = Some(work(shared, receiver, seat));
     }
 }
 

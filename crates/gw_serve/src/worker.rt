@@ -1,7 +1,9 @@
 //! A worker: it takes numbers, makes their calls, and sends the replies when a call is done.
 
-ghost use Rattle.std.specs.Prelude.{◌≡◌, ◌<◌, ℕ, true, vec_len, vec_capacity, Some, None, List, [], ◌∷◌, ◌++◌, map};
+ghost use Rattle.std.specs.Prelude.{◌≡◌, ◌<◌, ℕ, true, vec_len, vec_capacity, Some, None, List, [], ◌∷◌, ◌++◌, map, IfOk};
+ghost use Rattle.std.specs.Arc.{arc_value};
 ghost use Rattle.crossbeam_channel.specs.Ends.{receives_on};
+ghost use Rattle.gw_serve.specs.Serving.{is_frame};
 ghost use Rattle.gw_serve.specs.inner.Handling.{IsHandled, IsRefused};
 ghost use Rattle.gw_serve.specs.inner.Work.{IsFresh, IsWorked};
 
@@ -11,7 +13,7 @@ use gw_shift::gw_node::{NodeFault, Out, Step};
 use gw_shift::{CallFault, Pass, Shift};
 use gw_wire::{Gate, Post};
 use jr_disk::Disk;
-use octets::Octets;
+use octets::{NoMemory, Octets};
 use rep_model::Replica;
 use std::alloc::Global;
 use std::sync::atomic::{AtomicBool, Ordering};
@@ -83,6 +85,25 @@ impl Seat {
     }
 }
 
+/// What all workers share.
+#[derive(Drop)]
+pub struct Shared<'a, T: Wait, R: Replica, D: Disk, P: Post, G: Gate> {
+    /// The waiting of the threads.
+    pub rt: &'a T,
+    /// The memory.
+    pub alloc: Global,
+    /// The shift that the calls are of.
+    pub shift: &'a Shift<R, D>,
+    /// By which the reader wakes them.
+    pub bell: Bell,
+    /// Whether the reader is to stop.
+    pub stop: AtomicBool,
+    /// By which the replies go out.
+    pub post: &'a P,
+    /// What hears of each reply.
+    pub gate: &'a G,
+}
+
 /// What became of a datagram.
 #[derive(Clone, Copy, Debug)]
 pub enum Handled {
@@ -96,22 +117,16 @@ pub enum Handled {
 
 /// Works until the queue is closed and empty, and has the reader stop where it failed.
 pub fn work<T: Wait, R: Replica, D: Disk + Drop, P: Post, G: Gate>(
-    rt: &T,
-    alloc: Global,
-    shift: &Shift<R, D>,
+    shared: &Shared<'_, T, R, D, P, G>,
     receiver: &Receiver,
-    bell: &Bell,
-    stop: &AtomicBool,
-    post: &P,
-    gate: &G,
     seat: Seat,
 ) -> Seat
     requires { IsFresh (receives_on receiver.now) seat }
     ensures { IsWorked (receives_on receiver.now) seat.pass result }
 {
-    let seat = take_all(rt, alloc, shift, receiver, bell, stop, post, gate, seat);
+    let seat = take_all(shared, receiver, seat);
     if seat.fault.is_some() {
-        stop.store(true, Ordering::SeqCst);
+        shared.stop.store(true, Ordering::SeqCst);
     }
     seat
 }
@@ -119,14 +134,8 @@ pub fn work<T: Wait, R: Replica, D: Disk + Drop, P: Post, G: Gate>(
 /// Takes numbers until the queue is closed and empty. Room for a number is made before it is taken,
 /// so each that was taken is told of, unless the worker must end with a fault.
 fn take_all<T: Wait, R: Replica, D: Disk + Drop, P: Post, G: Gate>(
-    rt: &T,
-    alloc: Global,
-    shift: &Shift<R, D>,
+    shared: &Shared<'_, T, R, D, P, G>,
     receiver: &Receiver,
-    bell: &Bell,
-    stop: &AtomicBool,
-    post: &P,
-    gate: &G,
     seat: Seat,
 ) -> Seat
     requires { IsFresh (receives_on receiver.now) seat }
@@ -139,6 +148,8 @@ fn take_all<T: Wait, R: Replica, D: Disk + Drop, P: Post, G: Gate>(
         mut left,
         fault: _,
     } = seat;
+    let rt = shared.rt;
+    let bell = &shared.bell;
     let mut has_worked = false;
     for _ in rt.forever() {
         if !has_room(&mut taken, &mut left) {
@@ -150,7 +161,7 @@ fn take_all<T: Wait, R: Replica, D: Disk + Drop, P: Post, G: Gate>(
             Ok(datagram) => {
                 bell.note_taken();
                 let number = datagram.number;
-                let (after, handled) = handle(rt, alloc, shift, post, gate, pass, datagram, turn);
+                let (after, handled) = handle(shared, pass, datagram, turn);
                 pass = after;
                 has_worked = true;
                 match handled {
@@ -162,7 +173,7 @@ fn take_all<T: Wait, R: Replica, D: Disk + Drop, P: Post, G: Gate>(
                     }
                     Handled::Refused => {
                         left.push_reserved(number);
-                        stop.store(true, Ordering::SeqCst);
+                        shared.stop.store(true, Ordering::SeqCst);
                     }
                     Handled::Failed(cause) => {
                         return seat_of(pass, ticket, taken, left, Some(cause));
@@ -219,47 +230,54 @@ fn has_room(taken: &mut Vec<Taken>, left: &mut Vec<u64>) -> bool
 /// Makes the call of a datagram, which ends the worker's turn, and sends its replies after the
 /// lock.
 fn handle<T: Wait, R: Replica, D: Disk + Drop, P: Post, G: Gate>(
-    rt: &T,
-    alloc: Global,
-    shift: &Shift<R, D>,
-    post: &P,
-    gate: &G,
+    shared: &Shared<'_, T, R, D, P, G>,
     pass: Pass,
     datagram: Datagram,
     turn: MutexGuard<'_, ()>,
 ) -> (Pass, Handled)
     ensures { IsHandled pass result.1 result.0 }
 {
+    let alloc = shared.alloc;
+    let number = datagram.number;
+    let Ok(step) = step_of(alloc, datagram) else {
+        drop(turn);
+        return (pass, Handled::Failed(Trouble::Memory));
+    };
+    match shared.shift.call(shared.rt, alloc, pass, step) {
+        Ok((pass, out, made)) => {
+            let _ = MutexGuard::unlock(turn);
+            send_all(shared.post, shared.gate, number, &out);
+            drop(out);
+            (pass, Handled::Stepped(made))
+        }
+        Err((pass, fault)) => {
+            let _ = MutexGuard::unlock(turn);
+            (pass, refused(shared.post, shared.gate, number, fault))
+        }
+    }
+}
+
+/// The step of a datagram.
+fn step_of(alloc: Global, datagram: Datagram) -> Result<Arc<Step>, NoMemory>
+    ensures { IfOk result (λ step. is_frame (arc_value step) ≡ true) }
+{
     let Datagram {
-        number,
+        number: _,
         from,
         bytes,
         moment,
     } = datagram;
     let Ok(bytes) = Octets::new(bytes) else {
-        drop(turn);
-        return (pass, Handled::Failed(Trouble::Memory));
+        return Err(NoMemory);
     };
     let frame = Step::Frame {
         from,
         bytes,
         now: moment,
     };
-    let Ok(step) = Arc::new(alloc, frame) else {
-        drop(turn);
-        return (pass, Handled::Failed(Trouble::Memory));
-    };
-    match shift.call(rt, alloc, pass, step) {
-        Ok((pass, out, made)) => {
-            let _ = MutexGuard::unlock(turn);
-            send_all(post, gate, number, &out);
-            drop(out);
-            (pass, Handled::Stepped(made))
-        }
-        Err((pass, fault)) => {
-            let _ = MutexGuard::unlock(turn);
-            (pass, refused(post, gate, number, fault))
-        }
+    match Arc::new(alloc, frame) {
+        Ok(step) => Ok(step),
+        Err(_) => Err(NoMemory),
     }
 }
 

@@ -78,9 +78,9 @@ pub(crate) fn session(text: &mut String, seen: &Session) -> Result<(), AllocErro
     )?;
     topics(text, seen)?;
     subscriptions(text, seen)?;
-    last_will(text, &seen.will)?;
+    last_will(text, seen.will.as_ref())?;
     received(text, seen)?;
-    last_exchange(text, &seen.outbound)
+    last_exchange(text, seen.outbound)
 }
 
 /// A line for each topic id.
@@ -102,17 +102,17 @@ fn subscriptions(text: &mut String, seen: &Session) -> Result<(), AllocError> {
 }
 
 /// The line of an exchange, if one is not over.
-fn last_exchange(text: &mut String, begun: &Option<Outbound>) -> Result<(), AllocError> {
-    let Some(outbound) = begun else {
+fn last_exchange(text: &mut String, open: Option<Outbound>) -> Result<(), AllocError> {
+    let Some(outbound) = open else {
         return Ok(());
     };
     text.push_str("    ")?;
-    exchange(text, *outbound)?;
+    exchange(text, outbound)?;
     text.push_str("\n")
 }
 
 /// The lines of a will, if there is one.
-fn last_will(text: &mut String, told: &Option<Will>) -> Result<(), AllocError> {
+fn last_will(text: &mut String, told: Option<&Will>) -> Result<(), AllocError> {
     let Some(told) = told else {
         return Ok(());
     };

@@ -63,7 +63,7 @@ fn mend_at<T: Files<File = File>, O: Write>(
     }
 }
 
-/// Reads both files, and mends the journal.
+/// Reads both files, and mends the journal if it is to be mended.
 fn read_and_mend<T: Files<File = File>, O: Write>(
     rt: &T,
     alloc: Global,

@@ -60,7 +60,7 @@ impl Entry {
         ensures ops { IfOk result (λ entry. entry.ops.items ≡ ops.items) }
         ensures worked_out { IfOk result (λ entry. IsWorkedOut client.now entry) }
     {
-        match counted(alloc, client, ops.as_slice()) {
+        match view_and_counts(alloc, client, ops.as_slice()) {
             Ok((seen, parked, exceptions)) => Ok(Entry {
                 ops,
                 seen,
@@ -77,7 +77,7 @@ impl Entry {
 
 /// The view that the operations give, how many of them wait for earlier ones, and how many
 /// acknowledgements stand above a number that is not acknowledged.
-fn counted(
+fn view_and_counts(
     alloc: Global,
     client: &ClientId,
     ops: &[Op],

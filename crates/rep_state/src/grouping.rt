@@ -41,7 +41,7 @@ pub(crate) fn grown(alloc: Global, table: &Table, ops: &[Op]) -> Result<Vec<Grou
     groups
 }
 
-/// The same with the entry of a client of which nothing is held.
+/// The groups of these operations. `nothing` stands for the entry of a client that is not held.
 fn groups_of(
     alloc: Global,
     table: &Table,
@@ -175,7 +175,7 @@ pub(crate) fn worked_out(
     made
 }
 
-/// The same with the entry of a client of which nothing is held.
+/// The changes of these groups. `nothing` stands for the entry of a client that is not held.
 fn changes_of(
     alloc: Global,
     table: &Table,

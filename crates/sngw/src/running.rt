@@ -63,9 +63,9 @@ where
 #[derive(Drop)]
 struct Opened {
     inlet: Inlet,
-    listener: TcpListener,
-    pool: Pool<TcpStream>,
     doors: Vec<Door>,
+    pool: Pool<TcpStream>,
+    listener: TcpListener,
 }
 
 /// Opens all that a gateway is reached by.
@@ -84,9 +84,9 @@ where
     let inlet = inlet_of(alloc, settings, socket)?;
     Ok(Opened {
         inlet,
-        listener,
-        pool,
         doors,
+        pool,
+        listener,
     })
 }
 
@@ -217,7 +217,7 @@ where
         };
         know_clients(alloc, settings, &node, inlet, pool.clock.second());
         let mut worked = work(rt, alloc, settings, node, inlet, pool, number)?;
-        let gone = end_shift(
+        let ended = end_shift(
             rt,
             alloc,
             settings,
@@ -228,7 +228,7 @@ where
             &mut keeper,
         );
         put_back(rt, place, worked.node);
-        gone?;
+        ended?;
     }
     Ok(())
 }

@@ -380,7 +380,8 @@ fn made_by(alloc: Global, crew: &mut Crew) -> Result<Made, Stop> {
     Ok(Made { passes, tended })
 }
 
-/// Ends the shift, and compares its history with what its threads hold.
+/// Ends the shift, and compares its history with what its threads hold. If the crew failed, the
+/// shift is dropped.
 fn close<R, D>(shift: Shift<R, D>, made: Result<Made, Stop>) -> Result<Worked<R, D>, Stop>
 where
     R: Replica,

@@ -45,14 +45,6 @@ struct Asker {
     is_over: AtomicBool,
 }
 
-/// The socket of the gateway, somebody who asks it, and room for what it answers.
-#[derive(Drop)]
-struct Ends {
-    socket: Socket,
-    asker: Asker,
-    room: Vec<u8>,
-}
-
 /// The octets that an answer has at most.
 const ROOM: usize = 64;
 
@@ -65,11 +57,7 @@ pub(crate) fn over_sockets<T: Threads + Wait + Sync + Clock + Net>(
     passes: Vec<Pass>,
     questions: &Questions<'_>,
 ) -> Result<Outcome, Stop> {
-    let Ends {
-        mut socket,
-        asker,
-        room,
-    } = ends_of(rt, alloc)?;
+    let (mut socket, asker, room) = ends_of(rt, alloc)?;
     let (answer, outcome) = asked(
         rt,
         alloc,
@@ -94,16 +82,12 @@ fn came(outcome: &Outcome) -> usize {
     outcome.taken.len().saturating_add(outcome.left.len())
 }
 
-/// The sockets, and room for an answer.
-fn ends_of<T: Net>(rt: &T, alloc: Global) -> Result<Ends, Stop> {
+/// The socket of the gateway, somebody who asks it, and room for what it answers.
+fn ends_of<T: Net>(rt: &T, alloc: Global) -> Result<(Socket, Asker, Vec<u8>), Stop> {
     let socket = Socket::bind(rt, alloc, HOME)?;
     let asker = asker_of(rt, socket.local)?;
     let room = Vec::from_elem(alloc, 0u8, ROOM)?;
-    Ok(Ends {
-        socket,
-        asker,
-        room,
-    })
+    Ok((socket, asker, room))
 }
 
 /// Somebody who asks the gateway at this address.

@@ -79,6 +79,27 @@ struct Side<'a, T: Wait> {
     ties: VecDeque<Tie<'a, T>>,
 }
 
+/// The ends of the links.
+#[derive(Drop)]
+struct Places {
+    /// Those of the link between gateways 1 and 2.
+    near: Place,
+    far: Place,
+    /// Those of the link between gateways 2 and 3.
+    inner: Place,
+    outer: Place,
+}
+
+/// The gateways, each with its ends of links.
+#[derive(Drop)]
+struct Sides<'a, T: Wait> {
+    first: Side<'a, T>,
+    second: Side<'a, T>,
+    third: Side<'a, T>,
+    /// What the opening of the third printed.
+    aside: String,
+}
+
 /// What a line says of the meeting.
 pub(crate) fn read_deed(alloc: Global, words: &[&str]) -> Result<Deed, Stop> {
     match words {
@@ -113,38 +134,94 @@ pub(crate) fn meet<T: Wait + Clock>(
     text: &mut String,
     deeds: &[Deed],
 ) -> Result<(), Stop> {
-    let (near, far) = (Place::new(alloc), Place::new(alloc));
-    let (inner, outer) = (Place::new(alloc), Place::new(alloc));
-    let mut aside = String::new(alloc);
-    let mut first = side_of(alloc, text, 1)?;
-    let mut second = side_of(alloc, text, 2)?;
-    let mut third = side_of(alloc, &mut aside, 3)?;
-    let mut played = join(rt, alloc, &mut first, &mut second, &near, &far);
-    if played.is_ok() && deeds.iter().any(|deed| deed.gateway == 3) {
-        played = join_aside(
-            rt,
-            alloc,
-            text,
-            aside.as_str(),
-            &mut second,
-            &mut third,
-            &inner,
-            &outer,
-        );
+    let places = places_of(alloc);
+    let met = meet_between(rt, alloc, text, &places, deeds);
+    let said_all = said_all(&places);
+    drop(places);
+    if said_all { met } else { Err(Stop::Memory) }
+}
+
+/// Ends of links, to which nothing has come.
+fn places_of(alloc: Global) -> Places {
+    Places {
+        near: Place::new(alloc),
+        far: Place::new(alloc),
+        inner: Place::new(alloc),
+        outer: Place::new(alloc),
     }
-    if played.is_ok() {
-        played = happen_all(rt, alloc, text, &mut first, &mut second, &mut third, deeds);
-    }
-    let are_spared = are_spared(&mut first, &mut second, &mut third);
-    drop(first);
-    drop(second);
-    drop(third);
-    let said_all = !near.is_short() && !far.is_short() && !inner.is_short() && !outer.is_short();
-    if said_all && are_spared {
+}
+
+/// Whether memory did not run out when something was said at any end of a link.
+fn said_all(places: &Places) -> bool {
+    let between_first = !places.near.is_short() && !places.far.is_short();
+    let between_last = !places.inner.is_short() && !places.outer.is_short();
+    between_first && between_last
+}
+
+/// Gateways on empty disks meet over links with these ends.
+fn meet_between<'a, T: Wait + Clock>(
+    rt: &'a T,
+    alloc: Global,
+    text: &mut String,
+    places: &'a Places,
+    deeds: &[Deed],
+) -> Result<(), Stop> {
+    let mut sides = sides_of(alloc, text)?;
+    let played = join_and_happen(rt, alloc, text, &mut sides, places, deeds);
+    let are_spared = are_spared(&mut sides);
+    drop(sides);
+    if are_spared {
         played
     } else {
         Err(Stop::Memory)
     }
+}
+
+/// Three gateways on empty disks, without a link.
+fn sides_of<'a, T: Wait>(alloc: Global, text: &mut String) -> Result<Sides<'a, T>, Stop> {
+    let first = side_of(alloc, text, 1)?;
+    let second = side_of(alloc, text, 2)?;
+    let (third, aside) = third_of(alloc)?;
+    Ok(Sides {
+        first,
+        second,
+        third,
+        aside,
+    })
+}
+
+/// Gateway 3 on an empty disk, without a link, and what its opening printed.
+fn third_of<'a, T: Wait>(alloc: Global) -> Result<(Side<'a, T>, String), Stop> {
+    let mut aside = String::new(alloc);
+    let third = side_of(alloc, &mut aside, 3)?;
+    Ok((third, aside))
+}
+
+/// The gateways get their links, that to gateway 3 where a line names it, and then all happens.
+fn join_and_happen<'a, T: Wait + Clock>(
+    rt: &'a T,
+    alloc: Global,
+    text: &mut String,
+    sides: &mut Sides<'a, T>,
+    places: &'a Places,
+    deeds: &[Deed],
+) -> Result<(), Stop> {
+    join_first(rt, alloc, sides, places)?;
+    if deeds.iter().any(|deed| deed.gateway == 3) {
+        join_aside(rt, alloc, text, sides, places)?;
+    }
+    happen_all(rt, alloc, text, sides, deeds)
+}
+
+/// The first and the second gateway have a link.
+fn join_first<'a, T: Wait>(
+    rt: &'a T,
+    alloc: Global,
+    sides: &mut Sides<'a, T>,
+    places: &'a Places,
+) -> Result<(), Stop> {
+    let Sides { first, second, .. } = sides;
+    join(rt, alloc, first, second, &places.near, &places.far)
 }
 
 /// The third gateway has a link too, and what its opening printed counts.
@@ -152,14 +229,12 @@ fn join_aside<'a, T: Wait>(
     rt: &'a T,
     alloc: Global,
     text: &mut String,
-    aside: &str,
-    second: &mut Side<'a, T>,
-    third: &mut Side<'a, T>,
-    inner: &'a Place,
-    outer: &'a Place,
+    sides: &mut Sides<'a, T>,
+    places: &'a Places,
 ) -> Result<(), Stop> {
-    text.push_str(aside)?;
-    join(rt, alloc, second, third, inner, outer)
+    text.push_str(sides.aside.as_str())?;
+    let Sides { second, third, .. } = sides;
+    join(rt, alloc, second, third, &places.inner, &places.outer)
 }
 
 /// All that happens, in its order.
@@ -167,16 +242,14 @@ fn happen_all<'a, T: Wait + Clock>(
     rt: &'a T,
     alloc: Global,
     text: &mut String,
-    first: &mut Side<'a, T>,
-    second: &mut Side<'a, T>,
-    third: &mut Side<'a, T>,
+    sides: &mut Sides<'a, T>,
     deeds: &[Deed],
 ) -> Result<(), Stop> {
     for deed in deeds {
         match deed.gateway {
-            1 => happen(rt, alloc, text, first, &deed.act)?,
-            2 => happen(rt, alloc, text, second, &deed.act)?,
-            3 => happen(rt, alloc, text, third, &deed.act)?,
+            1 => happen(rt, alloc, text, &mut sides.first, &deed.act)?,
+            2 => happen(rt, alloc, text, &mut sides.second, &deed.act)?,
+            3 => happen(rt, alloc, text, &mut sides.third, &deed.act)?,
             _ => return Err(Stop::Line),
         }
     }
@@ -184,14 +257,10 @@ fn happen_all<'a, T: Wait + Clock>(
 }
 
 /// Whether no memory was refused in the disks of the gateways, whose shifts end.
-fn are_spared<'a, T: Wait>(
-    first: &mut Side<'a, T>,
-    second: &mut Side<'a, T>,
-    third: &mut Side<'a, T>,
-) -> bool {
-    let is_first_spared = is_spared(first);
-    let is_second_spared = is_spared(second);
-    let is_third_spared = is_spared(third);
+fn are_spared<'a, T: Wait>(sides: &mut Sides<'a, T>) -> bool {
+    let is_first_spared = is_spared(&mut sides.first);
+    let is_second_spared = is_spared(&mut sides.second);
+    let is_third_spared = is_spared(&mut sides.third);
     is_first_spared && is_second_spared && is_third_spared
 }
 
@@ -251,18 +320,26 @@ fn join<'a, T: Wait>(
     near: &'a Place,
     far: &'a Place,
 ) -> Result<(), Stop> {
-    let one = Tie {
-        other: dialled.number,
-        place: near,
-        link: Some(Link::new(alloc, Pipe::new(rt, alloc, near, far), Origin::Dialled(0))),
-    };
-    let other = Tie {
-        other: dialler.number,
-        place: far,
-        link: Some(Link::new(alloc, Pipe::new(rt, alloc, far, near), Origin::Accepted)),
-    };
+    let one = tie_of(rt, alloc, dialled.number, near, far, Origin::Dialled(0));
     put_last(dialler, one)?;
+    let other = tie_of(rt, alloc, dialler.number, far, near, Origin::Accepted);
     put_last(dialled, other)
+}
+
+/// An end of a link to the gateway of this number.
+fn tie_of<'a, T: Wait>(
+    rt: &'a T,
+    alloc: Global,
+    other: u8,
+    here: &'a Place,
+    there: &'a Place,
+    origin: Origin,
+) -> Tie<'a, T> {
+    Tie {
+        other,
+        place: here,
+        link: Some(Link::new(alloc, Pipe::new(rt, alloc, here, there), origin)),
+    }
 }
 
 /// Puts an end of a link after the others of a gateway.
@@ -312,7 +389,7 @@ fn happen<'a, T: Wait + Clock>(
         Act::Last => talk_all(rt, alloc, text, side, Phase::Quiet),
         Act::Sit => sit_down(rt, alloc, text, side),
         Act::Turn => turn(rt, alloc, text, side),
-        _ => happen_to(rt, alloc, place_of(side)?, act),
+        Act::Come(_) | Act::Idle(_) | Act::Takes(_) => happen_to(rt, alloc, place_of(side)?, act),
     }
 }
 
@@ -328,7 +405,7 @@ fn happen_to<T: Wait>(rt: &T, alloc: Global, place: &Place, act: &Act) -> Result
             place.set_takes(*count);
             Ok(())
         }
-        _ => Err(Stop::Line),
+        Act::Ask(..) | Act::Talk | Act::Last | Act::Sit | Act::Turn => Err(Stop::Line),
     }
 }
 
@@ -618,7 +695,7 @@ fn turn<'a, T: Wait>(
     let Some(OpenShift { shift, pass, seat }) = side.open.take() else {
         return Err(Stop::Line);
     };
-    let over = close(shift, both(alloc, pass, seat)?);
+    let over = close(shift, passes_of(alloc, pass, seat)?);
     let printed = print_turn(alloc, text, side.number, &over);
     open_next(alloc, side, over)?;
     side.pool.begin_shift(rt);
@@ -626,8 +703,8 @@ fn turn<'a, T: Wait>(
     printed
 }
 
-/// Both passes.
-fn both(alloc: Global, pass: Pass, seat: Pass) -> Result<Vec<Pass>, Stop> {
+/// The passes of a shift, in the order in which they are closed.
+fn passes_of(alloc: Global, pass: Pass, seat: Pass) -> Result<Vec<Pass>, Stop> {
     let mut passes = Vec::new(alloc);
     passes.push(pass)?;
     passes.push(seat)?;

@@ -38,13 +38,13 @@ fn all(alloc: Global, datagrams: &[Vec<u8>], out: &mut Vec<u8>, rounds: u32) -> 
 /// Decodes each datagram, and encodes what it says.
 fn round(alloc: Global, datagrams: &[Vec<u8>], out: &mut Vec<u8>) -> Result<(), Stop> {
     for datagram in datagrams {
-        again(alloc, datagram.as_slice(), out)?;
+        decode_and_encode(alloc, datagram.as_slice(), out)?;
     }
     Ok(())
 }
 
 /// Decodes a datagram, and encodes what it says.
-fn again(alloc: Global, datagram: &[u8], out: &mut Vec<u8>) -> Result<(), Stop> {
+fn decode_and_encode(alloc: Global, datagram: &[u8], out: &mut Vec<u8>) -> Result<(), Stop> {
     let frame = read(alloc, datagram)?;
     let written = write(alloc, &frame, out);
     drop(frame);

@@ -60,37 +60,34 @@ fn commands<'a>(alloc: Global) -> Result<Vec<Command<'a>>, AllocError> {
 }
 
 /// Adds a command.
-fn add<'a>(
-    commands: &mut Vec<Command<'a>>,
-    command: Result<Command<'a>, AllocError>,
-) -> Result<(), AllocError> {
-    commands.push(command?)?;
+fn add<'a>(commands: &mut Vec<Command<'a>>, command: Command<'a>) -> Result<(), AllocError> {
+    commands.push(command)?;
     Ok(())
 }
 
 /// Adds all commands.
 fn add_commands<'a>(alloc: Global, commands: &mut Vec<Command<'a>>) -> Result<(), AllocError> {
     let search = plain(alloc, "search", "Ask whether a gateway is there");
-    add(commands, Ok(search))?;
-    add(commands, connect(alloc))?;
-    add(commands, subscribe(alloc))?;
-    add(commands, unsubscribe(alloc))?;
+    add(commands, search)?;
+    add(commands, connect(alloc)?)?;
+    add(commands, subscribe(alloc)?)?;
+    add(commands, unsubscribe(alloc)?)?;
     add_messages(alloc, commands)
 }
 
 /// Adds the commands about messages that go and come, and the end of a connection.
 fn add_messages<'a>(alloc: Global, commands: &mut Vec<Command<'a>>) -> Result<(), AllocError> {
-    add(commands, publish(alloc))?;
-    add(commands, sleep(alloc))?;
+    add(commands, publish(alloc)?)?;
+    add(commands, sleep(alloc)?)?;
     let wake = plain(
         alloc,
         "wake",
         "Wake up for the messages that were kept, and sleep on",
     );
-    add(commands, Ok(wake))?;
-    add(commands, listen(alloc))?;
+    add(commands, wake)?;
+    add(commands, listen(alloc)?)?;
     let disconnect = plain(alloc, "disconnect", "End the connection");
-    add(commands, Ok(disconnect))
+    add(commands, disconnect)
 }
 
 /// The program with the options of every command: who speaks, with whom, and how.

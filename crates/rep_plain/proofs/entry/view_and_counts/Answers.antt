@@ -4,7 +4,7 @@ use Rattle.rep_shared.specs.Steps.{capped}
 use Rattle.rep_plain.specs.inner.Steps.{above_gaps}
 use Rattle.rep_plain.proofs.Workings.{history_in_order, exceptions_of_ranges}
 use Rattle.rep_shared.proofs.Workings.{parked_names}
-use Rattle.rep_plain.proofs.entry.counted.Goals as goal
+use Rattle.rep_plain.proofs.entry.view_and_counts.Goals as goal
 
 pub returns-clause-seen : goal.returns-clause-seen
 returns-clause-seen c =
