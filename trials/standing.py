@@ -7,28 +7,30 @@ The parts, all where none is named, with about the seconds that each takes. An u
 
   herd      20  300 clients connect at once, and again while each sync takes 10 ms: at most 15 of each 300 are not answered within 30 seconds, though nobody sends twice
   stall     80  250 clients with a keep-alive of ten seconds ping each two; the program is stopped for 20 seconds: no will is told
-  hang     150  the same with 60 clients, and one sync of a tick that takes 20 seconds; then with 10; then with 60 and one sync of a worker
+  hang     170  the same, and one sync of a tick that takes 20 seconds; then with 10 clients; then with 250 and one sync of a worker
   backlog   75  the same with 50 clients, while 250 others connect at once and each sync takes 100 ms: no will is told
   listens   40  20 sleepers whose messages came to a peer wake right after a start: none is told that nothing waits; where the peer tells what it made in its shift,
                 where it answers a digest eleven seconds after its last answer, and where each sync of the gateway takes half a second
-  alone      7  a gateway whose peer is away answers nobody after a start, and everybody within eight seconds
+  alone      7  a gateway whose peer is away answers nobody after a start, and everybody within six seconds
   wear      40  what is written for a change of some 30 octets, while 30,000 messages wait: at most 300 octets, at shifts of 4,096 calls and of 64, over shifts that end
   first      2  a start with records writes its journal anew before it answers
   waits     10  a start on a full disk is silent, and serves once there is room
   short     30  a start whose first compaction is refused memory is silent, and writes its journal anew and serves once there is memory
-  hole      40  on a full disk few SEARCHGW are answered, the journal is opened less than 16 times in 30 seconds, and once there is room clients are served within 40
+  hole      40  on a full disk fewer than one of ten SEARCHGW are answered, the journal is opened less than 16 times in 30 seconds, and once there is room clients are
+                served within 40
   blocks    35  the same openings, where each compaction makes room for one record
-  room       5  a compaction without room turns clients away once, and then not for each shift; it needs root, for a small disk in memory
+  room       5  a compaction without room turns clients away once at most, over many shifts; it needs root, for a small disk in memory
   garbage   10  5,000 datagrams that are no frames end no shift of 64 calls, and memory does not grow
   bound     20  1,300 PUBLISH of 60,000 octets end a shift before its calls are used up, and memory stays below 256 MiB
-  fence      8  a forged DISCONNECT between two gateways is answered some 64 times; it needs root
+  fence      8  a forged DISCONNECT between two gateways is answered at most 150 times, and then no more; it needs root
   ids        3  clients that no pattern of the settings is like, and one newcomer too many, are turned away and leave no trace
   learned   75  clients that came over a link are no newcomers a minute after a shift's begin
   full      10  a field whose 1,024 ids are used up begins anew, by the steps of docs/OPERATE.md
   zeros      5  jr_mend cuts zeros that a power cut left, and nothing else; then a start goes on; it is left out if no jr_mend is built
-  begun     35  a gateway that lost its journal, or has an older one, ends with status 1 where a peer knows more of it; without that it serves; where the peer tells
-                what it made in its shift, and where it answers a digest
-  unit       1  the unit says nothing that systemd does not know, and asserts the journal; it is left out if there is no systemd-analyze
+  begun     35  a gateway that lost its journal, or has an older one, ends with status 1 where a peer knows more of it, and until then answers nobody and makes
+                nothing; without that it serves; where the peer tells what it made in its shift, and where it answers a digest
+  unit       1  the unit says nothing that systemd does not know, asserts the journal, and starts again after every status but 1; it is left out if there is no
+                systemd-analyze
 
 All goes on at 127.0.0.1, at ports that the system gives, in a folder that is gone afterwards. Parts that slow syncs compile trials/slow_sync.c.
 Status 0 only where nothing failed.
@@ -235,7 +237,7 @@ def hang_once(program: str, folder: str, count: int, is_worker: bool) -> int:
 
 def hang(program: str, folder: str) -> str:
     said, fine = [], True
-    for count, is_worker in ((60, False), (10, False), (60, True)):
+    for count, is_worker in ((250, False), (10, False), (250, True)):
         place = os.path.join(folder, f"{count}-{is_worker}")
         os.mkdir(place)
         wrong = hang_once(program, place, count, is_worker)
@@ -342,7 +344,7 @@ def alone(program: str, folder: str) -> str:
         with Client(b"asker", gateway) as asker:
             asker.ask(search(), b"\x03\x02\x01", 20, 0.3)
         took = time.monotonic() - began
-    expect(3 <= took <= 8, f"{took:.1f} seconds")
+    expect(3 <= took <= 6, f"{took:.1f} seconds")
     return f"{took:.1f} seconds"
 
 
@@ -465,7 +467,7 @@ def hole(program: str, folder: str) -> str:
         asked, heard, openings = openings_in(gateway, 30)
         took = served_with_room(gateway)
         said = f"{heard} of {asked} SEARCHGW answered, {openings} openings in 30 seconds, served {took:.1f} seconds after there was room"
-    expect(heard * 3 < asked and 2 <= openings < 16, said)
+    expect(heard * 10 < asked and 2 <= openings < 16, said)
     return said
 
 
@@ -507,7 +509,7 @@ def room(program: str, folder: str) -> str:
     finally:
         subprocess.run(["umount", "-l", disk], check=True)
     said = f"{shifts} shifts, {openings} openings, turned away {away} times, {got} messages of 400"
-    expect(1 <= openings <= 2 and away <= 2 and got == 400, said)
+    expect(1 <= openings <= 2 and away <= 1 and got == 400, said)
     return said
 
 
@@ -602,31 +604,37 @@ def forge(source: int, target: int, body: bytes) -> None:
 
 
 def fence(program: str, folder: str) -> str:
-    """Shifts of 100 calls: how many were closed says how many datagrams were answered."""
-    with Gateway(program, folder, 1, steps="100") as one, Gateway(program, folder, 2, steps="100") as two:
+    """Shifts of four calls: those that were closed say how many datagrams were answered, but for three at each gateway. Ticks are calls too."""
+    with Gateway(program, folder, 1, steps="4") as one, Gateway(program, folder, 2, steps="4") as two:
         one.start()
         two.start()
         time.sleep(2)
-        before = calls(one) + calls(two)
-        forge(one.port, two.port, b"\x02\x18")
-        time.sleep(5)
-        more = calls(one) + calls(two) - before
-    expect(more <= 200, f"{more} calls in five seconds")
-    return f"{more} calls in five seconds at most"
+        found = []
+        for seconds in (0, 5, 5):
+            time.sleep(seconds)
+            found.append(calls(one) + calls(two))
+            if seconds == 0:
+                forge(one.port, two.port, b"\x02\x18")
+    first, then = found[1] - found[0], found[2] - found[1]
+    expect(first <= 150 and then <= 30, f"{first} calls in five seconds, and {then} in the next five")
+    return f"{first} calls in five seconds, and {then} in the next five"
 
 
 # ---- a used number
 
 
-def ends_as_used(gateway: Gateway) -> str:
+def ends_as_used(gateway: Gateway) -> None:
+    """Meanwhile somebody asks to connect, is not answered, and is no operation of the journal."""
     gateway.begin()
-    try:
-        status = gateway.process.wait(20)
-    except subprocess.TimeoutExpired:
-        raise Failed("it serves, though a peer has what it made and lost") from None
-    told = gateway.told()
+    with Client(b"s-early", gateway) as early:
+        end, heard = time.monotonic() + 20, 0
+        while gateway.process.poll() is None and time.monotonic() < end:
+            early.send(connect(early.name, 60))
+            heard += early.receive(0.1) is not None
+    status, told = gateway.process.poll(), gateway.told()
+    expect(status is not None, "it serves, though a peer has what it made and lost")
     expect(status == 1 and told.endswith("sngw: number\n") and "made, and this journal does not" in told, f"status {status}, told {told!r}")
-    return told
+    expect(heard == 0 and early.name not in gateway.held(), f"{heard} CONNECT were answered before it ended")
 
 
 def begun_once(program: str, folder: str, steps: int) -> None:
@@ -828,13 +836,15 @@ def unit(_program: str, folder: str) -> str:
     asserted = re.findall(r"^AssertPathExists=(.*)$", said, re.M)
     mended_at = re.findall(r"^ExecStartPre=-\S*/jr_mend (.*)$", said, re.M)
     expect(asserted == ["/var/lib/nimhazel/%i.0"] and mended_at == ["/var/lib/nimhazel/%i"], f"it asserts {asserted}, and mends {mended_at}")
+    again = re.findall(r"^(Restart|RestartPreventExitStatus|StartLimitIntervalSec)=(.*)$", said, re.M)
+    expect(sorted(again) == [("Restart", "always"), ("RestartPreventExitStatus", "1"), ("StartLimitIntervalSec", "0")], f"it starts again as {again}")
     journal = os.path.join(folder, "1.0")
     for is_there in (False, True):
         if is_there:
             put(journal, b"")
         found = analyzed("condition", f"AssertPathExists={journal}")
         expect((found.returncode == 0) == is_there, f"the assertion answers {found.stdout + found.stderr!r}")
-    return "it asserts that the journal is there"
+    return "it asserts that the journal is there, and starts again after every status but 1"
 
 
 PARTS = {"herd": herd, "stall": stall, "hang": hang, "backlog": backlog, "listens": listens, "alone": alone, "wear": wear, "first": first, "waits": waits,
