@@ -19,9 +19,9 @@ The parts, all where none is named:
   numbers of two gateways that dial the one is linked that the settings name, and a line tells of the other
   sick    a peer whose disk is full, and that lacks some 9 MB, asks for it again and again: it ends no shift of a gateway in 30 seconds
   asks    a peer that asks each half second for all that is there is answered four times in 35 seconds at most
-  bound   a peer that tells the same megabyte 256 times ends three shifts at least, as the history of each keeps 64 MiB and one call; and VmRSS never
-          grows by more than 128 MiB: as much, and as much again for what the gateway has, hands on and works with. A build that is not proved keeps
-          more, as it gives nothing back for a while
+  bound   a peer that tells the same megabyte 256 times ends three shifts at least, as the history of each keeps 64 MiB and one call. VmRSS never grows
+          by more than 192 MiB, three times as much: what a shift gave back still counts while the next one fills its history, and the rest is for
+          what the gateway has and hands on. A build that is not proved keeps more, as it gives nothing back for a while
   memory  memory is refused for an answer of some 90 MB: that link is closed, clients are served, and once there is memory all is answered
 
 All but the first goes on at 127.0.0.1, at ports that the system gives, in a folder that is gone afterwards. Status 0 only where nothing failed.
@@ -390,7 +390,7 @@ def bound(program: str, folder: str) -> str:
             shifts, more = len(gateway.shifts()), (peak(gateway) - before) // 1024
             expect(gateway.held().count(body) >= len(puts), "the delta was refused")
     said = f"{shifts} shifts were closed, and VmRSS grew by {more} MiB at most"
-    expect(shifts >= 3 and more <= 128, said)
+    expect(shifts >= 3 and more <= 192, said)
     return said
 
 
