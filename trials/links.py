@@ -326,7 +326,7 @@ def fill(gateway: Gateway, clients: int, messages: int, size: int = 2000) -> Non
             body = (b"<much %06d>" % place).ljust(size, b".")
             publisher.ask(publish(b"ow", body, place + 1), published(b"ow", place + 1))
     gateway.kill()
-    gateway.start()
+    gateway.start(seconds=120)
 
 
 def memory(program: str, folder: str) -> str:
@@ -343,7 +343,10 @@ def memory(program: str, folder: str) -> str:
         gateway.alive()
         expect(found == 0 and closed, f"{found} messages came, and the link was {'' if closed else 'not '}closed: was memory refused?")
         with Client(b"s-0", gateway) as sleeper:
-            got = sleeper.wake(60)
+            try:
+                got = sleeper.wake(60)
+            finally:
+                gateway.alive()
         expect(len(set(got)) == 150, f"a sleeper got {len(set(got))} messages of 150")
         gateway.free_memory()
         time.sleep(10)
