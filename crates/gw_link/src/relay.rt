@@ -412,8 +412,8 @@ pub(crate) fn weight(ops: &[Op]) -> usize {
 
 /// Some measure of the octets of a digest.
 pub(crate) fn weight_of_digest(digest: &Digest) -> usize {
-    let mut octets = 0usize;
-    for entry in digest.entries() {
+    let mut octets = digest.topics().len().saturating_mul(128);
+    for entry in digest.clients() {
         octets = octets.saturating_add(weight_of_entry(entry));
     }
     octets

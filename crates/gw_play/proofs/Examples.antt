@@ -1,5 +1,5 @@
 -- The definitions on worked examples.
-use Rattle.std.proofs.Common.{◌≡◌, ◌++◌, [], ◌∷◌, None, Some, refl}
+use Rattle.std.proofs.Common.{◌≡◌, ◌++◌, [], ◌∷◌, None, Some, refl, false}
 use Rattle.std.specs.Prelude.{codes, Ok, Err}
 use Rattle.std.specs.Fmt.{digits}
 use Rattle.hex.specs.Hex.{encode_with}
@@ -37,7 +37,7 @@ unfolding digits
 no_frame = refl
 
 -- a message of no octet
-waiting : put_line (record { origin = 2; seq = 1; topic = codes "ab"; qos = 0; body = [] }) ≡ codes "  put 1.2 0 6162 -" ++ line_end
+waiting : put_line (record { origin = 2; seq = 1; topic = codes "ab"; qos = 0; retain = false; expires = 0; body = [] }) ≡ codes "  put 1.2 0 6162 -" ++ line_end
 unfolding digits encode_with
 waiting = refl
 

@@ -8,5 +8,6 @@ returns g c = (
   _,
   there_in_place _ c.args.nodes.now.items c.args.place c.index.result.now
       (slice_get_read c.args.nodes.now.items _ c.args.place _ c.args.nodes.now.ok.0 c.requires c.index.ensures),
-  c.in_ok-show_at.ensures,
+  c.in_ok-views.ensures,
+  c.in_ok-topics.ensures,
 )
