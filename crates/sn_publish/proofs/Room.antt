@@ -9,7 +9,7 @@ room_left n m xs one e =
     grind (arith, nat_tests, none, left, one)
 
 pub none_left : {A : Type 0} (n m : ℕ) (x : A) (xs more : List A) → m ≡ n + 1 → drop n xs ≡ x ∷ more → false ≡ nat_lt (length xs) m
-none_left n m x xs more one e =
+none_left {A = A} n m x xs more one e =
     let some : length (drop n xs) ≡ length more + 1 = ap length e ∙ longer more in
     let left = length-drop n xs in
     grind (arith, nat_tests, some, left, one)
