@@ -1,5 +1,5 @@
 -- The names that a plan writes under are the gateway's own.
-use Rattle.std.proofs.Common.{◌≡◌, ℕ, List, ◌++◌, map, Option, Some, refl, sym, subst, true, false, if◌then◌else◌, None, IfSome}
+use Rattle.std.proofs.Common.{◌≡◌, ℕ, List, [], ◌++◌, map, Option, Some, refl, sym, subst, true, false, if◌then◌else◌, None, IfSome}
 use Rattle.std.specs.List.{AllByRecursion, filter_map}
 use Rattle.sn_session.specs.declared.change.SessionOp.{SessionOp}
 use Rattle.rep_op.specs.declared.op.Op.{Op}

@@ -20,8 +20,8 @@ use Rattle.sn_local.specs.Seen.{seen_of}
 use Rattle.sn_plan.specs.Plans.{plan_of}
 use Rattle.sn_plan.proofs.Lists.{map-some}
 use Rattle.sn_local.proofs.Entries.{same_client-apart}
-use Rattle.row_laws.proofs.Planned.{Parts, planned-parts, puts-passed}
-use Rattle.row_laws.proofs.Freshness.{handed-retains}
+use Rattle.row_laws.proofs.Planned.{Parts, puts-passed}
+use Rattle.row_laws.proofs.Freshness.{cut, handed-retains}
 
 -- what is retained of a topic is read off what was retained of it
 pub retained-by : (t : List ℕ) (A B : List Op) → retains t A ≡ retains t B → retained t A ≡ retained t B
@@ -34,8 +34,8 @@ module _ (g : ℕ) (c : List ℕ) (S : List Op) (d : Drafted) (plan : Plan) (pla
   abbrev clock_now : List ℕ → Option ℕ
   clock_now t = next_clock t S
 
-  parts : Parts g c (view c S) (next_epoch c S) (λ e. next_seq e g S) (λ t. next_clock t S) d plan.ops
-  parts = planned-parts g c (view c S) (next_epoch c S) (λ e. next_seq e g S) (λ t. next_clock t S) d plan planned
+  abbrev parts : Parts g c (view c S) (next_epoch c S) (λ e. next_seq e g S) (λ t. next_clock t S) d plan.ops
+  parts = cut g c S d plan planned
 
   -- neither messages nor what is handed retains anything
   module _ (t : List ℕ) where
