@@ -61,6 +61,11 @@ module _ {A : Type 0} where
           | false ↦ λ _ there. let r = passed_from xs x there in (r.0, behind_there y x xs r.1)
         ] refl h
 
+module _ {B : Type 0} where
+  found_behind : (o : Option B) (ys : List B) (y : B) → Contains ys y → Contains (cons_option o ys) y
+  found_behind None ys y h = h
+  found_behind (Some x) ys y h = behind_there x y ys h
+
 module _ {A B : Type 0} where
   mapped_there : (f : A → B) (xs : List A) (x : A) → Contains xs x → Contains (map f xs) (f x)
   mapped_there f [] x h = absurd (none-there x h)
@@ -77,10 +82,6 @@ module _ {A B : Type 0} where
         | inl same ↦ (x, head_there x xs, sym same)
         | inr more ↦ let r = mapped_from f xs y more in (r.0, behind_there x r.0 xs r.1, r.2)
       ]
-
-  found_behind : (o : Option B) (ys : List B) (y : B) → Contains ys y → Contains (cons_option o ys) y
-  found_behind None ys y h = h
-  found_behind (Some x) ys y h = behind_there x y ys h
 
   found_there : (f : A → Option B) (xs : List A) (x : A) (y : B) → f x ≡ Some y → Contains xs x → Contains (filter_map f xs) y
   found_there f [] x y is h = absurd (none-there x h)

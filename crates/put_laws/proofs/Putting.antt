@@ -24,6 +24,7 @@ use Rattle.sn_plan.specs.Bound.{session_of}
 use Rattle.sn_plan.specs.Drafts.{Drafted}
 use Rattle.sn_plan.specs.Numbering.{planned}
 use Rattle.sn_plan.specs.Own.{IsOneEach, IsOfDraft, messages}
+use Rattle.sn_plan.specs.Others.{other}
 use Rattle.sn_plan.specs.Plans.{plan_without}
 use Rattle.sn_plan.specs.Rows.{plan_for, row_of}
 use Rattle.sn_plan.proofs.Made.{no_puts, for_nobody}
@@ -84,23 +85,23 @@ module _ (predefined : Entries) (seen : Seen) (local : Local) (a : Addr) (bits t
 -- ---- every row
 
 pub row-puts : (g : ℕ) (predefined : Entries) (seen : Seen) (local : Local) (a : Addr) (frame : Frame) (now : ℕ) → (row_for g predefined seen local a frame now).draft.puts ≡ puts_of predefined seen local a frame
-row-puts g predefined seen local a (frames.Connect flags protocol duration client) now = no_puts _ (connect-made seen local a flags.bits protocol duration client now)
-row-puts g predefined seen local a (frames.WillTopic will) now = no_puts _ (will_topic-made seen a now local will)
-row-puts g predefined seen local a (frames.WillMsg message) now = no_puts _ (will_msg-made seen a now local message)
-row-puts g predefined seen local a (frames.Disconnect duration) now = no_puts _ (disconnect-made seen local a duration now)
-row-puts g predefined seen local a (frames.Register topic_id msg_id name) now = no_puts _ (register-made seen a now local msg_id name)
+row-puts g predefined seen local a (frames.Connect flags protocol duration client) now = no_puts (row_for g predefined seen local a (frames.Connect flags protocol duration client) now).draft (connect-made seen local a flags.bits protocol duration client now)
+row-puts g predefined seen local a (frames.WillTopic will) now = no_puts (row_for g predefined seen local a (frames.WillTopic will) now).draft (will_topic-made seen a now local will)
+row-puts g predefined seen local a (frames.WillMsg message) now = no_puts (row_for g predefined seen local a (frames.WillMsg message) now).draft (will_msg-made seen a now local message)
+row-puts g predefined seen local a (frames.Disconnect duration) now = no_puts (row_for g predefined seen local a (frames.Disconnect duration) now).draft (disconnect-made seen local a duration now)
+row-puts g predefined seen local a (frames.Register topic_id msg_id name) now = no_puts (row_for g predefined seen local a (frames.Register topic_id msg_id name) now).draft (register-made seen a now local msg_id name)
 row-puts g predefined seen local a (frames.Subscribe flags msg_id topic) now = subscribe-puts seen a now predefined local flags.bits msg_id topic
-row-puts g predefined seen local a (frames.Unsubscribe flags msg_id topic) now = no_puts _ (unsubscribe-made seen a now predefined local flags.bits msg_id topic)
-row-puts g predefined seen local a (frames.WillTopicUpd will) now = no_puts _ (will_topic_update-made local a will now)
-row-puts g predefined seen local a (frames.WillMsgUpd message) now = no_puts _ (will_msg_update-made seen a now local message)
+row-puts g predefined seen local a (frames.Unsubscribe flags msg_id topic) now = no_puts (row_for g predefined seen local a (frames.Unsubscribe flags msg_id topic) now).draft (unsubscribe-made seen a now predefined local flags.bits msg_id topic)
+row-puts g predefined seen local a (frames.WillTopicUpd will) now = no_puts (row_for g predefined seen local a (frames.WillTopicUpd will) now).draft (will_topic_update-made local a will now)
+row-puts g predefined seen local a (frames.WillMsgUpd message) now = no_puts (row_for g predefined seen local a (frames.WillMsgUpd message) now).draft (will_msg_update-made seen a now local message)
 row-puts g predefined seen local a (frames.Publish flags topic msg_id body) now = level-puts predefined seen local a flags.bits topic msg_id body now (qos_of flags.bits)
-row-puts g predefined seen local a (frames.PubRel msg_id) now = no_puts _ (pubrel_of_made seen a (client_at a local.bindings) msg_id now)
-row-puts g predefined seen local a (frames.PubAck topic_id msg_id code) now = no_puts _ (ack_of_made predefined seen a (client_at a local.bindings) (frames.PubAck topic_id msg_id code) now)
-row-puts g predefined seen local a (frames.PubRec msg_id) now = no_puts _ (ack_of_made predefined seen a (client_at a local.bindings) (frames.PubRec msg_id) now)
-row-puts g predefined seen local a (frames.PubComp msg_id) now = no_puts _ (ack_of_made predefined seen a (client_at a local.bindings) (frames.PubComp msg_id) now)
-row-puts g predefined seen local a (frames.RegAck topic_id msg_id code) now = no_puts _ (ack_of_made predefined seen a (client_at a local.bindings) (frames.RegAck topic_id msg_id code) now)
-row-puts g predefined seen local a (frames.PingReq client) now = no_puts _ (wake_made g seen local a client now)
-row-puts g predefined seen local a frame now = no_puts _ (other-made g local a frame now)
+row-puts g predefined seen local a (frames.PubRel msg_id) now = no_puts (row_for g predefined seen local a (frames.PubRel msg_id) now).draft (pubrel_of_made seen a (client_at a local.bindings) msg_id now)
+row-puts g predefined seen local a (frames.PubAck topic_id msg_id code) now = no_puts (row_for g predefined seen local a (frames.PubAck topic_id msg_id code) now).draft (ack_of_made predefined seen a (client_at a local.bindings) (frames.PubAck topic_id msg_id code) now)
+row-puts g predefined seen local a (frames.PubRec msg_id) now = no_puts (row_for g predefined seen local a (frames.PubRec msg_id) now).draft (ack_of_made predefined seen a (client_at a local.bindings) (frames.PubRec msg_id) now)
+row-puts g predefined seen local a (frames.PubComp msg_id) now = no_puts (row_for g predefined seen local a (frames.PubComp msg_id) now).draft (ack_of_made predefined seen a (client_at a local.bindings) (frames.PubComp msg_id) now)
+row-puts g predefined seen local a (frames.RegAck topic_id msg_id code) now = no_puts (row_for g predefined seen local a (frames.RegAck topic_id msg_id code) now).draft (ack_of_made predefined seen a (client_at a local.bindings) (frames.RegAck topic_id msg_id code) now)
+row-puts g predefined seen local a (frames.PingReq client) now = no_puts (row_for g predefined seen local a (frames.PingReq client) now).draft (wake_made g seen local a client now)
+row-puts g predefined seen local a frame now = no_puts (other g local a frame now).draft (other-made g local a frame now)
 
 -- ---- what a plan makes
 
@@ -145,7 +146,7 @@ pub tick-messages : (g advertise : ℕ) (field : List Addr) (predefined : Entrie
     → tick g advertise field predefined seen local now ≡ Some plan → messages plan.ops ≡ puts_by_tick g advertise field seen local now
 tick-messages g advertise field predefined seen local now plan is =
     let d : Drafted = cleaned g seen local now in
-    either-messages g predefined seen now plan d (no_puts _ (cleaned_made g seen local now)) (may_advertise advertise field now local.advertised)
+    either-messages g predefined seen now plan d (no_puts d (cleaned_made g seen local now)) (may_advertise advertise field now local.advertised)
     (advertised g advertise field now d) (first_due g seen local now seen.all) is
 
 -- ---- every message that is made waits

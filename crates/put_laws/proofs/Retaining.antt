@@ -32,6 +32,7 @@ use Rattle.sn_plan.specs.Bound.{session_of}
 use Rattle.sn_plan.specs.Drafts.{Drafted, nothing, changed_if}
 use Rattle.sn_plan.specs.Numbering.{planned, handed_to, kept_as}
 use Rattle.sn_plan.specs.Own.{handed_in, retained_in}
+use Rattle.sn_plan.specs.Others.{other}
 use Rattle.sn_plan.specs.Plans.{plan_without}
 use Rattle.sn_plan.specs.Rows.{plan_for, row_of}
 use Rattle.sn_plan.proofs.Made.{Made, SameMade, no_handed, no_retain, for_nobody}
@@ -174,27 +175,27 @@ IsRow g predefined seen local a frame now =
     × (hands (row_for g predefined seen local a frame now).client (row_for g predefined seen local a frame now).draft.handed ≡ handed_of predefined seen local a frame)
 
 row-is : (g : ℕ) (predefined : Entries) (seen : Seen) (local : Local) (a : Addr) (frame : Frame) (now : ℕ) → IsRow g predefined seen local a frame now
-row-is g predefined seen local a (frames.Connect flags protocol duration client) now = made-nothing _ (connect-made seen local a flags.bits protocol duration client now)
-row-is g predefined seen local a (frames.WillTopic will) now = made-nothing _ (will_topic-made seen a now local will)
-row-is g predefined seen local a (frames.WillMsg message) now = made-nothing _ (will_msg-made seen a now local message)
-row-is g predefined seen local a (frames.Disconnect duration) now = made-nothing _ (disconnect-made seen local a duration now)
-row-is g predefined seen local a (frames.Register topic_id msg_id name) now = made-nothing _ (register-made seen a now local msg_id name)
+row-is g predefined seen local a (frames.Connect flags protocol duration client) now = made-nothing (row_for g predefined seen local a (frames.Connect flags protocol duration client) now) (connect-made seen local a flags.bits protocol duration client now)
+row-is g predefined seen local a (frames.WillTopic will) now = made-nothing (row_for g predefined seen local a (frames.WillTopic will) now) (will_topic-made seen a now local will)
+row-is g predefined seen local a (frames.WillMsg message) now = made-nothing (row_for g predefined seen local a (frames.WillMsg message) now) (will_msg-made seen a now local message)
+row-is g predefined seen local a (frames.Disconnect duration) now = made-nothing (row_for g predefined seen local a (frames.Disconnect duration) now) (disconnect-made seen local a duration now)
+row-is g predefined seen local a (frames.Register topic_id msg_id name) now = made-nothing (row_for g predefined seen local a (frames.Register topic_id msg_id name) now) (register-made seen a now local msg_id name)
 row-is g predefined seen local a (frames.Subscribe flags msg_id topic) now =
     (subscribe-retain seen a now predefined local flags.bits msg_id topic, subscribe-handed predefined seen a (client_at a local.bindings) flags.bits msg_id topic now)
-row-is g predefined seen local a (frames.Unsubscribe flags msg_id topic) now = made-nothing _ (unsubscribe-made seen a now predefined local flags.bits msg_id topic)
-row-is g predefined seen local a (frames.WillTopicUpd will) now = made-nothing _ (will_topic_update-made local a will now)
-row-is g predefined seen local a (frames.WillMsgUpd message) now = made-nothing _ (will_msg_update-made seen a now local message)
+row-is g predefined seen local a (frames.Unsubscribe flags msg_id topic) now = made-nothing (row_for g predefined seen local a (frames.Unsubscribe flags msg_id topic) now) (unsubscribe-made seen a now predefined local flags.bits msg_id topic)
+row-is g predefined seen local a (frames.WillTopicUpd will) now = made-nothing (row_for g predefined seen local a (frames.WillTopicUpd will) now) (will_topic_update-made local a will now)
+row-is g predefined seen local a (frames.WillMsgUpd message) now = made-nothing (row_for g predefined seen local a (frames.WillMsgUpd message) now) (will_msg_update-made seen a now local message)
 row-is g predefined seen local a (frames.Publish flags topic msg_id body) now = (
   level-retain predefined seen local a flags.bits topic msg_id body now (qos_of flags.bits),
   hands-none (publish_in_at predefined seen local a flags.bits topic msg_id body now (qos_of flags.bits)).client _ (level-bare predefined seen local a flags.bits topic msg_id body now (qos_of flags.bits)),
 )
-row-is g predefined seen local a (frames.PubRel msg_id) now = made-nothing _ (pubrel_of_made seen a (client_at a local.bindings) msg_id now)
-row-is g predefined seen local a (frames.PubAck topic_id msg_id code) now = made-nothing _ (ack_of_made predefined seen a (client_at a local.bindings) (frames.PubAck topic_id msg_id code) now)
-row-is g predefined seen local a (frames.PubRec msg_id) now = made-nothing _ (ack_of_made predefined seen a (client_at a local.bindings) (frames.PubRec msg_id) now)
-row-is g predefined seen local a (frames.PubComp msg_id) now = made-nothing _ (ack_of_made predefined seen a (client_at a local.bindings) (frames.PubComp msg_id) now)
-row-is g predefined seen local a (frames.RegAck topic_id msg_id code) now = made-nothing _ (ack_of_made predefined seen a (client_at a local.bindings) (frames.RegAck topic_id msg_id code) now)
-row-is g predefined seen local a (frames.PingReq client) now = made-nothing _ (wake_made g seen local a client now)
-row-is g predefined seen local a frame now = made-nothing _ (other-made g local a frame now)
+row-is g predefined seen local a (frames.PubRel msg_id) now = made-nothing (row_for g predefined seen local a (frames.PubRel msg_id) now) (pubrel_of_made seen a (client_at a local.bindings) msg_id now)
+row-is g predefined seen local a (frames.PubAck topic_id msg_id code) now = made-nothing (row_for g predefined seen local a (frames.PubAck topic_id msg_id code) now) (ack_of_made predefined seen a (client_at a local.bindings) (frames.PubAck topic_id msg_id code) now)
+row-is g predefined seen local a (frames.PubRec msg_id) now = made-nothing (row_for g predefined seen local a (frames.PubRec msg_id) now) (ack_of_made predefined seen a (client_at a local.bindings) (frames.PubRec msg_id) now)
+row-is g predefined seen local a (frames.PubComp msg_id) now = made-nothing (row_for g predefined seen local a (frames.PubComp msg_id) now) (ack_of_made predefined seen a (client_at a local.bindings) (frames.PubComp msg_id) now)
+row-is g predefined seen local a (frames.RegAck topic_id msg_id code) now = made-nothing (row_for g predefined seen local a (frames.RegAck topic_id msg_id code) now) (ack_of_made predefined seen a (client_at a local.bindings) (frames.RegAck topic_id msg_id code) now)
+row-is g predefined seen local a (frames.PingReq client) now = made-nothing (row_for g predefined seen local a (frames.PingReq client) now) (wake_made g seen local a client now)
+row-is g predefined seen local a frame now = made-nothing (other g local a frame now) (other-made g local a frame now)
 
 -- ---- what a plan retains and hands
 
