@@ -1,4 +1,3 @@
 -- What proofs stand on and no public clause cites.
 pub mod Stopping
 pub mod Posting
-pub mod Admission

@@ -1,7 +1,7 @@
 //! The journal between shifts: when it is written anew, and when a gateway that cannot write tries
 //! again.
 
-use gw_main::{Tended, base_of, is_grown, next_try};
+use gw_main::{Tended, base_of, is_grown, next_wait};
 use std::alloc::Global;
 use std::fs::{File, Files, metadata};
 
@@ -14,10 +14,8 @@ pub struct Keeper<'a> {
     base: u64,
     /// How many octets both files had then.
     both: u64,
-    /// Whether there was no shift, since a write failed, in which all records went out.
-    has_failed: bool,
-    /// How many seconds the gateway waited for its last try.
-    waited: u64,
+    /// How many seconds the gateway waited for its last try; nothing where its writes go out.
+    waits: Option<u64>,
 }
 
 impl<'a> Keeper<'a> {
@@ -27,8 +25,7 @@ impl<'a> Keeper<'a> {
             path,
             base: 0,
             both: 0,
-            has_failed: false,
-            waited: 0,
+            waits: None,
         }
     }
 
@@ -73,34 +70,25 @@ impl<'a> Keeper<'a> {
         };
     }
 
-    /// A shift is over. Says for how many seconds the gateway is to be silent: if writes failed in
-    /// it, and had failed before it with no shift between in which all records went out.
+    /// A shift is over. Says for how many seconds the gateway is to be silent: for none if no write
+    /// failed in it.
     pub(crate) fn silence_after(&mut self, has_recorded: bool, has_failed: bool) -> u64 {
-        if has_recorded && !has_failed {
-            self.has_failed = false;
-            self.waited = 0;
-        }
+        self.waits = next_wait(self.waits, has_recorded, has_failed);
         if !has_failed {
             return 0;
         }
-        if !self.has_failed {
-            self.has_failed = true;
-            return 0;
-        }
-        self.wait_longer()
+        self.waits.unwrap_or(0)
     }
 
-    /// How many seconds the gateway is to be silent before its next try.
+    /// A try before the first shift failed. Says for how many seconds the gateway is to be silent.
     pub(crate) fn wait_longer(&mut self) -> u64 {
-        self.has_failed = true;
-        self.waited = next_try(self.waited);
-        self.waited
+        self.waits = Some(self.waits.unwrap_or(0));
+        self.silence_after(false, true)
     }
 
     /// The gateway can write.
     pub(crate) fn note_written(&mut self) {
-        self.has_failed = false;
-        self.waited = 0;
+        self.waits = None;
     }
 }
 
