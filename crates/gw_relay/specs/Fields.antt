@@ -1,15 +1,14 @@
--- Gateways and their links, and who took a delta from whom.
-use Rattle.std.specs.Prelude.{◌≡◌, ℕ, ◌==◌, Bool, true, ◌||◌, List, [], ◌∷◌}
-use Rattle.std.specs.List.{AllByRecursion}
+-- Gateways, their links, and how a delta comes from one to another.
+use Rattle.std.specs.Prelude.{◌≡◌, ℕ, ◌==◌, Bool, true, ◌&&◌, ◌||◌, not, List, [], ◌∷◌}
 use Rattle.gw_relay.specs.Going.{is_among, goes_on}
 
--- a gateway took the delta from another
-pub record Taking : Type 0 where
+-- the delta came to a gateway over the link of another
+pub record Coming : Type 0 where
   pub who : ℕ
   pub giver : ℕ
 
--- whether a gateway has the delta: it made it or took it
-abbrev pub has : ℕ → List Taking → ℕ → Bool
+-- whether a gateway has the delta, after these comings, the last one first: it made it, or it came
+abbrev pub has : ℕ → List Coming → ℕ → Bool
 has maker [] gateway = maker == gateway
 has maker (t ∷ before) gateway = (t.who == gateway) || has maker before gateway
 
@@ -17,23 +16,30 @@ has maker (t ∷ before) gateway = (t.who == gateway) || has maker before gatewa
 abbrev pub AreMutual : (ℕ → List ℕ) → Type 0
 AreMutual links = (a b : ℕ) → is_among a (links b) ≡ is_among b (links a)
 
--- each one took the delta from one that had it then
-abbrev pub IsRun : (ℕ → List ℕ) → ℕ → List Taking → Type 0
+-- whether this coming makes the gateway send the delta to another: it is new to it, and goes on to
+-- that one, which it is linked with
+abbrev pub sends_on : (ℕ → List ℕ) → ℕ → List Coming → Coming → ℕ → Bool
+sends_on links maker before t gateway =
+    not (has maker before t.who)
+    && (is_among gateway (links t.who) && goes_on t.giver gateway (links gateway))
+
+-- whether one gateway has sent the delta to another: its maker sends it over each of its links
+abbrev pub has_sent : (ℕ → List ℕ) → ℕ → List Coming → ℕ → ℕ → Bool
+has_sent links maker [] from gateway = (maker == from) && is_among gateway (links from)
+has_sent links maker (t ∷ before) from gateway =
+    ((t.who == from) && sends_on links maker before t gateway)
+    || has_sent links maker before from gateway
+
+-- each coming is from one that had the delta then
+abbrev pub IsRun : (ℕ → List ℕ) → ℕ → List Coming → Type 0
 IsRun links maker [] = Unit {0}
 IsRun links maker (t ∷ before) = (has maker before t.giver ≡ true) × IsRun links maker before
 
--- what this one took came to each gateway that it is linked with and to which it goes on
-abbrev pub HandsOn : (ℕ → List ℕ) → ℕ → List Taking → Taking → Type 0
-HandsOn links maker run t =
-    (gateway : ℕ) → is_among gateway (links t.who) ≡ true
-    → goes_on t.giver gateway (links gateway) ≡ true → has maker run gateway ≡ true
-
--- the maker told each gateway that it is linked with, and each of those that took the delta handed
--- it on
-pub record IsHandedOn (links : ℕ → List ℕ) (maker : ℕ) (run : List Taking) : Type 0 where
-  pub made : (gateway : ℕ) → is_among gateway (links maker) ≡ true
-      → has maker run gateway ≡ true
-  pub taken : AllByRecursion (HandsOn links maker run) run
+-- nothing is under way: each gateway that it was sent to has it
+abbrev pub IsQuiet : (ℕ → List ℕ) → ℕ → List Coming → Type 0
+IsQuiet links maker run =
+    (from gateway : ℕ) → has_sent links maker run from gateway ≡ true
+    → has maker run gateway ≡ true
 
 -- each gateway of a way is linked with the one before it
 abbrev pub IsPath : (ℕ → List ℕ) → ℕ → List ℕ → Type 0

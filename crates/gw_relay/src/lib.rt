@@ -16,7 +16,7 @@
 //!
 //! The definitions are in `specs/`: `News` (what is known of operations), `Going` (to whom a delta
 //! goes on, and who may be linked), `Pausing` (how long is waited), `Sizes` (how much is said at
-//! once, and kept), `Fields` (links, and who took a delta from whom).
+//! once, and kept), `Fields` (links, and how a delta comes from one gateway to another).
 #![tactic(auto)]
 
 mod going;
