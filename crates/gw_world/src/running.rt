@@ -1,6 +1,6 @@
 //! The run.
 
-ghost use Rattle.std.specs.Prelude.{◌≡◌, ◌++◌, ◌∷◌, [], ◌<◌, List, MatchOption, IfOk, IfErr, OnOk, length, map, vec_len};
+ghost use Rattle.std.specs.Prelude.{◌≡◌, ◌++◌, ◌∷◌, [], ◌<◌, List, MatchOption, Ok, IfOk, IfErr, OnOk, length, map, vec_len};
 ghost use Rattle.std.specs.List.{AllByRecursion};
 ghost use Rattle.gw_answer.specs.declared.step.Step.TheVariants as steps;
 ghost use Rattle.gw_node.specs.Parts.{state_of};
@@ -241,6 +241,17 @@ fn delta_at(deltas: &[Delta], number: u64) -> Option<&Delta>
     deltas.get((number - 1) as usize)
 }
 
+/// The answer to an event that nothing but want of memory can refuse.
+fn or_memory(played: Result<Answer, NoMemory>) -> Result<Answer, WorldFault>
+    ensures ok { IfOk result (λ answer. played ≡ Ok answer) }
+    ensures err { IfErr result (λ fault. fault ≡ WorldFault.Memory) }
+{
+    match played {
+        Ok(answer) => Ok(answer),
+        Err(NoMemory) => Err(WorldFault::Memory),
+    }
+}
+
 /// One event at the gateway in this place. Events are numbered.
 fn play_at<R: Replica>(
     alloc: Global,
@@ -265,19 +276,19 @@ fn play_at<R: Replica>(
             bytes,
             now,
             ..
-        } => Ok(play_frame(alloc, nodes, deltas, place, *from, bytes.as_slice(), *now)?),
-        Event::Tick { now, .. } => Ok(play_tick(alloc, nodes, deltas, place, *now)?),
+        } => or_memory(play_frame(alloc, nodes, deltas, place, *from, bytes.as_slice(), *now)),
+        Event::Tick { now, .. } => or_memory(play_tick(alloc, nodes, deltas, place, *now)),
         Event::Take { delta, .. } => match delta_at(deltas.as_slice(), *delta) {
-            Some(delta) => Ok(play_take(alloc, nodes, place, delta)?),
+            Some(delta) => or_memory(play_take(alloc, nodes, place, delta)),
             None => Err(WorldFault::NoDelta { event: number }),
         },
         Event::Answer { peer, .. } => {
             play_answer(alloc, nodes.as_slice(), deltas, place, *peer, number)
         }
         Event::WriteFails { bytes, sync, .. } => Ok(play_fail(nodes, place, *bytes, *sync)),
-        Event::Compact { .. } => Ok(play_compact(alloc, nodes, place)?),
-        Event::Restart { keep, .. } => Ok(play_restart(alloc, nodes, place, *keep)?),
-        Event::Show { .. } => Ok(play_show(alloc, nodes, place)?),
+        Event::Compact { .. } => or_memory(play_compact(alloc, nodes, place)),
+        Event::Restart { keep, .. } => or_memory(play_restart(alloc, nodes, place, *keep)),
+        Event::Show { .. } => or_memory(play_show(alloc, nodes, place)),
     }
 }
 
