@@ -1,6 +1,6 @@
 //! The answer to a digest.
 
-ghost use Rattle.std.specs.Prelude.{◌≡◌, ◌≤◌, ◌||◌, ◌++◌, ◌∷◌, [], Some, map, IsTrue, IfOk, IfErr, OnOk};
+ghost use Rattle.std.specs.Prelude.{◌≡◌, ◌≤◌, ℕ, List, ◌||◌, ◌++◌, ◌∷◌, [], Some, map, IsTrue, IfOk, IfErr, OnOk};
 ghost use Rattle.std.specs.List.{flat_map};
 ghost use Rattle.rep_ops.specs.Making.{AreWellMade};
 ghost use Rattle.rep_ops.specs.Splitting.{all_of};
@@ -9,7 +9,7 @@ ghost use Rattle.rep_model.specs.Ranges as range_list;
 ghost use Rattle.rep_answer.specs.Answers.{IsAnswer};
 ghost use Rattle.rep_answer.specs.Answers as spec;
 ghost use Rattle.rep_digest.specs.WellMade.{IsEntry, IsDigest};
-ghost use Rattle.rep_answer.specs.inner.Steps.{before, outside, ack_of, left_of, left_by, IsLeft};
+ghost use Rattle.rep_answer.specs.inner.Steps.{before, outside, outside_from, ack_of, left_of, left_by, IsLeft};
 ghost use Rattle.rep_answer.specs.inner.Steps as steps;
 
 use super::cover::{
@@ -97,7 +97,7 @@ fn add_left_of(
     ensures { OnOk result (left.new.items ≡ left.old.items ++ left_by entries.now op.now) }
 {
     match find_entry(entries, op.client()) {
-        None => Ok(left.push(op.copied(alloc)?)?),
+        None => add_copy(alloc, left, op),
         Some(entry) => add_left_by(alloc, left, entry, op),
     }
 }
@@ -116,12 +116,12 @@ fn add_left_by(
     match op {
         Op::Session { stamp, counter, .. } => {
             if !sees(entry, *stamp, *counter) {
-                left.push(op.copied(alloc)?)?;
+                add_copy(alloc, left, op)?;
             }
         }
         Op::Put { put, .. } => {
             if !covers(entry, put.origin, put.seq) {
-                left.push(op.copied(alloc)?)?;
+                add_copy(alloc, left, op)?;
             }
         }
         Op::Ack {
@@ -135,6 +135,14 @@ fn add_left_by(
             add_outside(alloc, left, client, *origin, (*first, *last), ranges)?;
         }
     }
+    Ok(())
+}
+
+/// Copies an operation after the others.
+fn add_copy(alloc: Global, left: &mut Vec<Op>, op: &Op) -> Result<(), NoMemory>
+    ensures { OnOk result (left.new.items ≡ left.old.items ++ op.now ∷ []) }
+{
+    left.push(op.copied(alloc)?)?;
     Ok(())
 }
 
@@ -164,18 +172,33 @@ fn add_outside(
 {
     let mut rest = Some(range);
     for covered in ranges {
-        rest = match rest {
-            None => None,
-            Some(range) => {
-                add_before(alloc, left, client, origin, range, *covered)?;
-                behind(range, *covered)
-            }
-        };
+        rest = add_part(alloc, left, client, origin, rest, *covered)?;
     }
     match rest {
         None => Ok(()),
         Some(range) => add_range(alloc, left, client, origin, range),
     }
+}
+
+/// Puts what of the rest of a range is before another after the others. The result is what of the
+/// rest is behind that other.
+fn add_part(
+    alloc: Global,
+    left: &mut Vec<Op>,
+    client: &ClientId,
+    origin: u8,
+    rest: Option<(u64, u64)>,
+    covered: (u64, u64),
+) -> Result<Option<(u64, u64)>, NoMemory>
+    ensures { IfOk result (λ next. (more : List (ℕ × ℕ)) → left.new.items ++ map
+        (ack_of client.now origin) (outside_from next more) ≡ left.old.items ++ map
+        (ack_of client.now origin) (outside_from rest (covered ∷ more))) }
+{
+    let Some(range) = rest else {
+        return Ok(None);
+    };
+    add_before(alloc, left, client, origin, range, covered)?;
+    Ok(behind(range, covered))
 }
 
 /// Puts what of a range is before another after the others, if that other reaches into the range.
