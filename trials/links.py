@@ -17,6 +17,7 @@ The parts, all where none is named:
   lines   two gateways of one number, a contradiction, a 4,097th client and a ninth peer are told by a line of standard error each. The contradiction
           comes three times more within a minute: that line comes no second time before the minute is over, and then says 3
   numbers of two gateways that dial the one is linked that the settings name, and a line tells of the other
+  twice   a gateway that dials two gateways of one number, and two connections that say one number, are told of
   sick    a peer whose disk is full, and that lacks some 9 MB, asks for it again and again: it ends no shift of a gateway in 30 seconds, and until its
           journal was opened five times
   asks    a peer that asks each half second for all that is there is answered four times in 35 seconds at most
@@ -478,8 +479,27 @@ def numbers(program: str, folder: str) -> str:
     return "one of two"
 
 
+def twice(program: str, folder: str) -> str:
+    """Gateway 3 dials two gateways of number 1; and whoever says 9 while a link has said it is told of, too."""
+    ports, homes = free_ports(6), [os.path.join(folder, name) for name in ("one", "other")]
+    for home in homes:
+        os.mkdir(home)
+    with Gateway(program, homes[0], 1, (ports[0], ports[1])) as one, Gateway(program, homes[1], 1, (ports[2], ports[3])) as other, \
+            Gateway(program, folder, 3, (ports[4], ports[5]), peers=f"[{at_port(ports[1])}, {at_port(ports[3])}]") as third:
+        for gateway in (one, other, third):
+            gateway.start()
+        line = "link: gateway {} was linked once more while it was linked: 1 times\n"
+        until(lambda: line.format(1) in third.told(), 10, "no line tells of two gateways of number 1")
+        with socket.create_connection((HOST, third.link), 5) as first, socket.create_connection((HOST, third.link), 5) as second:
+            first.sendall(message(1, b"\x09"))
+            time.sleep(0.5)
+            second.sendall(message(1, b"\x09"))
+            until(lambda: line.format(9) in third.told(), 10, "no line tells of two links that said 9")
+    return "a line each"
+
+
 PARTS = {"far": far, "places": places, "gone": gone, "busy": busy, "knock": knock, "mute": mute, "pieces": pieces, "breaks": breaks, "lines": lines,
-         "numbers": numbers, "sick": sick, "asks": asks, "bound": bound, "memory": memory}
+         "numbers": numbers, "twice": twice, "sick": sick, "asks": asks, "bound": bound, "memory": memory}
 
 
 def main() -> int:

@@ -134,15 +134,23 @@ impl Relay {
 
     /// The other end of a link has said its number: from now on what is handed on goes there too.
     /// An older link that was accepted, and whose other end said the same, is over: who dials again
-    /// has lost it. Nothing where memory ran out.
+    /// has lost it. That an operator should hear of, as two gateways may have that number. Nothing
+    /// where memory ran out.
     pub(crate) fn join<T: Wait>(&self, rt: &T, other: u8, is_accepted: bool) -> Option<u64> {
         let mut board = self.board.lock(rt);
         let id = board.ids;
         let at = board.first.saturating_add(board.handed.len() as u64);
+        let mut is_double = false;
         for place in board.places.as_mut_slice() {
+            if place.other == other && place.is_accepted == is_accepted && !place.is_over {
+                is_double = true;
+            }
             if replaces(is_accepted, other, place.is_accepted, place.other) {
                 place.is_over = true;
             }
+        }
+        if is_double {
+            count_one(&mut board.tallies, Trouble::Twice, other);
         }
         let place = Place {
             id,
