@@ -2,6 +2,7 @@
 
 use gw_link::Relay;
 use gw_relay::may_serve;
+use gw_wire::millisecond;
 use std::sync::Wait;
 use std::sync::atomic::{AtomicBool, AtomicU64, Ordering};
 use std::time::Clock;
@@ -64,16 +65,5 @@ impl Listening {
             self.is_on.store(false, Ordering::SeqCst);
         }
         self.is_on()
-    }
-}
-
-/// The millisecond of the clock that nobody sets.
-fn millisecond<C: Clock>(clock: &C) -> u64 {
-    match clock.monotonic() {
-        Ok(since) => since
-            .as_secs()
-            .saturating_mul(1_000)
-            .saturating_add(u64::from(since.subsec_millis())),
-        Err(_) => 0,
     }
 }

@@ -3,7 +3,7 @@
 use crate::listening::Listening;
 use gw_link::{Link, Origin, Relay};
 use gw_relay::is_behind;
-use gw_wire::FieldClock;
+use gw_wire::{FieldClock, Outage};
 use std::alloc::Global;
 use std::sync::atomic::{AtomicU64, Ordering};
 use std::sync::{Mutex, Wait};
@@ -34,6 +34,8 @@ pub struct Pool<S: Drop> {
     pub relay: Relay,
     /// The clock by which the gateway counts: no time passes while it stands still.
     pub clock: FieldClock,
+    /// Whether it can send: no time passes while it cannot.
+    pub outage: Outage,
     /// Whether the gateway listens, and does not serve yet.
     pub listening: Listening,
     /// The second after that in which the reader's queue was full, if it has not read to the end
@@ -67,6 +69,7 @@ impl<S: Drop> Pool<S> {
             }),
             relay: Relay::new(alloc, allowed),
             clock: FieldClock::new(),
+            outage: Outage::none(),
             listening: Listening::new(),
             backlog: AtomicU64::new(0),
             ticked: AtomicU64::new(0),

@@ -63,8 +63,8 @@ pub fn tick_all<T: Wait + Clock, R: Replica, D: Disk + Drop, P: Post, S: Drop>(
 }
 
 /// Ticks where the clock has not ticked in this second. If the machine, a sync or a shift's end
-/// held the gateway up for seconds, or more has come than it has read, it reads first what clients
-/// have sent meanwhile. Before it serves it does not tick.
+/// held the gateway up for seconds, nothing could be sent, or more has come than it has read, it
+/// reads first what clients have sent meanwhile. Before it serves it does not tick.
 #[tactic(auto, using(crate::proofs::Clock::clock_none))]
 fn tick_in_turn<T: Wait + Clock, R: Replica, D: Disk + Drop, P: Post, S: Drop>(
     rt: &T,
@@ -77,6 +77,10 @@ fn tick_in_turn<T: Wait + Clock, R: Replica, D: Disk + Drop, P: Post, S: Drop>(
 ) -> (Pass, Option<End>)
     ensures { AddsOfClock pass result.1 result.0 }
 {
+    if pool.outage.lasts(rt, post) {
+        stage.wait(rt, Phase::Serving, TIME_TO_READ);
+        return tick_still(rt, alloc, shift, pass, stage, post, pool.clock.second());
+    }
     let Some(second) = pool.clock.look(rt) else {
         stage.wait(rt, Phase::Serving, TIME_TO_READ);
         return (pass, None);
@@ -89,6 +93,27 @@ fn tick_in_turn<T: Wait + Clock, R: Replica, D: Disk + Drop, P: Post, S: Drop>(
         pool.tick_again(second);
     }
     (pass, end)
+}
+
+/// Ticks once in the second that the clock found last, while it stands still: nothing more is due,
+/// but a gateway that is halted is opened anew.
+#[tactic(auto, using(crate::proofs::Clock::clock_none))]
+fn tick_still<T: Wait, R: Replica, D: Disk + Drop, P: Post>(
+    rt: &T,
+    alloc: Global,
+    shift: &Shift<R, D>,
+    pass: Pass,
+    stage: &Stage,
+    post: &P,
+    second: u64,
+) -> (Pass, Option<End>)
+    ensures { AddsOfClock pass result.1 result.0 }
+{
+    let (pass, ticked) = tick_once(rt, alloc, shift, pass, stage, post, second);
+    match ticked {
+        Ok(_) => (pass, None),
+        Err(end) => (pass, Some(end)),
+    }
 }
 
 /// Ticks until a tick gives nothing. If the gateway stood still between two ticks, the round is

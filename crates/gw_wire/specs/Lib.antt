@@ -1,4 +1,5 @@
 pub mod Addresses
 pub mod Clock
 pub mod Arrivals
+pub mod Outages
 pub mod inner

@@ -51,6 +51,17 @@ pub fn stood_still(last: Look, at: u64) -> bool
     at.saturating_sub(last.at) > LONGEST_BREATH
 }
 
+/// The millisecond of the machine's clock that nobody sets; 0 where it cannot be read.
+pub fn millisecond<C: Clock>(clock: &C) -> u64 {
+    match clock.monotonic() {
+        Ok(since) => since
+            .as_secs()
+            .saturating_mul(1_000)
+            .saturating_add(u64::from(since.subsec_millis())),
+        Err(_) => 0,
+    }
+}
+
 /// The clock of a field: seconds in which its gateway did not stand still, from any beginning. One
 /// thread looks at the machine's clock, several times a second. All others read what it saw: while
 /// that thread cannot go on, no time passes for any client.
@@ -76,13 +87,7 @@ impl FieldClock {
     /// Looks at the machine's clock. Says the second, or nothing if the gateway stood still since
     /// the last look. Only one thread may look at a time.
     pub fn look<C: Clock>(&self, clock: &C) -> Option<u64> {
-        let Ok(since) = clock.monotonic() else {
-            return Some(self.second());
-        };
-        let at = since
-            .as_secs()
-            .saturating_mul(1_000)
-            .saturating_add(u64::from(since.subsec_millis()));
+        let at = millisecond(clock);
         let last = self.last();
         let has_stood = stood_still(last, at);
         let found = look_after(last, at);

@@ -3,9 +3,11 @@
 //! - `ends`: what a gateway asks of the outside (`Wire`, `Post`, `Gate`).
 //! - `udp`: a wire and a post over one UDP socket (`Socket`, with `Ears` and `Mouth`).
 //! - `clock`: the clock of a field, which stands still while its gateway does (`FieldClock`).
+//! - `outage`: while nothing can be sent, no time passes either (`Outage`).
 //!
 //! The definitions are in `specs/`: `Addresses` (addresses as the system has them), `Arrivals`
-//! (how many datagrams a receive brought) and `Clock` (what a look at the clock finds).
+//! (how many datagrams a receive brought), `Clock` (what a look at the clock finds) and `Outages`
+//! (how long nothing is sent).
 //!
 //! What comes over a socket and whether a datagram arrives is not said by any contract; what is
 //! proved is that a receive that fails raises the wire's count of failures by one, that no other
@@ -15,8 +17,10 @@
 
 mod clock;
 mod ends;
+mod outage;
 mod udp;
 
-pub use clock::{FieldClock, LONGEST_BREATH, Look, look_after, stood_still};
+pub use clock::{FieldClock, LONGEST_BREATH, Look, look_after, millisecond, stood_still};
 pub use ends::{Arrival, Gate, OpenGate, Post, Tally, Unsent, Wire, WireFault};
+pub use outage::{LONGEST_OUTAGE, OUTAGE_LINE_PAUSE, Outage, is_long, is_outage};
 pub use udp::{Ears, Mouth, Socket, address, moment};

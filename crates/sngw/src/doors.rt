@@ -132,7 +132,7 @@ where
     }
 }
 
-/// Accepts those who dial, as many as may be, and tells the troubles of links.
+/// Accepts those who dial, as many as may be, and tells the troubles.
 fn accept_all<T: Wait + Clock + Eprint>(
     rt: &T,
     alloc: Global,
@@ -174,8 +174,14 @@ fn open<T: Wait>(rt: &T, alloc: Global, stream: TcpStream, origin: Origin, pool:
     }
 }
 
-/// Tells the troubles of links that are to be told, each in a line of standard error.
+/// Tells the troubles that are to be told, each in a line of standard error: that nothing can be
+/// sent, and those of links.
 fn tell_all<T: Wait + Clock + Eprint>(rt: &T, pool: &Pool<TcpStream>) {
+    if pool.outage.is_to_tell(rt) {
+        let _ = eprintln!(rt;
+            "listen: for a minute nothing could be sent; no time passes for clients"
+        );
+    }
     for _ in 0..MOST_LINES {
         match pool.relay.report(rt, moment(rt)) {
             None => return,

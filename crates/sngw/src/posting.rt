@@ -5,9 +5,11 @@ ghost use Rattle.std.specs.Prelude.{◌≡◌, ◌<◌, ◌≤◌, ◌+◌, ◌*
 ghost use Rattle.sngw.specs.inner.Posting as spec;
 
 use gw_link::Stage;
-use gw_wire::{FieldClock, Post, Unsent};
+use gw_run::Pool;
+use gw_wire::{Post, Unsent};
 use sn_local::Addr;
 use std::alloc::Global;
+use std::net::TcpStream;
 use std::sync::{Mutex, Wait};
 
 /// How many groups of addresses are counted apart.
@@ -86,31 +88,66 @@ fn is_disconnect(bytes: &[u8]) -> bool
     bytes.len() == 2 && bytes[0] == 2 && bytes[1] == 0x18
 }
 
+/// The kind of a message: its second octet, or its fourth after a length of three (5.2.1).
+fn kind_of(bytes: &[u8]) -> u8
+    ensures { result ≡ spec.kind_of bytes.now }
+{
+    if bytes.len() > 3 && bytes[0] == 1 {
+        bytes[3]
+    } else if bytes.len() > 1 {
+        bytes[1]
+    } else {
+        0
+    }
+}
+
+/// Whether a datagram is one of those that are sent again if no answer comes: REGISTER, PUBLISH or
+/// PUBREL.
+fn is_try(bytes: &[u8]) -> bool
+    ensures { result ≡ spec.is_try bytes.now }
+{
+    let kind = kind_of(bytes);
+    kind == 0x0A || kind == 0x0C || kind == 0x10
+}
+
 /// The post of a shift.
 #[derive(Drop)]
 pub struct Outlet<'a, T: Wait, P: Post> {
     rt: &'a T,
+    alloc: Global,
     post: &'a P,
     stage: &'a Stage,
     fence: &'a Fence,
-    clock: &'a FieldClock,
+    pool: &'a Pool<TcpStream>,
 }
 
 impl<'a, T: Wait, P: Post> Outlet<'a, T, P> {
     /// A post of this shift, which sends by another one.
     pub(crate) fn new(
         rt: &'a T,
+        alloc: Global,
         post: &'a P,
         stage: &'a Stage,
         fence: &'a Fence,
-        clock: &'a FieldClock,
+        pool: &'a Pool<TcpStream>,
     ) -> Outlet<'a, T, P> {
         Outlet {
             rt,
+            alloc,
             post,
             stage,
             fence,
-            clock,
+            pool,
+        }
+    }
+
+    /// Notes whether a datagram was sent. One that is no try says nothing of the network if it was
+    /// not: whoever asked may have named an address that is nobody's.
+    fn note(&self, to: Addr, bytes: &[u8], is_sent: bool) {
+        if is_sent {
+            self.pool.outage.note_sent();
+        } else if is_try(bytes) {
+            self.pool.outage.note_unsent(self.rt, self.alloc, to, bytes);
         }
     }
 }
@@ -118,10 +155,12 @@ impl<'a, T: Wait, P: Post> Outlet<'a, T, P> {
 impl<'a, T: Wait, P: Post> Post for Outlet<'a, T, P> {
     /// What it sends is in an answer, which the shift's history keeps.
     fn send(&self, to: Addr, bytes: &[u8]) -> Result<(), Unsent> {
-        if is_disconnect(bytes) && !self.fence.may_say(self.rt, self.clock.second(), to) {
+        if is_disconnect(bytes) && !self.fence.may_say(self.rt, self.pool.clock.second(), to) {
             return Err(Unsent);
         }
         self.stage.keep(self.rt, bytes.len());
-        self.post.send(to, bytes)
+        let sent = self.post.send(to, bytes);
+        self.note(to, bytes, sent.is_ok());
+        sent
     }
 }

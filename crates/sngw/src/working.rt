@@ -268,7 +268,7 @@ where
         passes,
         seats,
         &mut watched,
-        &Outlet::new(rt, &mouth, stage, fence, &pool.clock),
+        &Outlet::new(rt, alloc, &mouth, stage, fence, pool),
         pool,
         stage,
     )
