@@ -34,10 +34,10 @@ SHAPES = {
 
 
 class Hold:
-    """A way to an address that can be held: from then on nothing goes through it in either direction."""
+    """A way to an address that can be held: from then on nothing goes through it in either direction. Something has gone through it so often."""
 
     def __init__(self, port: int):
-        self.port, self.held = port, False
+        self.port, self.held, self.carried = port, False, 0
         self.listener = socket.create_server((HOST, 0))
         self.at = self.listener.getsockname()[1]
         threading.Thread(target=self.accept, daemon=True).start()
@@ -58,6 +58,7 @@ class Hold:
             while octets := one.recv(65536):
                 if not self.held:
                     other.sendall(octets)
+                    self.carried += 1
         except OSError:
             pass
         for end in (one, other):
@@ -139,8 +140,9 @@ def killed_in_chain(gateways: list) -> str:
 
 
 def killed_in_mesh(gateways: list, way: Hold) -> str:
+    until(lambda: way.carried >= 4, 20, "there is no link over the way that is to be held")
     owed(gateways)
-    time.sleep(0.5)
+    time.sleep(1.5)
     way.held = True
     body = b"<last words of 1>"
     say(gateways[0], b"p-last", body)
