@@ -1,3 +1,4 @@
 pub mod Adding
 pub mod Calling
+pub mod Weights
 pub mod inner

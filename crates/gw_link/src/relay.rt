@@ -1,5 +1,8 @@
 //! What all links of a gateway share: what is handed on from one to the others, and who is linked.
 
+ghost use Rattle.std.specs.Prelude.{◌≡◌};
+ghost use Rattle.gw_link.specs.Weights as spec;
+
 use crate::calling::End;
 use crate::trouble::{Report, Tally, Trouble, count_one, report_of};
 use gw_relay::{
@@ -134,23 +137,15 @@ impl Relay {
 
     /// The other end of a link has said its number: from now on what is handed on goes there too.
     /// An older link that was accepted, and whose other end said the same, is over: who dials again
-    /// has lost it. That an operator should hear of, as two gateways may have that number. Nothing
-    /// where memory ran out.
+    /// has lost it. Nothing where memory ran out.
     pub(crate) fn join<T: Wait>(&self, rt: &T, other: u8, is_accepted: bool) -> Option<u64> {
         let mut board = self.board.lock(rt);
         let id = board.ids;
         let at = board.first.saturating_add(board.handed.len() as u64);
-        let mut is_double = false;
         for place in board.places.as_mut_slice() {
-            if place.other == other && place.is_accepted == is_accepted && !place.is_over {
-                is_double = true;
-            }
             if replaces(is_accepted, other, place.is_accepted, place.other) {
                 place.is_over = true;
             }
-        }
-        if is_double {
-            count_one(&mut board.tallies, Trouble::Twice, other);
         }
         let place = Place {
             id,
@@ -410,18 +405,27 @@ fn note_all(alloc: Global, board: &mut Board, ops: &[Op]) {
 pub(crate) fn weight(ops: &[Op]) -> usize {
     let mut octets = 0usize;
     for op in ops {
-        octets = octets.saturating_add(match op {
-            Op::Put { put, .. } => put.body.len().saturating_add(128),
-            _ => 128,
-        });
+        octets = octets.saturating_add(weight_of_operation(op));
     }
     octets
 }
 
+/// Some measure of the octets of an operation: what is in it of a message, and some for the rest.
+fn weight_of_operation(op: &Op) -> usize
+    ensures { result ≡ spec.weight_of op.now }
+{
+    match op {
+        Op::Session { .. } => 128,
+        Op::Put { put, .. } => put.body.len() + 128,
+        Op::Ack { .. } => 128,
+        Op::Retain { retained, .. } => retained.body.len() + 384,
+    }
+}
+
 /// Some measure of the octets of a digest.
 pub(crate) fn weight_of_digest(digest: &Digest) -> usize {
-    let mut octets = 0usize;
-    for entry in digest.entries() {
+    let mut octets = digest.topics().len().saturating_mul(128);
+    for entry in digest.clients() {
         octets = octets.saturating_add(weight_of_entry(entry));
     }
     octets

@@ -21,8 +21,6 @@ pub enum Trouble {
     TooMuch,
     /// A gateway that dialled was turned away, since as many as may be are linked.
     TurnedAway,
-    /// A gateway has a link beside one that it had: it was cut off, or two have its number.
-    Twice,
 }
 
 /// What is to be told of a trouble.

@@ -1,5 +1,5 @@
 -- When a journal is written anew, and how long a gateway waits that cannot write.
-use Rattle.std.specs.Prelude.{ℕ, ◌+◌, ◌==◌, Bool, ◌&&◌, not, if◌then◌else◌, nat_le, nat_lt, Option, Some, None}
+use Rattle.std.specs.Prelude.{ℕ, ◌+◌, ◌==◌, Bool, ◌&&◌, not, if◌then◌else◌, nat_le, nat_lt}
 use Rattle.gw_main.specs.declared.growing.TheConstants.{LEAST_GROWTH, LONGEST_TRY}
 
 -- whether a journal of so many octets has grown by so many that it is written anew
@@ -18,13 +18,3 @@ abbrev pub next_try : ℕ → ℕ
 next_try last =
     if last == 0 then 1
     else (if nat_le LONGEST_TRY (last + last) then LONGEST_TRY else last + last)
-
--- the wait after a shift in which a write failed: none after the first of them, and then a next try
-abbrev pub wait_after : Option ℕ → ℕ
-wait_after None = 0
-wait_after (Some waited) = next_try waited
-
--- the wait after a shift; it is over once something was recorded and all of it went out
-abbrev pub next_wait : Option ℕ → Bool → Bool → Option ℕ
-next_wait last has_recorded has_failed =
-    if has_failed then Some (wait_after last) else (if has_recorded then None else last)

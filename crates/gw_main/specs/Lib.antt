@@ -2,7 +2,6 @@ pub mod Numbers
 pub mod Addresses
 pub mod Keys
 pub mod Patterns
-pub mod Newcomers
 pub mod Reading
 pub mod Beginning
 pub mod Tending

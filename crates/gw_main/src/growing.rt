@@ -41,7 +41,6 @@ pub fn base_of(before: (u64, u64), after: (u64, u64)) -> u64
 /// the last one: 1, and then twice as many each time, up to the longest.
 pub fn next_try(last: u64) -> u64
     ensures is { result ≡ spec.next_try last }
-    ensures least { 1 ≤ result }
     ensures most { result ≤ LONGEST_TRY }
 {
     if last == 0 {
@@ -55,20 +54,4 @@ pub fn next_try(last: u64) -> u64
         return LONGEST_TRY;
     }
     twice
-}
-
-/// How many seconds a gateway waits after a shift before it opens its journal and tries again:
-/// nothing where its writes go out. A first shift with a failed write makes it wait for none, as one
-/// try may be enough; each later one for a next try, until there is a shift in which something was
-/// recorded and all of it went out.
-pub fn next_wait(last: Option<u64>, has_recorded: bool, has_failed: bool) -> Option<u64>
-    ensures { result ≡ spec.next_wait last has_recorded has_failed }
-{
-    if !has_failed {
-        return if has_recorded { None } else { last };
-    }
-    match last {
-        None => Some(0),
-        Some(waited) => Some(next_try(waited)),
-    }
 }

@@ -79,7 +79,7 @@ fn tick_in_turn<T: Wait + Clock, R: Replica, D: Disk + Drop, P: Post, S: Drop>(
 {
     if pool.outage.lasts(rt, post) {
         stage.wait(rt, Phase::Serving, TIME_TO_READ);
-        return tick_still(rt, alloc, shift, pass, stage, post, pool.clock.second());
+        return (pass, None);
     }
     let Some(second) = pool.clock.look(rt) else {
         stage.wait(rt, Phase::Serving, TIME_TO_READ);
@@ -93,27 +93,6 @@ fn tick_in_turn<T: Wait + Clock, R: Replica, D: Disk + Drop, P: Post, S: Drop>(
         pool.tick_again(second);
     }
     (pass, end)
-}
-
-/// Ticks once in the second that the clock found last, while it stands still: nothing more is due,
-/// but a gateway that is halted is opened anew.
-#[tactic(auto, using(crate::proofs::Clock::clock_none))]
-fn tick_still<T: Wait, R: Replica, D: Disk + Drop, P: Post>(
-    rt: &T,
-    alloc: Global,
-    shift: &Shift<R, D>,
-    pass: Pass,
-    stage: &Stage,
-    post: &P,
-    second: u64,
-) -> (Pass, Option<End>)
-    ensures { AddsOfClock pass result.1 result.0 }
-{
-    let (pass, ticked) = tick_once(rt, alloc, shift, pass, stage, post, second);
-    match ticked {
-        Ok(_) => (pass, None),
-        Err(end) => (pass, Some(end)),
-    }
 }
 
 /// Ticks until a tick gives nothing. If the gateway stood still between two ticks, the round is

@@ -39,15 +39,14 @@ struct Letter {
     bytes: Vec<u8>,
 }
 
-/// Whether a gateway can send at all. If a datagram that counts as a try could not be sent, the
-/// network may be down: what a client does not answer then says nothing of it. So no time passes
-/// for any client before that datagram, or another one, is sent. After `LONGEST_OUTAGE` time passes
-/// all the same, until one was sent and the next one cannot be: it may be for an address that is
-/// nobody's.
+/// Whether a gateway can send at all. If its last datagram could not be sent, the network may be
+/// down: what a client does not answer then says nothing of it. So no time passes for any client
+/// before that datagram, or another one, is sent. After `LONGEST_OUTAGE` time passes again until
+/// the next one that cannot be sent: it may be for an address that is nobody's.
 #[derive(Drop)]
 pub struct Outage {
     is_on: AtomicBool,
-    /// The millisecond in which the clock first stood still, since the last one was sent; or 0.
+    /// The millisecond in which the clock first stood still for it; 0 before that.
     began: AtomicU64,
     /// The millisecond in which it was last told.
     told: AtomicU64,
@@ -67,9 +66,8 @@ impl Outage {
 
     /// A datagram was sent.
     pub fn note_sent(&self) {
-        if self.is_on.load(Ordering::SeqCst) || self.began.load(Ordering::SeqCst) != 0 {
+        if self.is_on.load(Ordering::SeqCst) {
             self.is_on.store(false, Ordering::SeqCst);
-            self.began.store(0, Ordering::SeqCst);
         }
     }
 
@@ -83,6 +81,7 @@ impl Outage {
             return;
         }
         drop(mem::replace(&mut *self.unsent.lock(rt), Some(Letter { to, bytes: copy })));
+        self.began.store(0, Ordering::SeqCst);
         self.is_on.store(true, Ordering::SeqCst);
     }
 
@@ -95,11 +94,6 @@ impl Outage {
         let now = millisecond(rt);
         if self.began.load(Ordering::SeqCst) == 0 {
             self.began.store(now, Ordering::SeqCst);
-        }
-        if !self.is_on.load(Ordering::SeqCst) {
-            // sent meanwhile
-            self.began.store(0, Ordering::SeqCst);
-            return false;
         }
         if is_outage(self.began.load(Ordering::SeqCst), now) && !self.is_sent(rt, post) {
             return true;
@@ -123,7 +117,7 @@ impl Outage {
     /// Whether it is to be told now that nothing can be sent. From now on it was.
     pub fn is_to_tell<C: Clock>(&self, clock: &C) -> bool {
         let began = self.began.load(Ordering::SeqCst);
-        if began == 0 {
+        if began == 0 || !self.is_on.load(Ordering::SeqCst) {
             return false;
         }
         let now = millisecond(clock);

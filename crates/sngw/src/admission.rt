@@ -6,9 +6,10 @@ ghost use Rattle.sn_frame.specs.declared.fault.FrameFault.{FrameFault};
 ghost use Rattle.sn_frame.specs.declared.fault.FrameFault.TheVariants as frame_faults;
 ghost use Rattle.sn_frame.specs.Faults.{IsFirstFault};
 ghost use Rattle.sngw.specs.declared.admission.Verdict.TheVariants as verdicts;
+ghost use Rattle.sngw.specs.inner.Admission as spec;
 
+use gw_main::lets_in;
 use gw_main::options::Settings;
-use gw_main::{counted_in, lets_in, may_come};
 use octets::Octets;
 use rep_ops::ClientId;
 use sn_frame::{Frame, FrameFault, decode};
@@ -19,6 +20,9 @@ const NOT_SUPPORTED: u8 = 3;
 
 /// The same for one that may come later.
 pub(crate) const CONGESTION: u8 = 1;
+
+/// How many seconds newcomers are counted together.
+const A_MINUTE: u64 = 60;
 
 /// After how many seconds the list of those that are known is old: over links others may have
 /// become known.
@@ -47,8 +51,9 @@ pub struct Admission {
     known: Vec<ClientId>,
     /// The second in which they were looked up.
     looked: u64,
-    /// Since which second newcomers are counted, and how many came in since then.
-    counted: (u64, u16),
+    minute: u64,
+    /// How many came in for the first time in that minute.
+    count: u16,
 }
 
 impl Admission {
@@ -63,7 +68,8 @@ impl Admission {
             newcomers: settings.newcomers,
             known: Vec::new(alloc),
             looked: 0,
-            counted: (0, 0),
+            minute: 0,
+            count: 0,
         })
     }
 
@@ -120,14 +126,24 @@ impl Admission {
 
     /// Whether a newcomer comes in, in this second. If so, it is known.
     fn has_come(&mut self, alloc: Global, second: u64, id: &[u8]) -> bool {
-        let (since, count) = counted_in(self.counted, second);
-        if !may_come(count, self.newcomers) {
+        if self.minute != second / A_MINUTE {
+            self.minute = second / A_MINUTE;
+            self.count = 0;
+        }
+        if !may_come(self.count, self.newcomers) {
             return false;
         }
-        self.counted = (since, count.saturating_add(1));
+        self.count = self.count.saturating_add(1);
         if let Ok(id) = ClientId::new(alloc, id) {
             let _ = self.known.push(id);
         }
         true
     }
+}
+
+/// Whether one more newcomer comes in, after so many of at most so many.
+fn may_come(count: u16, most: u16) -> bool
+    ensures { result ≡ spec.may_come count most }
+{
+    count < most
 }

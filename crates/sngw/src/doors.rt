@@ -214,8 +214,5 @@ fn tell<T: Eprint>(rt: &T, report: Report) {
             "link: {} that dialled are linked, and another was turned away: {} times",
             MOST_ACCEPTED, count
         ),
-        Trouble::Twice => eprintln!(rt;
-            "link: gateway {number} was linked once more while it was linked: {count} times"
-        ),
     };
 }

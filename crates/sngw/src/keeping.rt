@@ -1,7 +1,7 @@
 //! The journal between shifts: when it is written anew, and when a gateway that cannot write tries
 //! again.
 
-use gw_main::{Tended, base_of, is_grown, next_wait};
+use gw_main::{Tended, base_of, is_grown, next_try};
 use std::alloc::Global;
 use std::fs::{File, Files, metadata};
 
@@ -14,8 +14,10 @@ pub struct Keeper<'a> {
     base: u64,
     /// How many octets both files had then.
     both: u64,
-    /// How many seconds the gateway waited for its last try; nothing where its writes go out.
-    waits: Option<u64>,
+    /// Whether there was no shift, since a write failed, in which all records went out.
+    has_failed: bool,
+    /// How many seconds the gateway waited for its last try.
+    waited: u64,
 }
 
 impl<'a> Keeper<'a> {
@@ -25,7 +27,8 @@ impl<'a> Keeper<'a> {
             path,
             base: 0,
             both: 0,
-            waits: None,
+            has_failed: false,
+            waited: 0,
         }
     }
 
@@ -70,25 +73,34 @@ impl<'a> Keeper<'a> {
         };
     }
 
-    /// A shift is over. Says for how many seconds the gateway is to be silent: for none if no write
-    /// failed in it.
+    /// A shift is over. Says for how many seconds the gateway is to be silent: if writes failed in
+    /// it, and had failed before it with no shift between in which all records went out.
     pub(crate) fn silence_after(&mut self, has_recorded: bool, has_failed: bool) -> u64 {
-        self.waits = next_wait(self.waits, has_recorded, has_failed);
+        if has_recorded && !has_failed {
+            self.has_failed = false;
+            self.waited = 0;
+        }
         if !has_failed {
             return 0;
         }
-        self.waits.unwrap_or(0)
+        if !self.has_failed {
+            self.has_failed = true;
+            return 0;
+        }
+        self.wait_longer()
     }
 
-    /// A try before the first shift failed. Says for how many seconds the gateway is to be silent.
+    /// How many seconds the gateway is to be silent before its next try.
     pub(crate) fn wait_longer(&mut self) -> u64 {
-        self.waits = Some(self.waits.unwrap_or(0));
-        self.silence_after(false, true)
+        self.has_failed = true;
+        self.waited = next_try(self.waited);
+        self.waited
     }
 
     /// The gateway can write.
     pub(crate) fn note_written(&mut self) {
-        self.waits = None;
+        self.has_failed = false;
+        self.waited = 0;
     }
 }
 

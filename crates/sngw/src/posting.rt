@@ -88,28 +88,6 @@ fn is_disconnect(bytes: &[u8]) -> bool
     bytes.len() == 2 && bytes[0] == 2 && bytes[1] == 0x18
 }
 
-/// The kind of a message: its second octet, or its fourth after a length of three (5.2.1).
-fn kind_of(bytes: &[u8]) -> u8
-    ensures { result ≡ spec.kind_of bytes.now }
-{
-    if bytes.len() > 3 && bytes[0] == 1 {
-        bytes[3]
-    } else if bytes.len() > 1 {
-        bytes[1]
-    } else {
-        0
-    }
-}
-
-/// Whether a datagram is one of those that are sent again if no answer comes: REGISTER, PUBLISH or
-/// PUBREL.
-fn is_try(bytes: &[u8]) -> bool
-    ensures { result ≡ spec.is_try bytes.now }
-{
-    let kind = kind_of(bytes);
-    kind == 0x0A || kind == 0x0C || kind == 0x10
-}
-
 /// The post of a shift.
 #[derive(Drop)]
 pub struct Outlet<'a, T: Wait, P: Post> {
@@ -141,26 +119,34 @@ impl<'a, T: Wait, P: Post> Outlet<'a, T, P> {
         }
     }
 
-    /// Notes whether a datagram was sent. One that is no try says nothing of the network if it was
-    /// not: whoever asked may have named an address that is nobody's.
-    fn note(&self, to: Addr, bytes: &[u8], is_sent: bool) {
-        if is_sent {
-            self.pool.outage.note_sent();
-        } else if is_try(bytes) {
-            self.pool.outage.note_unsent(self.rt, self.alloc, to, bytes);
+    /// Sends a datagram to an address, and notes whether it was sent.
+    fn send_noted(&self, to: Addr, bytes: &[u8]) -> Result<(), Unsent> {
+        let outage = &self.pool.outage;
+        match self.post.send(to, bytes) {
+            Ok(()) => {
+                outage.note_sent();
+                Ok(())
+            }
+            Err(unsent) => {
+                outage.note_unsent(self.rt, self.alloc, to, bytes);
+                Err(unsent)
+            }
         }
     }
 }
 
 impl<'a, T: Wait, P: Post> Post for Outlet<'a, T, P> {
-    /// What it sends is in an answer, which the shift's history keeps.
+    /// What it sends is in an answer, which the shift's history keeps. That a stranger cannot be
+    /// reached says nothing of the network.
     fn send(&self, to: Addr, bytes: &[u8]) -> Result<(), Unsent> {
-        if is_disconnect(bytes) && !self.fence.may_say(self.rt, self.pool.clock.second(), to) {
+        let is_farewell = is_disconnect(bytes);
+        if is_farewell && !self.fence.may_say(self.rt, self.pool.clock.second(), to) {
             return Err(Unsent);
         }
         self.stage.keep(self.rt, bytes.len());
-        let sent = self.post.send(to, bytes);
-        self.note(to, bytes, sent.is_ok());
-        sent
+        if is_farewell {
+            return self.post.send(to, bytes);
+        }
+        self.send_noted(to, bytes)
     }
 }

@@ -1,5 +1,5 @@
--- Which datagrams the fence counts, and together with which others; and which are sent again.
-use Rattle.std.specs.Prelude.{ℕ, ◌+◌, ◌*◌, ◌%◌, ◌==◌, Bool, true, false, List, [], ◌∷◌, ◌&&◌, ◌||◌, if◌then◌else◌}
+-- Which datagrams the fence counts, and together with which others.
+use Rattle.std.specs.Prelude.{ℕ, ◌+◌, ◌*◌, ◌%◌, ◌==◌, Bool, true, false, List, [], ◌∷◌, ◌&&◌}
 use Rattle.sn_local.specs.declared.config.Addr.{Addr}
 
 -- the group of an address, one of 4,096
@@ -12,15 +12,3 @@ is_disconnect [] = false
 is_disconnect (a ∷ []) = false
 is_disconnect (a ∷ (b ∷ [])) = (a == 2) && (b == 24)
 is_disconnect (a ∷ (b ∷ (c ∷ rest))) = false
-
--- the kind of a message: its second octet, or its fourth after a length of three octets
-abbrev pub kind_of : List ℕ → ℕ
-kind_of [] = 0
-kind_of (a ∷ []) = 0
-kind_of (a ∷ (b ∷ [])) = b
-kind_of (a ∷ (b ∷ (c ∷ []))) = b
-kind_of (a ∷ (b ∷ (c ∷ (d ∷ rest)))) = if a == 1 then d else b
-
--- whether a datagram is one of those that are sent again: REGISTER, PUBLISH or PUBREL
-abbrev pub is_try : List ℕ → Bool
-is_try bytes = (kind_of bytes == 10) || (kind_of bytes == 12) || (kind_of bytes == 16)

@@ -1,0 +1,3 @@
+-- What proofs stand on and no public clause cites.
+pub mod Tables
+pub mod Refusals
