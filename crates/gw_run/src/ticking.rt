@@ -114,7 +114,8 @@ fn tick_out<T: Wait + Clock, R: Replica, D: Disk + Drop, P: Post>(
         let Some(second) = clock.look(rt) else {
             return (pass, None);
         };
-        let (after, ticked) = tick_once(rt, alloc, shift, pass, stage, post, second);
+        let moment = clock.moment_of(second);
+        let (after, ticked) = tick_once(rt, alloc, shift, pass, stage, post, moment);
         pass = after;
         match ticked {
             Ok(true) => {}
@@ -125,7 +126,7 @@ fn tick_out<T: Wait + Clock, R: Replica, D: Disk + Drop, P: Post>(
     (pass, None)
 }
 
-/// Ticks once, in this second, and sends what that gave. Says whether it gave anything. Where the
+/// Ticks once, at this moment, and sends what that gave. Says whether it gave anything. Where the
 /// gateway is halted, the next call opens it anew.
 fn tick_once<T: Wait, R: Replica, D: Disk + Drop, P: Post>(
     rt: &T,
@@ -134,12 +135,12 @@ fn tick_once<T: Wait, R: Replica, D: Disk + Drop, P: Post>(
     pass: Pass,
     stage: &Stage,
     post: &P,
-    second: u64,
+    moment: u64,
 ) -> (Pass, Result<bool, End>)
     ensures { MatchResult result.1 (λ gave. AddsOfClock pass None result.0)
         (λ end. AddsOfClock pass (Some end) result.0) }
 {
-    let Ok(step) = Arc::new(alloc, Step::Tick { now: second }) else {
+    let Ok(step) = Arc::new(alloc, Step::Tick { now: moment }) else {
         return (pass, Err(End::Memory));
     };
     let (pass, answered) = call(rt, alloc, shift, pass, step, stage);

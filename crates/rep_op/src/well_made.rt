@@ -33,7 +33,6 @@ fn is_put(put: &Put) -> bool
         && put.seq >= 1
         && put.qos.number() <= 2
         && put.body.len() <= MAX_MESSAGE
-        && put.expires == 0
 }
 
 /// Whether the values of what is retained are in range.
