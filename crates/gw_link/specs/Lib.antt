@@ -1,4 +1,3 @@
 pub mod Adding
 pub mod Calling
-pub mod Weights
 pub mod inner

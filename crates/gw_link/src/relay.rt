@@ -1,7 +1,7 @@
 //! What all links of a gateway share: what is handed on from one to the others, and who is linked.
 
 ghost use Rattle.std.specs.Prelude.{◌≡◌};
-ghost use Rattle.gw_link.specs.Weights as spec;
+ghost use Rattle.gw_link.specs.inner.Weights as spec;
 
 use crate::calling::End;
 use crate::trouble::{Report, Tally, Trouble, count_one, report_of};

@@ -3,13 +3,17 @@
 ghost use Rattle.std.specs.Prelude.{◌≡◌, not};
 ghost use Rattle.std.specs.List.{list_any};
 ghost use Rattle.std.specs.Ordering.{is_lt};
-ghost use Rattle.rep_op.specs.Orders.{clock_of, clock_cmp};
+ghost use Rattle.sn_tables.specs.inner.Tables.{IsPlace};
+ghost use Rattle.rep_op.specs.declared.op.Op.TheVariants.{Retain as OfRetain};
+ghost use Rattle.rep_op.specs.Orders.{topic_name_cmp, clock_of, clock_cmp};
 ghost use Rattle.rep_model.specs.Keep as keeps;
 ghost use Rattle.rep_model.specs.Limits as limits;
+ghost use Rattle.rep_digest.specs.WellMade.{TopicsAscend};
 ghost use Rattle.gw_relay.specs.News as spec;
 
 use crate::name::Name;
 use rep_digest::{ClientEntry, Digest, OriginEntry, RetainedEntry};
+use rep_op::topic_order;
 use rep_ops::{ClientId, Op, Retained, Stamp, Subject};
 use sn_topic::TopicName;
 
@@ -45,6 +49,9 @@ pub fn is_covered(digest: &Digest, op: &Op) -> bool
 fn has_of_clients(digest: &Digest, op: &Op) -> bool
     ensures { result ≡ list_any (spec.is_covered_by op.now) digest.now.clients }
 {
+    if !op.is_of_client() {
+        return false;
+    }
     digest
         .clients()
         .iter()
@@ -55,20 +62,33 @@ fn has_of_clients(digest: &Digest, op: &Op) -> bool
 fn has_of_topics(digest: &Digest, op: &Op) -> bool
     ensures { result ≡ list_any (spec.is_retained_by op.now) digest.now.topics }
 {
-    digest
-        .topics()
-        .iter()
-        .any(|entry| is_retained_by(entry, op))
+    match op {
+        Op::Session { .. } => false,
+        Op::Put { .. } => false,
+        Op::Ack { .. } => false,
+        Op::Retain { topic, retained } => has_topic(digest.topics(), topic, retained),
+    }
 }
 
-/// Whether an entry is of the topic of an operation, and covers that.
-fn is_retained_by(entry: &RetainedEntry, op: &Op) -> bool
-    ensures { result ≡ spec.is_retained_by op.now entry.now }
+/// Whether one of the entries is of the topic, and covers what was retained of it. The time is
+/// logarithmic.
+fn has_topic(entries: &[RetainedEntry], topic: &TopicName, retained: &Retained) -> bool
+    requires { TopicsAscend entries.now }
+    ensures { result ≡ list_any (spec.is_retained_by (OfRetain topic.now retained.now))
+        entries.now }
 {
-    match op {
-        Op::Session { .. } | Op::Put { .. } | Op::Ack { .. } => false,
-        Op::Retain { topic, retained } => entry.topic == *topic && is_as_late(entry, retained),
+    match place(entries, topic) {
+        Ok(at) => is_as_late(&entries[at], retained),
+        Err(_) => false,
     }
+}
+
+/// Where the entry of a topic is, or where it would go.
+fn place(entries: &[RetainedEntry], topic: &TopicName) -> Result<usize, usize>
+    requires { TopicsAscend entries.now }
+    ensures { IsPlace (λ entry. topic_name_cmp entry.topic topic.now) entries.now result }
+{
+    entries.binary_search_by(|entry| topic_order(&entry.topic, topic))
 }
 
 /// Whether what an entry names is as late as this, or later.

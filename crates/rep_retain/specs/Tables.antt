@@ -28,7 +28,3 @@ pub record IsTable (es : List (List ℕ × Retained)) : Type 0 where
   pub well_made : AreWellMade (ops_of es)
   pub few : length es ≤ MOST_RETAINED
 
--- the table once what is staged is in its place; if nothing is staged, it stays
-abbrev pub moved : List (List ℕ × Retained) → Option (List (List ℕ × Retained)) → List (List ℕ × Retained)
-moved es None = es
-moved es (Some next) = next

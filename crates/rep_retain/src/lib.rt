@@ -5,11 +5,15 @@
 //! together are a replica.
 //!
 //! - `table`: the table (`Topics`).
+//! - `staged`: what is staged of it (`TopicsStaged`).
 //!
-//! The definitions are in `specs/`: `Tables` (a table), `Refusals` (why it takes no more), and
-//! `inner` (what a table becomes with operations). `proofs/Rows` has small tables.
+//! The definitions are in `specs/`: `Tables` (a table), `Staging` (what is staged of it), `Refusals`
+//! (why it takes no more), and `inner` (what a table becomes with operations). `proofs/Rows` has
+//! small tables.
 #![tactic(auto)]
 
+mod staged;
 mod table;
 
+pub use staged::TopicsStaged;
 pub use table::Topics;

@@ -1,11 +1,12 @@
 //! A table of topics.
 
-ghost use Rattle.std.specs.Prelude.{◌≡◌, ◌<◌, ◌≤◌, ◌⊎◌, ◌++◌, ◌∷◌, ◌+◌, ◌↔◌, ℕ, List, [], drop, filter, false, Some, IsTrue, IfOk, OnOk, IfErr, MatchOption, vec_len};
+ghost use Rattle.std.specs.Prelude.{◌≡◌, ◌<◌, ◌≤◌, ◌⊎◌, ◌++◌, ◌∷◌, ◌+◌, ◌↔◌, ℕ, List, [], drop, filter, false, Some, IsTrue, IfOk, OnOk, IfErr, MatchOption, slice_set, vec_len};
 ghost use Rattle.std.specs.Option.{option_copied};
 ghost use Rattle.std.specs.Ordering.{is_lt};
-ghost use Rattle.rep_op.specs.Orders.{AreOfTopics, is_of_client, subject_of, clock_of, clock_cmp};
+ghost use Rattle.rep_op.specs.Orders.{AreOfTopics, is_of_client, subject_of, topic_name_cmp, clock_of, clock_cmp};
 ghost use Rattle.rep_op.specs.Sets.{retain_at, Agrees};
 ghost use Rattle.rep_ops.specs.Making.{AreWellMade};
+ghost use Rattle.sn_topic.specs.Levels.{has_wildcard};
 ghost use Rattle.sn_tables.specs.Tables.{is_ascending};
 ghost use Rattle.sn_tables.specs.inner.Tables.{IsPlace, IsAt, IsGap};
 ghost use Rattle.rep_model.specs.Taking.{AllAgree};
@@ -17,12 +18,14 @@ ghost use Rattle.rep_retain.specs.inner.Tables.{by_topic, kept_in, with_kept, wi
 ghost use Rattle.rep_retain.specs.Refusals.{IsConflict, AreFew, IsFull};
 ghost use Rattle.rep_retain.specs.inner.Refusals.{IsInKeeping};
 
+use super::staged::{TopicsStaged, alone};
 use octets::NoMemory;
 use rep_model::{Limit, MOST_RETAINED, TakeFault};
 use rep_op::{clock_order, topic_order};
 use rep_ops::{Op, Retained};
 use sn_topic::{Filter, TopicName, matches};
 use std::alloc::Global;
+use std::cmp::Ordering;
 use std::marker::Model;
 
 /// What is retained of each topic: the last. Contracts see the topics with it, in ascending order.
@@ -44,7 +47,7 @@ impl Model for Topics {
 }
 
 /// Where a topic stands in a table, or where it would go. The time is logarithmic.
-fn place(entries: &[(TopicName, Retained)], topic: &TopicName) -> Result<usize, usize>
+pub(crate) fn place(entries: &[(TopicName, Retained)], topic: &TopicName) -> Result<usize, usize>
     requires { IsTrue (is_ascending entry_cmp entries.now) }
     ensures { IsPlace (by_topic topic.now) entries.now result }
 {
@@ -63,7 +66,7 @@ fn find<'a>(entries: &'a [(TopicName, Retained)], topic: &TopicName) -> Option<&
 }
 
 /// Whether the second was retained later.
-fn is_later(own: &Retained, kept: &Retained) -> bool
+pub(crate) fn is_later(own: &Retained, kept: &Retained) -> bool
     ensures { result ≡ is_lt (clock_cmp (clock_of own.now) (clock_of kept.now)) }
 {
     clock_order(own, kept).is_lt()
@@ -111,7 +114,7 @@ fn agrees(entries: &[(TopicName, Retained)], op: &Op) -> bool
 }
 
 /// An entry of a table.
-fn entry_of(
+pub(crate) fn entry_of(
     alloc: Global,
     topic: &TopicName,
     kept: &Retained,
@@ -146,6 +149,14 @@ fn put_at(
     let entry = entry_of(alloc, topic, kept)?;
     entries[at] = entry;
     Ok(())
+}
+
+/// Puts an entry into the place of another.
+fn set_at(entries: &mut Vec<(TopicName, Retained)>, at: usize, later: (TopicName, Retained))
+    requires { at < vec_len entries.old }
+    ensures { entries.new.items ≡ slice_set entries.old.items at later }
+{
+    entries[at] = later;
 }
 
 /// Puts what is retained of a topic that is new into the place where it goes.
@@ -300,7 +311,7 @@ fn is_offered(asked: &Filter, topic: &TopicName, kept: &Retained) -> bool
 }
 
 impl Topics {
-    ghost use Rattle.rep_retain.specs.Tables.{moved};
+    ghost use Rattle.rep_retain.specs.Staging.{moved, IsReady};
 
     /// The table of no topic.
     pub fn empty(alloc: Global) -> Topics
@@ -323,23 +334,29 @@ impl Topics {
     }
 
     /// Makes ready to take operations of topics: the table with them, or nothing if there is none.
+    /// Of one operation whose topic has a place it is the entry alone, if that is later.
     ///
     /// `Full` where there would be more than 4,096 topics, or `Memory`.
-    pub fn prepare(&self, alloc: Global, ops: &[Op]) -> Result<Option<Topics>, TakeFault>
+    pub fn prepare(&self, alloc: Global, ops: &[Op]) -> Result<TopicsStaged, TakeFault>
         requires made { AreWellMade ops.now }
         requires topics { AreOfTopics ops.now }
         ensures few { OnOk result (AreFew (ops_of self.now ++ ops.now)) }
         ensures kept { IfOk result (λ staged. IsKeptOf (ops_of self.now ++ ops.now)
             (ops_of (moved self.now staged))) }
+        ensures ready { IfOk result (λ staged. IsReady self.now staged) }
         ensures fault { IfErr result (IsFull (ops_of self.now ++ ops.now)) }
     {
         let _own = self.entries.len();
         if ops.is_empty() {
-            return Ok(None);
+            return Ok(TopicsStaged::Nothing);
         }
-        match self.with(alloc, ops) {
-            Ok(next) => Ok(Some(next)),
-            Err(fault) => Err(fault),
+        let found = alone(alloc, self.entries.as_slice(), ops)?;
+        match found {
+            Some(staged) => Ok(staged),
+            None => match self.with(alloc, ops) {
+                Ok(next) => Ok(TopicsStaged::Table(next)),
+                Err(fault) => Err(fault),
+            },
         }
     }
 
@@ -362,12 +379,14 @@ impl Topics {
     }
 
     /// Takes what the latest `prepare` made ready.
-    pub fn commit(&mut self, staged: Option<Topics>)
+    pub fn commit(&mut self, staged: TopicsStaged)
+        requires { IsReady self.old staged }
         ensures { self.new ≡ moved self.old staged }
     {
         match staged {
-            None => {}
-            Some(next) => *self = next,
+            TopicsStaged::Nothing => {}
+            TopicsStaged::Entry(at, entry) => set_at(&mut self.entries, at, entry),
+            TopicsStaged::Table(next) => *self = next,
         }
     }
 
@@ -400,7 +419,8 @@ impl Topics {
         entry_at(self.entries.as_slice(), place)
     }
 
-    /// What is retained of the topics that a filter asks for, but what was ended.
+    /// What is retained of the topics that a filter asks for, but what was ended. The time is
+    /// logarithmic where no wildcard stands in it.
     pub fn matching(
         &self,
         alloc: Global,
@@ -409,7 +429,12 @@ impl Topics {
         ensures { IfOk result (λ all. all.items
             ≡ topics.retained_matching asked.now (ops_of self.now)) }
     {
-        offered(alloc, self.entries.as_slice(), asked)
+        let entries = self.entries.as_slice();
+        if asked.has_wildcard() {
+            offered(alloc, entries, asked)
+        } else {
+            named(alloc, entries, asked)
+        }
     }
 
     /// What the type promises of the operations that it stands for.
@@ -454,7 +479,8 @@ fn offered(
     entries: &[(TopicName, Retained)],
     asked: &Filter,
 ) -> Result<Vec<(TopicName, Retained)>, NoMemory>
-    ensures { IfOk result (λ found. found.items ≡ filter (topics.is_offered asked.now) entries.now) }
+    ensures { IfOk result (λ found. found.items
+        ≡ filter (topics.is_offered asked.now) entries.now) }
 {
     let mut found = Vec::new(alloc);
     for (topic, kept) in entries {
@@ -463,6 +489,56 @@ fn offered(
         }
     }
     Ok(found)
+}
+
+/// How a topic is ordered against a filter: by their octets.
+fn filter_order(topic: &TopicName, asked: &Filter) -> Ordering
+    ensures { result ≡ topic_name_cmp topic.now asked.now }
+{
+    topic.bytes().cmp(&asked.bytes())
+}
+
+/// Where the topic whose name is the filter stands in a table, or where it would go.
+fn named_place(entries: &[(TopicName, Retained)], asked: &Filter) -> Result<usize, usize>
+    requires { IsTrue (is_ascending entry_cmp entries.now) }
+    ensures { IsPlace (by_topic asked.now) entries.now result }
+{
+    entries.binary_search_by(|entry| filter_order(&entry.0, asked))
+}
+
+/// An entry, if a subscriber to the filter is to have it.
+fn one_offered(
+    alloc: Global,
+    entry: &(TopicName, Retained),
+    asked: &Filter,
+) -> Result<Vec<(TopicName, Retained)>, NoMemory>
+    ensures { IfOk result (λ found. found.items
+        ≡ filter (topics.is_offered asked.now) (entry.now ∷ [])) }
+{
+    let mut found = Vec::new(alloc);
+    if !is_offered(asked, &entry.0, &entry.1) {
+        return Ok(found);
+    }
+    push_entry(alloc, &mut found, &entry.0, &entry.1)?;
+    Ok(found)
+}
+
+/// The entries that a subscriber to a filter without a wildcard is to have: at most that of the
+/// topic of its name. The time is logarithmic.
+fn named(
+    alloc: Global,
+    entries: &[(TopicName, Retained)],
+    asked: &Filter,
+) -> Result<Vec<(TopicName, Retained)>, NoMemory>
+    requires table { IsTrue (is_ascending entry_cmp entries.now) }
+    requires plain { has_wildcard asked.now ≡ false }
+    ensures { IfOk result (λ found. found.items
+        ≡ filter (topics.is_offered asked.now) entries.now) }
+{
+    match named_place(entries, asked) {
+        Ok(at) => one_offered(alloc, &entries[at], asked),
+        Err(_) => Ok(Vec::new(alloc)),
+    }
 }
 
 /// Puts what entries stand for after other operations.

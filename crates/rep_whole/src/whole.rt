@@ -6,7 +6,7 @@ ghost use Rattle.rep_op.specs.Orders.{AreOfClients};
 use super::holding::both_to_keep;
 use rep_model::{ClientView, Replica, TakeFault};
 use rep_ops::{ClientId, Delta, Retained, deltas_of};
-use rep_retain::Topics;
+use rep_retain::{Topics, TopicsStaged};
 use rep_shared::ClientSet;
 use sn_tables::sn_topic::{Filter, TopicName};
 use std::alloc::Global;
@@ -19,17 +19,18 @@ pub struct Whole<C: ClientSet> {
     ghost own: { AreOfClients (C.kept clients) } by { Prim.hlevel props },
 }
 
-/// What is staged of clients beside the table of topics as it will be, if that changes.
+/// What is staged of clients beside what is staged of the table of topics.
 #[derive(Debug, Drop)]
 pub struct WholeStaged<S> {
     clients: S,
-    topics: Option<Topics>,
+    topics: TopicsStaged,
 }
 
 impl<C: ClientSet> Replica for Whole<C> {
     ghost use Rattle.std.specs.Prelude.{◌++◌};
     ghost use Rattle.rep_op.specs.Orders.{AreOfClients};
-    ghost use Rattle.rep_retain.specs.Tables.{ops_of, moved};
+    ghost use Rattle.rep_retain.specs.Tables.{ops_of};
+    ghost use Rattle.rep_retain.specs.Staging.{moved, IsReady};
 
     type Staged = WholeStaged<C::Staged>;
 
@@ -38,7 +39,8 @@ impl<C: ClientSet> Replica for Whole<C> {
     ghost after = { λ w s. C.after w.clients s.clients ++ ops_of (moved w.topics s.topics) };
 
     ghost ready = { λ w s. C.ready w.clients s.clients
-        × AreOfClients (C.after w.clients s.clients) };
+        × AreOfClients (C.after w.clients s.clients)
+        × IsReady w.topics s.topics };
 
     fn empty(alloc: Global) -> Result<Whole<C>, TakeFault> {
         let clients = C::empty(alloc)?;

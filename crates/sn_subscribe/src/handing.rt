@@ -55,7 +55,7 @@ fn all_at_most(
 }
 
 /// What a client that subscribes to the filter is handed, as long as fewer than 1,024 messages wait
-/// for it.
+/// for it. Where nothing more can wait, nothing is looked for.
 pub fn handed_for<R: Replica>(
     alloc: Global,
     replica: &R,
@@ -66,9 +66,13 @@ pub fn handed_for<R: Replica>(
     ensures { IfOk result (λ handed. handed.items ≡ spec.handed_for (seen_of (R.kept replica.now))
         asked.now qos waiting) }
 {
+    let room = MAX_PENDING.saturating_sub(waiting);
+    if room == 0 {
+        return Ok(Vec::new(alloc));
+    }
     let Ok(mut offered) = replica.retained_matching(alloc, asked) else {
         return Err(NoMemory);
     };
-    offered.truncate(MAX_PENDING.saturating_sub(waiting));
+    offered.truncate(room);
     all_at_most(alloc, qos, offered)
 }

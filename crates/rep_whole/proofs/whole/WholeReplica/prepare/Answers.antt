@@ -5,7 +5,8 @@ use Rattle.rep_model.specs.Keep.{IsKeptOf}
 use Rattle.rep_model.specs.Taking.{Fits, IsFaultOf}
 use Rattle.rep_model.proofs.Beside.{fault_front, fits_both, taken_both}
 use Rattle.rep_whole.proofs.Refusing.{made_parts, refused_by_topics, refused_by_room}
-use Rattle.rep_retain.specs.Tables.{ops_of, moved}
+use Rattle.rep_retain.specs.Tables.{ops_of}
+use Rattle.rep_retain.specs.Staging.{moved}
 use Rattle.rep_retain.proofs.Found.{are_of_topics}
 use Rattle.rep_whole.proofs.whole.WholeReplica.prepare.Goals as goal
 
@@ -68,3 +69,6 @@ returns-in-Ok-clause-taken g c =
     let B = g.C.ClientSet.after c.prepare.new.self c.in_ok-clients.clients in
     subst (λ D. IsKeptOf ((A ++ T) ++ D) (B ++ ops_of next)) (sym c.parts.ensures.parts)
     (taken_both A T C R w.own (are_of_topics w.topics) c.parts.ensures.clients c.parts.ensures.topics B (ops_of next) c.in_ok-clients.ensures.clients (are_of_topics next) c.in_ok-clients.ensures.taken c.in-Ok.ensures.kept)
+
+pub returns-in-Ok-clause-ready : goal.returns-in-Ok-clause-ready
+returns-in-Ok-clause-ready g c = (c.in_ok-clients.ensures.ready, c.in_ok-clients.ensures.clients, c.in-Ok.ensures.ready)
