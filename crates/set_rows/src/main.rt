@@ -92,6 +92,8 @@
 //! - `pair SEED TIMES SIZE LEAST`: so many times both replicas take so many operations that are
 //!   made up of a number, if they are a delta: whether the two say the same after each, of LEAST or
 //!   more.
+//! - `back SEED TIMES SIZE LEAST`: the same, where one of the two takes another delta before each,
+//!   and goes back.
 //!
 //! The disk, and the journal on it; SLOT is `first` or `second`:
 //!
@@ -126,8 +128,8 @@
 //! - `row`: what the lines of a row have brought about (`Row`), and the play of one more.
 //! - `datagrams`: the same of a row of datagrams and topics.
 //! - `fields`, `names`, `operations`, `changes`: lines that are read.
-//! - `sessions`, `deltas`, `replicas`, `topics`, `pairs`, `journals`, `attempts`, `retries`: lines
-//!   that are played.
+//! - `sessions`, `deltas`, `replicas`, `topics`, `pairs`, `backs`, `journals`, `attempts`,
+//!   `retries`: lines that are played.
 //! - `made_up`: operations that are made up of a number.
 //! - `calls`: calls of the libraries.
 //! - `words`, `printing`, `runs`: what is printed.
@@ -135,6 +137,7 @@
 #![tactic(auto)]
 
 mod attempts;
+mod backs;
 mod calls;
 mod changes;
 mod datagrams;

@@ -13,16 +13,16 @@ use std::alloc::Global;
 
 /// The two replicas.
 #[derive(Drop)]
-struct Pair {
-    plain: Plain,
-    folded: Folded,
+pub(crate) struct Pair {
+    pub(crate) plain: Plain,
+    pub(crate) folded: Folded,
 }
 
 /// How many deltas both took or refused, and after how many of them they said the same.
 #[derive(Clone, Copy)]
-struct Counts {
-    deltas: u64,
-    same: u64,
+pub(crate) struct Counts {
+    pub(crate) deltas: u64,
+    pub(crate) same: u64,
 }
 
 /// `pair SEED TIMES SIZE LEAST`: so many times both replicas take so many made-up operations, if
@@ -38,7 +38,7 @@ pub(crate) fn play_pair(alloc: Global, text: &mut String, fields: &[&str]) -> Re
 }
 
 /// Whether the replicas said the same after each delta, and there were so many at least.
-fn print_counts(text: &mut String, counts: Counts, least: u64) -> Result<(), Stop> {
+pub(crate) fn print_counts(text: &mut String, counts: Counts, least: u64) -> Result<(), Stop> {
     let (deltas, same) = (counts.deltas, counts.same);
     if same == deltas && deltas >= least {
         return Ok(text.push_str("the same after each delta\n")?);
@@ -75,7 +75,7 @@ fn count_all(
 }
 
 /// Both replicas take the delta of operations that are made up of a number, if these are one.
-fn count_made(
+pub(crate) fn count_made(
     alloc: Global,
     pair: &mut Pair,
     number: u64,

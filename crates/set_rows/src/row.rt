@@ -1,6 +1,7 @@
 //! A row: what its lines have brought about so far, and the play of one more.
 
 use crate::attempts::{appends, compactions, openings};
+use crate::backs::play_back;
 use crate::journals::Store;
 use crate::names::Names;
 use crate::operations::{
@@ -261,6 +262,7 @@ fn play_replica<R: Replica>(
         "held" => replicas::held(alloc, text, &row.replica),
         "parts" => replicas::parts(alloc, text, &row.replica),
         "pair" => play_pair(alloc, text, rest),
+        "back" => play_back(alloc, text, rest),
         _ => play_topics(alloc, text, row, first, rest),
     }
 }

@@ -1,7 +1,7 @@
 use Rattle.std.proofs.Common.{◌≡◌, ◌++◌, take, flat_map}
 use Rattle.std.specs.List.{AllByRecursion}
 use Rattle.jr_journal.specs.Records.{header, written}
-use Rattle.jr_journal.specs.inner.Records.{IsReadable}
+use Rattle.jr_journal.specs.Readable.{IsReadable}
 use Rattle.jr_journal.proofs.compacting.base_of.Given as goal
 
 -- the header, and a record for each so far
