@@ -1,5 +1,7 @@
-//! How links are made: peers are dialled, others are accepted.
+//! How links are made: peers are dialled, others are accepted. Beside them the gateway is shown.
 
+use crate::board::Shared;
+use crate::watcher::watch_all;
 use gw_link::{Link, Origin, Phase, Report, Stage, Trouble};
 use gw_main::options::Settings;
 use gw_relay::next_pause;
@@ -7,6 +9,7 @@ use gw_run::{MOST_ACCEPTED, Pool};
 use gw_wire::{address, moment};
 use sn_local::Addr;
 use std::alloc::Global;
+use std::fs::{File, Files};
 use std::io::Eprint;
 use std::net::{Net, TcpListener, TcpStream};
 use std::sync::Wait;
@@ -34,26 +37,45 @@ const A_LOOK: u64 = 50;
 /// How many lines are told at once.
 const MOST_LINES: usize = 16;
 
-/// Where links come from: a peer, or whoever dials.
+/// Where links come from: a peer, or whoever dials. At one without an origin the gateway is shown.
 #[derive(Clone, Copy, Debug)]
 pub struct Door {
-    origin: Origin,
+    origin: Option<Origin>,
     at: Addr,
 }
 
-/// A door for each peer, and one for those who dial. `None` where memory ran out.
+/// What the doors listen at.
+#[derive(Drop)]
+pub struct Listeners {
+    /// Where other gateways dial.
+    pub link: TcpListener,
+    /// Where the page is asked for, if it is.
+    pub status: Option<TcpListener>,
+}
+
+/// A door for each peer, and one for those who dial; and if the gateway is watched, one for that.
+/// `None` where memory ran out.
 pub(crate) fn doors_of(alloc: Global, settings: &Settings) -> Option<Vec<Door>> {
     let mut doors = Vec::new(alloc);
     let accepting = Door {
-        origin: Origin::Accepted,
+        origin: Some(Origin::Accepted),
         at: settings.link,
     };
     if doors.push(accepting).is_err() {
         return None;
     }
+    if settings.status.is_some() || settings.log > 0 {
+        let watching = Door {
+            origin: None,
+            at: settings.link,
+        };
+        if doors.push(watching).is_err() {
+            return None;
+        }
+    }
     for peer in 0..settings.peers.len() {
         let dialling = Door {
-            origin: Origin::Dialled(peer),
+            origin: Some(Origin::Dialled(peer)),
             at: settings.peers[peer],
         };
         if doors.push(dialling).is_err() {
@@ -67,21 +89,25 @@ pub(crate) fn doors_of(alloc: Global, settings: &Settings) -> Option<Vec<Door>> 
 pub(crate) fn keep_all<T>(
     rt: &T,
     alloc: Global,
+    settings: &Settings,
     doors: &mut [Door],
-    listener: &TcpListener,
-    pool: &Pool<TcpStream>,
+    listeners: &Listeners,
+    shared: &Shared,
     over: &Stage,
 )
 where
-    T: Threads + Wait + Sync + Clock + Eprint,
+    T: Threads + Wait + Sync + Clock + Eprint + Files<File = File>,
     T: Net<Listener = TcpListener, Stream = TcpStream>,
 {
     let count = doors.len();
     if count > 0 {
         let at = |_place: usize, door: &mut Door| {
             match door.origin {
-                Origin::Accepted => accept_all(rt, alloc, listener, pool, over),
-                Origin::Dialled(_) => dial_all(rt, alloc, *door, pool, over),
+                None => watch_all(rt, alloc, settings, &listeners.status, shared, over),
+                Some(Origin::Accepted) => {
+                    accept_all(rt, alloc, settings, &listeners.link, shared, over);
+                }
+                Some(origin) => dial_all(rt, alloc, origin, door.at, shared, over),
             }
         };
         thread::for_each_mut(rt, doors, count, &at);
@@ -90,10 +116,11 @@ where
 
 /// Dials a peer wherever no link to it is open: at once where the last one worked, and with growing
 /// pauses where it takes the call and does not say its number.
-fn dial_all<T>(rt: &T, alloc: Global, door: Door, pool: &Pool<TcpStream>, over: &Stage)
+fn dial_all<T>(rt: &T, alloc: Global, origin: Origin, at: Addr, shared: &Shared, over: &Stage)
 where
     T: Wait + Clock + Net<Listener = TcpListener, Stream = TcpStream>,
 {
+    let pool = &shared.pool;
     let mut pause = 0u64;
     let mut left = 0u64;
     let mut has_called = false;
@@ -101,14 +128,17 @@ where
         if over.phase(rt) != Phase::Serving {
             return;
         }
-        if pool.may_open(rt, door.origin) {
+        if pool.may_open(rt, origin) {
             if has_called {
-                pause = next_pause(pause, pool.has_spoken(rt, door.origin));
+                pause = next_pause(pause, pool.has_spoken(rt, origin));
                 left = pause;
                 has_called = false;
             }
             if left == 0 {
-                has_called = dial(rt, alloc, door, pool);
+                has_called = dial(rt, alloc, origin, at, pool);
+                if !has_called {
+                    note_no_dial(shared, origin);
+                }
             }
             left = left.saturating_sub(1);
         }
@@ -118,38 +148,52 @@ where
 }
 
 /// Dials a peer. Whether it took the call.
-fn dial<T>(rt: &T, alloc: Global, door: Door, pool: &Pool<TcpStream>) -> bool
+fn dial<T>(rt: &T, alloc: Global, origin: Origin, at: Addr, pool: &Pool<TcpStream>) -> bool
 where
     T: Wait + Clock + Net<Listener = TcpListener, Stream = TcpStream>,
 {
-    let found = TcpStream::connect_timeout(rt, &address(door.at), Duration::from_millis(A_DIAL));
+    let found = TcpStream::connect_timeout(rt, &address(at), Duration::from_millis(A_DIAL));
     match found {
         Ok(stream) => {
-            open(rt, alloc, stream, door.origin, pool);
+            open(rt, alloc, stream, origin, pool);
             true
         }
         Err(_) => false,
     }
 }
 
-/// Accepts those who dial, as many as may be, and tells the troubles.
+/// Counts a dial of a peer that made no link.
+fn note_no_dial(shared: &Shared, origin: Origin) {
+    if let Origin::Dialled(peer) = origin {
+        if let Some(count) = shared.board.dials_failed.get(peer) {
+            count.add();
+        }
+    }
+}
+
+/// Accepts those who dial, as many as may be, and tells the troubles, unless events do.
 fn accept_all<T: Wait + Clock + Eprint>(
     rt: &T,
     alloc: Global,
+    settings: &Settings,
     listener: &TcpListener,
-    pool: &Pool<TcpStream>,
+    shared: &Shared,
     over: &Stage,
 ) {
+    let pool = &shared.pool;
     for _ in rt.forever() {
         if over.phase(rt) != Phase::Serving {
             return;
         }
-        tell_all(rt, pool);
+        if settings.log == 0 {
+            tell_all(rt, pool);
+        }
         match listener.accept() {
             Ok((stream, _)) => {
                 if pool.may_open(rt, Origin::Accepted) {
                     open(rt, alloc, stream, Origin::Accepted, pool);
                 } else {
+                    shared.board.turned_away.add();
                     pool.relay.note_trouble(rt, Trouble::TurnedAway, 0);
                 }
             }
