@@ -1,7 +1,8 @@
 #!/usr/bin/env python3
-"""What a gateway keeps of its clients, of messages that wait and of messages that were delivered, in octets of memory.
+"""What a gateway keeps of its clients, of messages that wait, of messages that were delivered and of what is retained, in octets of memory.
 
-Usage: bench/memory.py PROGRAM [--clients N] [--messages N] [--past N]      (gw_sim; 1000, 20000 and 100000 where nothing is said)
+Usage: bench/memory.py PROGRAM [--clients N] [--messages N] [--past N] [--topics N]
+       (gw_sim; 1000, 20000, 100000 and 1000 where nothing is said; something is retained of 1,024 topics at most)
 
 Two scripts are played that have as many lines and make as many deltas of the same size. In one of them a gateway comes to keep something; in
 the other a small part of it comes again and again, so that next to nothing more is kept. The text, the events, what is answered, the list
@@ -22,14 +23,15 @@ import steps
 from sessions import frame
 
 SLEEPERS, TOPIC = 40, b"ab"
+TAKERS = tuple(range(10, 42))  # gateways that take what gateway 1 retains; their numbers have two digits each
 PIPE = 1 << 16  # octets that a pipe holds: whoever prints more waits until they are taken
 PADDING = [steps.at(steps.FIRST, 0, steps.SEARCH)] * 8000  # what these print is more than a pipe holds
 
 
-def played(program: str, lines: list) -> tuple:
-    """Octets of VmHWM, and how many deltas were made."""
+def played(program: str, lines: list, others: tuple = (2,)) -> tuple:
+    """Octets of VmHWM, and how many deltas were made. Beside gateway 1 there are others."""
     with tempfile.TemporaryFile("w+") as script:
-        script.write("gateway 1\ngateway 2\n" + "\n".join(lines + PADDING) + "\n")
+        script.write("\n".join([f"gateway {number}" for number in (1, *others)] + lines + PADDING) + "\n")
         script.seek(0)
         with subprocess.Popen([program], stdin=script, stdout=subprocess.PIPE, bufsize=0) as process:
             first = process.stdout.read(1)
@@ -45,10 +47,10 @@ def deltas(program: str, lines: list) -> int:
     return played(program, lines)[1]
 
 
-def apart(program: str, one: list, other: list) -> int:
+def apart(program: str, one: list, other: list, others: tuple = (2,)) -> int:
     """By how many octets the first of two scripts needs more."""
     assert len(one) == len(other), (len(one), len(other))
-    return played(program, one)[0] - played(program, other)[0]
+    return played(program, one, others)[0] - played(program, other, others)[0]
 
 
 def taken(count: int, upto: int, again: int) -> list:
@@ -88,16 +90,27 @@ def bench_past(program: str, count: int) -> None:
     print(f"  {count:,} messages of one client that were delivered and acknowledged: {octets:,} octets in all", flush=True)
 
 
+def bench_topics(program: str, count: int) -> None:
+    """Each of the takers takes what gateway 1 retains of all topics, or again and again what it retains of the first ten."""
+    few = 10
+    made = [steps.publish(steps.STRANGER, steps.own_topic(topic)[0], 3, 0, steps.RETAIN) for topic in range(count)]
+    one, other = ([f"take {taker} {topic % most + 1:07}" for topic in range(count) for taker in TAKERS] for most in (count, few))
+    assert deltas(program, made) == count, "not each topic has a place"
+    octets = apart(program, made + one, made + other, TAKERS)
+    print(f"  a topic with a message of 16 octets that is retained, of {count:,}: {octets / (len(TAKERS) * (count - few)):,.0f} octets", flush=True)
+
+
 def main() -> int:
     words = argparse.ArgumentParser(usage=__doc__)
     words.add_argument("program")
-    for name, number in (("--clients", 1000), ("--messages", 20000), ("--past", 100000)):
+    for name, number in (("--clients", 1000), ("--messages", 20000), ("--past", 100000), ("--topics", 1000)):
         words.add_argument(name, type=int, default=number)
     asked = words.parse_args()
     print("memory of a gateway, beside the octets of ids, topics and messages", flush=True)
     bench_clients(asked.program, asked.clients)
     bench_messages(asked.program, asked.messages)
     bench_past(asked.program, asked.past)
+    bench_topics(asked.program, asked.topics)
     return 0
 
 

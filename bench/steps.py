@@ -1,9 +1,10 @@
 #!/usr/bin/env python3
 """What single steps of a gateway cost: ratios, each measured in one run of this program, with the goal beside it.
 
-Usage: bench/steps.py PROGRAM [--clients N] [--waiting N] [--past N] [--sleepers N] [--records N] [--seconds S] [--only WORD]
+Usage: bench/steps.py PROGRAM [--clients N] [--waiting N] [--past N] [--sleepers N] [--records N] [--topics N] [--seconds S] [--only WORD]
                       [--instructions]
-       (gw_sim; 1024, 1024, 100000, 1000, 100000 and 0.3 where nothing is said; WORD is one of idle, waits, past, tick, spread, opening)
+       (gw_sim; 1024, 1024, 100000, 1000, 100000, 1024 and 0.3 where nothing is said; WORD is one of idle, waits, past, tick, spread,
+       retained, opening; something is retained of 1,024 topics at most)
 
 A script that builds up is played without and with the events that are measured, in turn, five times, or seven or nine where building up takes far longer than
 what is measured; the best times count, and what building up takes is taken off. As many events are played as take S seconds, and as long as building up takes, where they change nothing
@@ -25,9 +26,11 @@ import tempfile
 sys.dont_write_bytecode = True
 from sessions import frame
 
-# the ports of who publishes and of the first client; how often an event is repeated at most
-PUBLISHER, FIRST = 60000, 1
+# the ports of who publishes, of who publishes without a connection, of who first registers topics, and of the first client; how often an event
+# is repeated at most
+PUBLISHER, STRANGER, KEEPER, FIRST = 60000, 59999, 50000, 1
 MOST = 1000000
+RETAIN = 0x10
 
 
 def at(port: int, now: int, octets: str) -> str:
@@ -48,9 +51,9 @@ def subscribe(port: int, topic: bytes, qos: int) -> str:
     return at(port, 0, frame(0x12, bytes([qos << 5 | 2, 0, 1]) + topic))
 
 
-def publish(port: int, topic: bytes, qos: int, message: int) -> str:
-    """PUBLISH by a short name, with a message of 16 octets (section 5.4.12)."""
-    return at(port, 1, frame(0x0C, bytes([qos << 5 | 2]) + topic + (message % 65535 + 1).to_bytes(2, "big") + b"sixteen octets !"))
+def publish(port: int, topic: bytes, qos: int, message: int, more: int = 0) -> str:
+    """PUBLISH by a short name, with a message of 16 octets and more flags (section 5.4.12)."""
+    return at(port, 1, frame(0x0C, bytes([qos << 5 | 2 | more]) + topic + (message % 65535 + 1).to_bytes(2, "big") + b"sixteen octets !"))
 
 
 def puback(port: int, topic: bytes, message: int) -> str:
@@ -145,6 +148,11 @@ class Case:
         return without, used
 
 
+def in_turn(events: list, count: int) -> list:
+    """So many of these, and behind the last the first again."""
+    return (events * (count // len(events) + 1))[:count]
+
+
 class Bench:
     """By time. A figure is microseconds of an event."""
 
@@ -159,11 +167,11 @@ class Bench:
         best = [[min(each) for each in zip(*times)] for times in zip(*rounds)]
         return [1e6 * (used - without) / len(case.events) for (without, used), case in zip(best, cases)]
 
-    def many(self, setup: list, event: str, last: str) -> Case:
-        """The event as often as takes long enough."""
+    def many(self, setup: list, events: list, last: str) -> Case:
+        """The events in turn, as often as takes long enough."""
         count = 1
         while True:
-            case = Case(setup, [event] * count, last)
+            case = Case(setup, in_turn(events, count), last)
             without, used = case.uses(seconds, self.program)
             took, least = used - without, max(self.least, without)
             if took >= least or count >= MOST:
@@ -173,7 +181,11 @@ class Bench:
 
     def repeated(self, setups: list, event: str, last: str) -> list:
         """The same of one event that may be repeated, behind each of these."""
-        return self.fixed([self.many(setup, event, last) for setup in setups])
+        return self.turned(setups, [event], last)
+
+    def turned(self, setups: list, events: list, last: str) -> list:
+        """The same of events that may be repeated in turn."""
+        return self.fixed([self.many(setup, events, last) for setup in setups])
 
 
 class Counted(Bench):
@@ -185,8 +197,8 @@ class Counted(Bench):
         both = [case.uses(instructions, self.program) for case in cases]
         return [(used - without) / len(case.events) for (without, used), case in zip(both, cases)]
 
-    def many(self, setup: list, event: str, last: str) -> Case:
-        return Case(setup, [event] * (2 if event.startswith("restart") else max(200, len(setup))), last)
+    def many(self, setup: list, events: list, last: str) -> Case:
+        return Case(setup, in_turn(events, 2 if events[0].startswith("restart") else max(200, len(setup))), last)
 
 
 LOST = "lost in what else the machine does"
@@ -200,6 +212,11 @@ def rate(bench: Bench, what: str, figure: float, count: int, unit: str) -> None:
         print(f"  {what}: {figure / 1000:.2f} ms, {count / figure * 1e6:,.0f} {unit} per second (no goal)", flush=True)
     else:
         print(f"  {what}: {figure / count:,.0f} {bench.unit} for each of the {unit} (no goal)", flush=True)
+
+
+def alone(bench: Bench, what: str, figure: float) -> None:
+    """What one takes, where there is nothing beside it and no goal."""
+    print(f"  {what}: " + (f"{figure:,.{bench.places}f} {bench.unit} (no goal)" if figure > 0 else LOST), flush=True)
 
 
 def told(bench: Bench, what: str, few: str, many: str, figures: list, goal: float, free: float = 0.0) -> None:
@@ -221,9 +238,9 @@ def sleepers(count: int) -> list:
     return [line for client in range(count) for line in sleeper(client, topic_of(client))] + publisher(count)
 
 
-def to_each(count: int, apiece: int) -> list:
-    """So many messages to each sleeper, one by one."""
-    return [publish(PUBLISHER, topic_of(client), 1, message) for message in range(apiece) for client in range(count)]
+def to_each(count: int, apiece: int, more: int = 0) -> list:
+    """So many messages to each sleeper, one by one, with more flags."""
+    return [publish(PUBLISHER, topic_of(client), 1, message, more) for message in range(apiece) for client in range(count)]
 
 
 def others(setup: list, taken: int, clients: int) -> list:
@@ -322,6 +339,57 @@ def bench_spread(bench: Bench, asked: argparse.Namespace) -> None:
     rate(bench, f"a PUBLISH at 1 to {count:,} sleepers", figure, count, "messages")
 
 
+APIECE = 64  # topics that one client registers
+
+
+def hall(number: int) -> bytes:
+    """A topic with levels; ten of them differ in the last one alone."""
+    return b"hall/%03d/%d" % (number // 10, number % 10)
+
+
+def keeper(first: int, stop: int, more: int) -> list:
+    """A client that registers some topics and publishes at 1 to each, with more flags."""
+    port = KEEPER + first // APIECE
+    lines = [connect(port, port)]
+    lines += [at(port, 0, frame(0x0A, bytes(2) + (number + 1).to_bytes(2, "big") + hall(number))) for number in range(first, stop)]
+    for number in range(first, stop):
+        topic_id, message = (number - first + 1).to_bytes(2, "big"), (number + 1).to_bytes(2, "big")
+        lines.append(at(port, 0, frame(0x0C, bytes([0x20 | more]) + topic_id + message + b"sixteen octets !")))
+    return lines
+
+
+def keepers(count: int, more: int = RETAIN) -> list:
+    """So many topics of which something is retained, or was published alone."""
+    return [line for first in range(0, count, APIECE) for line in keeper(first, min(first + APIECE, count), more)]
+
+
+def kept_for(count: int) -> list:
+    """Something is retained of the topic of each of so many sleepers; who published it has no connection."""
+    return [publish(STRANGER, topic_of(client), 3, 0, RETAIN) for client in range(count)]
+
+
+def subscribe_in_full(port: int, words: bytes, qos: int) -> str:
+    return at(port, 0, frame(0x12, bytes([qos << 5, 0, 1]) + words))
+
+
+def bench_retained(bench: Bench, asked: argparse.Namespace) -> None:
+    topics, clients, few = asked.topics, min(asked.clients, 1000), 9
+    both = [keepers(topics, more) + [connect(0, FIRST)] for more in (0, RETAIN)]
+    changes = [subscribe_in_full(FIRST, b"hall/none/0", qos) for qos in (0, 1)]
+    told(bench, "SUBSCRIBE to a name, of which nothing is retained", "beside none", f"beside {topics:,}", bench.turned(both, changes, "delta "), 1.2)
+    asks = [subscribe_in_full(FIRST + client, b"hall/%03d/+" % (topics // 20), 1) for client in range(clients)]
+    figure = bench.fixed([Case(others(keepers(topics), 0, clients), asks, "delta ")], 9)[0]
+    alone(bench, f"SUBSCRIBE by a wildcard that is handed what is retained of 10 of {topics:,} topics", figure)
+    asks = [subscribe_in_full(FIRST + client, b"#", 1) for client in range(16)]
+    figure = bench.fixed([Case(others(keepers(topics), 0, 16), asks, "delta ")], 9)[0]
+    rate(bench, f"SUBSCRIBE that is handed what is retained of {topics:,} topics", figure, topics, "messages")
+    for count in (few, topics):
+        setup = keepers(count - few) + kept_for(few) + sleepers(few)
+        cases = [Case(setup, to_each(few, 800, more), "delta ") for more in (0, RETAIN)]
+        told(bench, f"PUBLISH at 1 to one sleeper, beside {count:,} topics of which something is retained", "without Retain", "with Retain",
+             bench.fixed(cases, 9), 1.5)
+
+
 def opened(bench: Bench, what: str, setup: list) -> None:
     figure = bench.repeated([setup], "restart 1 all", f"records {len(setup)}")[0]
     rate(bench, f"a journal of {len(setup):,} records, {what}", figure, len(setup), "records")
@@ -334,6 +402,8 @@ def bench_opening(bench: Bench, asked: argparse.Namespace) -> None:
     opened(bench, f"{apiece} messages that wait for each of {clients} clients", sleepers(clients) + to_each(clients, apiece))
     past = [connect(0, FIRST), subscribe(FIRST, b"ab", 1)] + handed_over(0, asked.records // 2)
     opened(bench, "messages of a client that were acknowledged", past)
+    kept = [publish(STRANGER, own_topic(turn % asked.topics)[0], 3, 0, RETAIN) for turn in range(min(asked.records, 20000))]
+    opened(bench, f"PUBLISH with Retain to {asked.topics:,} topics in turn", kept)
 
 
 PARTS = [
@@ -342,6 +412,7 @@ PARTS = [
     ("past", "a step behind messages that a client was handed and acknowledged", bench_past),
     ("tick", "time goes by", bench_tick),
     ("spread", "a publication to many", bench_spread),
+    ("retained", "what is retained of topics", bench_retained),
     ("opening", "a gateway is opened again", bench_opening),
 ]
 
@@ -349,7 +420,8 @@ PARTS = [
 def main() -> int:
     words = argparse.ArgumentParser(usage=__doc__)
     words.add_argument("program")
-    for name, number in (("--clients", 1024), ("--waiting", 1024), ("--past", 100000), ("--sleepers", 1000), ("--records", 100000)):
+    for name, number in (("--clients", 1024), ("--waiting", 1024), ("--past", 100000), ("--sleepers", 1000), ("--records", 100000),
+                         ("--topics", 1024)):
         words.add_argument(name, type=int, default=number)
     words.add_argument("--seconds", type=float, default=0.3)
     words.add_argument("--only", choices=[word for word, _, _ in PARTS])

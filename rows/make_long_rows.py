@@ -26,6 +26,11 @@ def connect(client, flags):
     return "%02x04%02x010000%s" % (6 + len(client), flags, client.encode().hex())
 
 
+def large(flags, topic, number, size, octet="61"):
+    """PUBLISH of a message of so many octets, which are all the same; it has more than 255."""
+    return "01%04x0c%s%s%04x%s" % (9 + size, flags, topic, number, octet * size)
+
+
 def clients():
     """1,023 clients; one is asked for its will and another for its message; one more comes; then no new one is taken."""
     row = Row(1)
@@ -128,7 +133,10 @@ def subscribed(row, gateway, first, last):
 
 
 def size_of_a_delta():
-    """A message of 4,096 octets for 2,038 clients, half of them another gateway's, passes 8 MiB; for 2,037 it does not."""
+    """A message of 4,096 octets for 2,038 clients, half of them another gateway's, passes 8 MiB; for 2,037 it does not.
+
+    If it is retained as well, it passes 8 MiB for 2,032 clients, and not for 2,031.
+    """
     # Put: kind 1, client 1 + 4, origin 1, sequence 8, topic 2 + 2, quality of service 1, message 2 + 4,096.
     put = 1 + 5 + 1 + 8 + 4 + 1 + 2 + 4096
     most = (8 * 1024 * 1024 - 5) // put
@@ -138,18 +146,172 @@ def size_of_a_delta():
     subscribed(row, 2, 1021, most + 1)
     for delta in range(there + 1, row.deltas + 1):
         row.line("take 1 %d" % delta)
-    publish = "frame 1 9999 1 01%04x0c6261620000%s" % (9 + 4096, "61" * 4096)
+    publish = "frame 1 9999 1 " + large("62", "6162", 0, 4096)
     row.line(publish, "refused N5")
     row.line(publish, "refused N5")
     row.made("frame 1 1 2 07140200026162", "to 1 04150002")
     row.made(publish)
-    row.line("frame 1 2 3 0216", "to 2 0217", "to 2 01%04x0c0261620000%s" % (9 + 4096, "61" * 4096), "delta %d" % (row.deltas + 1))
+    row.made("frame 1 2 3 0216", "to 2 0217", "to 2 " + large("02", "6162", 0, 4096))
+    # Retain: kind 1, topic 2 + 2, clock 8, gateway 1, quality of service 1, message 2 + 4,096. With it each put has a flag and 8 octets more.
+    retain = 1 + 4 + 8 + 1 + 1 + 2 + 4096
+    last = 2 + most - (8 * 1024 * 1024 - 5 - retain) // (put + 9)
+    publish = "frame 1 9999 4 " + large("72", "6162", 0, 4096)
+    for number in range(3, last + 1):
+        row.made("frame 1 %d 4 07140200036162" % number, "to %d 04150003" % number, "to %d %s" % (number, large("02", "6162", 0, 4096)))
+        if number == last - 1:
+            row.line(publish, "refused N5")
+    row.made(publish)
+    row.made("frame 1 1 5 07120200046162", "to 1 0813000000000400")
+    row.made("frame 1 1 6 0216", "to 1 0217", "to 1 " + large("12", "6162", 0, 4096))
+    return row.lines
+
+
+def topics_retained():
+    """1,024 topics have a place, one of them for an empty message. Another gets none, by no kind of publication, and goes to who asks for it."""
+    row = Row(1)
+    topics = ["%02x%02x" % (0x41 + number // 32, 0x41 + number % 32) for number in range(1024)]
+    row.made("frame 1 7 0 " + connect("s1", 4), "to 7 030500")
+    for topic in topics[:-1]:
+        row.made("frame 1 99 0 080c72%s000078" % topic)
+    row.made("frame 1 99 0 070c72%s0000" % topics[-1])
+    row.line("frame 1 99 1 080c727a7a000078")
+    row.made("frame 1 7 1 07120200027a7a", "to 7 0813000000000200")
+    row.made("frame 1 99 1 080c727a7a000079")
+    row.made("tick 1 2", "to 7 080c027a7a000079")
+    row.line("frame 1 9 2 08040c01003c7031", "to 9 0206")
+    row.line("frame 1 9 2 0507107a79", "to 9 0208")
+    row.made("frame 1 9 2 03096d", "to 9 030500")
+    row.made("frame 1 9 2 080c327a7a00017a", "to 9 070d7a7a000100")
+    row.made("frame 1 9 2 080c527a7900027a", "to 9 040f0002")
+    row.line("frame 1 9 2 080c127a7800007a")
+    row.made("tick 1 92")
+    row.made("tick 1 92", "to 7 080c027a7a00007a")
+    row.made("frame 1 99 93 080c72%s000079" % topics[0])
+    row.made("frame 1 99 93 080c72%s00007a" % topics[-1])
+    row.made("frame 1 7 94 061200000323", "to 7 0813000000000300")
+    octets = ["79"] + ["78"] * 1022 + ["7a"]
+    row.made("tick 1 95", *("to 7 080c12%s0000%s" % pair for pair in zip(topics, octets)))
+    row.line(
+        "show 1",
+        "client 7031 stamp 1.1 prefix 3 lost clean 60 next 1",
+        "  will 0 7a79 6d",
+        "  received 2",
+        "client 7331 stamp 1.1 prefix 3 active clean 0 next 1",
+        "  sub 23 0",
+        "  sub 7a7a 0",
+        "retain 2.1 0 %s 79" % topics[0],
+        *("retain 1.1 0 %s 78" % topic for topic in topics[1:-1]),
+        "retain 2.1 0 %s 7a" % topics[-1],
+    )
+    return row.lines
+
+
+def handed():
+    """Of six topics four are handed to a sleeper for which 1,020 messages wait, then none, and one once a message is acknowledged."""
+    row = Row(1)
+    row.made("frame 1 9 0 " + connect("p1", 4), "to 9 030500")
+    row.made("frame 1 7 0 " + connect("s1", 0), "to 7 030500")
+    row.made("frame 1 7 0 07122200017a7a", "to 7 0813200000000100")
+    row.made("frame 1 7 0 0418012c", "to 7 0218")
+    for topic in ("6162", "6161", "6163", "6164", "6165", "6166"):
+        row.made("frame 1 99 0 080c72%s000078" % topic)
+    for number in range(1, 1021):
+        row.made("frame 1 9 0 080c227a7a%04x61" % number, "to 9 070d7a7a%04x00" % number)
+    row.made("frame 1 7 1 061220000223", "to 7 0813200000000200")
+    row.line("frame 1 7 1 061220000323", "to 7 0813200000000300")
+    row.made("frame 1 7 1 061200000423", "to 7 0813000000000400")
+    row.made("frame 1 7 1 07120200056162", "to 7 0813000000000500")
+    row.made("frame 1 7 2 04167331", "to 7 080c227a7a000161")
+    row.made("frame 1 7 2 070d7a7a000100", "to 7 080c227a7a000261")
+    row.made("frame 1 7 2 061200000623", "to 7 0813000000000600")
+    row.line("frame 1 7 2 061200000723", "to 7 0813000000000700")
+    row.line(
+        "show 1",
+        "client 7031 stamp 1.1 prefix 1 active clean 0 next 1",
+        "client 7331 stamp 1.1 prefix 10 awake kept 300 next 3",
+        "  sub 23 0",
+        "  sub 6162 0",
+        "  sub 7a7a 1",
+        "  outbound 1.2 2 published",
+        *("  put %d.1 1 7a7a 61" % number for number in range(2, 1021)),
+        *("  put %d.1 0 %s 78" % pair for pair in zip(range(1021, 1026), ("6161", "6162", "6163", "6164", "6161"))),
+        *("retain 1.1 0 616%d 78" % number for number in range(1, 7)),
+    )
+    return row.lines
+
+
+def ids_received():
+    """256 message ids are received: neither another one nor one of them retains anything."""
+    row = Row(1)
+    row.made("frame 1 5 0 " + connect("p1", 4), "to 5 030500")
+    for number in range(1, 257):
+        row.made("frame 1 5 0 080c526162%04x78" % number, "to 5 040f%04x" % number)
+    row.line("frame 1 5 1 080c526162010179", "to 5 070d6162010101")
+    row.line("frame 1 5 1 080cd26162010079", "to 5 040f0100")
+    row.line(
+        "show 1",
+        "client 7031 stamp 2.1 prefix 2 active clean 0 next 1",
+        *("  received %d" % number for number in range(1, 257)),
+        "retain 256.1 2 6162 78",
+    )
+    return row.lines
+
+
+def bodies():
+    """A message of 4,096 octets is retained and handed; one of 4,097 is not retained, at any quality of service."""
+    row = Row(1)
+    row.made("frame 1 7 0 " + connect("s1", 4), "to 7 030500")
+    row.made("frame 1 9 0 " + connect("p1", 4), "to 9 030500")
+    row.line("frame 1 99 0 " + large("72", "6162", 0, 4097))
+    for flags, number in (("12", 0), ("32", 1), ("52", 2)):
+        row.line("frame 1 9 0 " + large(flags, "6162", number, 4097), "to 9 070d6162%04x03" % number)
+    row.made("frame 1 9 0 " + large("32", "6162", 3, 4096), "to 9 070d6162000300")
+    row.made("frame 1 99 0 " + large("72", "6163", 0, 4096, "62"))
+    row.made("frame 1 7 1 061240000123", "to 7 0813400000000100")
+    row.made("tick 1 1", "to 7 " + large("32", "6162", 1, 4096))
+    row.made("frame 1 7 1 070d6162000100", "to 7 " + large("12", "6163", 0, 4096, "62"))
+    row.line(
+        "show 1",
+        "client 7031 stamp 1.1 prefix 1 active clean 0 next 1",
+        "client 7331 stamp 1.1 prefix 4 active clean 0 next 2",
+        "  sub 23 2",
+        "retain 1.1 1 6162 " + "61" * 4096,
+        "retain 1.1 0 6163 " + "62" * 4096,
+    )
+    return row.lines
+
+
+def stamps():
+    """The 256th SUBSCRIBE begins a stamp and is handed a message; the 257th is refused and is not; the last is, by a filter that is there."""
+    row = Row(1)
+    row.made("frame 1 7 0 " + connect("s1", 4), "to 7 030500")
+    row.made("frame 1 99 0 080c726162000078")
+    filters = [("%04d/+" % number).encode().hex() for number in range(1, 256)]
+    for number, asked in enumerate(filters, 1):
+        row.made("frame 1 7 0 0b1200%04x%s" % (number, asked), "to 7 0813000000%04x00" % number)
+    row.made("frame 1 7 1 07120201006162", "to 7 0813000000010000")
+    row.made("frame 1 7 2 061200010123", "to 7 0813000000010101", "to 7 080c126162000078")
+    row.line("tick 1 3")
+    row.made("frame 1 7 4 07120201026162", "to 7 0813000000010200")
+    row.line(
+        "show 1",
+        "client 7331 stamp 2.1 prefix 2 active clean 0 next 1",
+        *("  sub %s 0" % asked for asked in filters),
+        "  sub 6162 0",
+        "  put 2.1 0 6162 78",
+        "retain 1.1 0 6162 78",
+    )
     return row.lines
 
 
 ROWS = {
+    "handed-as-a-stamp-ends": stamps,
     "limit-of-a-delta": size_of_a_delta,
     "limit-of-clients": clients,
     "limit-of-parked-operations": parked_operations,
+    "limit-of-topics-that-have-a-place": topics_retained,
+    "limit-of-what-is-handed": handed,
     "limit-of-will-dialogs": will_dialogs,
+    "retained-behind-256-ids": ids_received,
+    "retained-bodies": bodies,
 }

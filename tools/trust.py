@@ -14,13 +14,13 @@ import sys
 
 sys.dont_write_bytecode = True
 import trust_parts
-from printing import code, comment_mark, first_sentence, prose, short, size, slug, wrapped
+from printing import comment_mark, first_sentence, packed, prose, short, size, slug, wrapped
 from sources import TOP, Book, cone, renamed
 from trust_levels import ENDING, HEAD, LEVELS, NAMED, READING, SENTENCES
 
 PAGE = TOP / "docs" / "TRUST.md"
 # The page is for one evening. Crates of a level share a block if it has no more lines than this.
-MOST_LINES, BLOCK_LINES = 1500, 90
+MOST_LINES, BLOCK_LINES = 1500, 110
 
 NOTES = []
 
@@ -119,7 +119,7 @@ def definition(item):
 def contract(part):
     """The lines of a contract: its head, the clauses that were chosen, and of a law the names of the others."""
     is_law = "()" in part.text[0]
-    return code(part) + (wrapped(f"Its other clauses: {', '.join(part.others)}.", "    // ") if is_law and part.others else [])
+    return packed(part.text) + (wrapped(f"Its other clauses: {', '.join(part.others)}.", "    // ") if is_law and part.others else [])
 
 
 def clauses(level):
@@ -129,8 +129,8 @@ def clauses(level):
         files.setdefault(part.path, []).append(part)
     links = [source_link(parts[0], f"{parts[0].crate}: " + ", ".join(f"`{part.name}`" for part in parts)) for parts in files.values()]
     lines = wrapped("Clauses from " + "; ".join(links) + ".") + ["", "```rust"]
-    for part in level.contracts:
-        lines += contract(part) + [""]
+    for parts in files.values():
+        lines += [line for part in parts for line in contract(part)] + [""]
     return lines[:-1] + ["```", ""]
 
 

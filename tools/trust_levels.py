@@ -17,8 +17,8 @@ READING = (["## How to read the code", ""], [
     "`slice_get list i ≡ Some x` that it has `x` in place `i`. `IfOk` and `IfSome` speak of a result only if there is one. `find` gives "
     "the first entry of a name. In clauses of a program `x.now` is a value that is only read, and `x.old` and `x.new` are one that "
     "changes. In their heads `Delta` is a list of operations, `MemoryDisk` a disk in memory, `World` what `run` gives, and `WorldFault` "
-    "why it gives nothing; `Ghosts` are the members of the trait `Disk`. A word of code that the page neither defines nor names is the "
-    "toolchain's, and [GLOSSARY](GLOSSARY.md) has the words of the prose.", "",
+    "why it gives nothing; `Ghosts` are the members of the trait `Disk`. Any other word of code is the toolchain's; "
+    "[GLOSSARY](GLOSSARY.md) has the words of the prose.", "",
     "What the clauses assume is in [PROVED](PROVED.md), and what you trust beside them in [README](../README.md#trust-and-licence). "
     "`make trust` writes this page from the sources, and `make test` compares it with them. It also writes the long form into "
     "`out/trust/`: six files that follow every word to its end, with the step table, the bytes and the disk."], [
@@ -35,9 +35,8 @@ SENTENCES = [
      ["promise_laws::nothing_accepted_vanishes.puback", "promise_laws::nothing_accepted_vanishes.pubrec",
       "promise_laws::nothing_accepted_vanishes.only", "promise_laws::asked_is_served.recipients"],
      "A *delta* is a list of operations, here those of one step. `IsAccepted` and `WaitsUntilAnswered` are in [level 4], as are the "
-     "causes; so is `AsksFor`, who a recipient is. A gateway *has* a delta if it made it, or if the delta would add nothing that counts "
-     "to its set: `HasCome`. `promise_laws::exchanged_field` says that it has each delta that it took, and all that a peer had whose "
-     "answer it took.",
+     "causes; so is `AsksFor`, who a recipient is. A gateway *has* a delta if it made it, or if that would add nothing that counts "
+     "to its set: `HasCome`. By `promise_laws::exchanged_field` it has what it took, and what a peer had whose answer it took.",
      "That a PUBLISH is answered. Recipients are those that this gateway's set shows: a subscription made at another gateway counts once "
      "its operations have come. If a client is neither Active, Asleep nor Awake, it is a recipient only at quality of service 1 and 2. "
      "At 2 an id that is used again soon counts as received: see `received_laws::received_in_a_run`."),
@@ -51,7 +50,7 @@ SENTENCES = [
      "and restarts. `taken` is the set of a gateway, and `Within` compares two sets: [level 2]. A gateway is meant by its place in the "
      "field's list.",
      "Anything about programs. `After`, [level 3], only ever adds to `taken`, at a restart too; that programs do as `After` says is "
-     "sentence 5. (That each place keeps its gateway, with its number, is the clause `places` of the same law.) A program holds of `taken` at least what `keep` leaves, and may forget the rest. Nothing says that two gateways ever "
+     "sentence 5. (Each place keeps its gateway, with its number: clause `places` of the same law.) A program holds of `taken` at least what `keep` leaves, and may forget the rest. Nothing says that two gateways ever "
      "exchange what they have. If memory runs out, a run ends there, and nothing is said of what follows. No event alters a delta on "
      "its way, and none takes a gateway's disk away."),
     ("What waits in a set waits in every larger set, or is acknowledged there.",
@@ -68,8 +67,8 @@ SENTENCES = [
      "the message that is being handed over to it. The step sends the message at quality of service 0. No topic id is left for the "
      "message. A tick acknowledges only for the last two.",
      ["promise_laws::acknowledged_in_a_run.written"],
-     "A *step* is what the step table plans for a frame: operations for the set, `plan.ops`, and datagrams, `plan.sends`. "
-     "`IsForCause` and `IsTimely` list the causes, and `IsWrittenBy` is the step in its run: [level 4].",
+     "A *step* is what the step table plans for a frame: a `Plan`, [level 3]. `IsForCause` and `IsTimely` list the causes, and "
+     "`IsWrittenBy` is the step in its run: [level 4].",
      "That the client was sent what the step sends. If the write of a step's operations fails, an excuse goes out instead of its "
      "datagrams (`EndsWith`), but the operations may be on the disk, and a restart reads them back (`reopened`, [level 3]). So a message "
      "at quality of service 0 may leave although it was never sent. A message that a clean CONNECT ends may leave although that CONNECT "
@@ -95,9 +94,9 @@ SENTENCES = [
 # Levels 2 to 4: title, introduction, and the clauses, function by function. An empty list means the one without a name.
 LEVELS = [
     ("a set", [
-        "A set is a list of operations: changes of a session, messages, and acknowledgements. Three readers look into it: "
-        "`operation_at`, `put_at` and `is_acknowledged`. Two sets are compared by what these find. So order and repeats do not matter, "
-        "as long as no name has two contents.", "",
+        "A set is a list of operations: changes of a session, messages, acknowledgements, and what topics retain. Two sets are compared "
+        "by what four readers find: `operation_at`, `put_at`, `is_acknowledged`, `retain_at`. So order and repeats do not matter, if "
+        "no name has two contents.", "",
         "`leaves` says that a join drops a message only if it has its acknowledgement. The clauses of `join_laws` say that order, groups "
         "and repeats of joins make no difference. Those of `keep_laws` say that what `keep` forgets makes none either, now or after "
         "later joins. What a change makes of a session is named and not entered: `applied`."], [
@@ -114,10 +113,10 @@ LEVELS = [
         "`consistent` and `never` say that no name has two contents in the whole field, and that no event is answered by Conflict. "
         "`alike` and `shown` say that two gateways that have taken the same operations have equal sets and show the same. "
         "`promise_laws::exchanged_field` says of two that took each other's answers, and nothing since that the other lacks, that they show "
-        "the same.", "",
-        "Not said: that `run` ever succeeds. It may always report that memory ran out, and tests show that it does not. An event that "
-        "names no gateway or no delta also stops it."], [
-        ("field_laws::nothing_vanishes", "grows stays"),
+        "the same. `retained` says that what is retained of a topic leaves only by something later.", "",
+        "Not said: that `run` ever succeeds. It may always report that memory ran out; tests show that it does not. An event that names "
+        "no gateway or no delta also stops it."], [
+        ("field_laws::nothing_vanishes", "grows stays retained"),
         ("field_laws::consistent_field", "consistent never"),
         ("field_laws::settled_field", "alike shown"),
         ("gw_world::run", "ok"),
@@ -132,7 +131,8 @@ LEVELS = [
         "the gateway: `seen` is what the step table reads of the set, `local` what else the gateway knows, and `a` the address that the "
         "frame is from.", "",
         "`made` says of each message of a delta that an answer reports what `puback` says of those of a PUBLISH: of wills too, and at "
-        "quality of service 0 and -1. `promise_laws::accepted_stays` says which these are. `only` says that nothing in the field "
+        "quality of service 0 and -1. `promise_laws::accepted_stays` says which these are. So it is of what a SUBSCRIBE is handed, since "
+        "it was retained. `only` says that nothing in the field "
         "acknowledges it without such a cause. "
         "`recipients` and `only` say, in words that the step table does not use, who is one (`qos_for`)."], [
         ("promise_laws::nothing_accepted_vanishes", "puback pubrec made only"),
@@ -147,7 +147,7 @@ NAMED = set("""
     sn_tables/subscriptions/Subscription sn_session/Session/applied sn_session/Session/empty_session
     sn_session/change/SessionOp sn_session/outbound/Outbound sn_session/outbound/Phase sn_session/presence/Presence
     sn_session/session/Session rep_ops/Making/AreApart rep_ops/Making/IsDeltaOf rep_ops/Spelling/IsWithinLimit
-    rep_model/Fresh/next_epoch rep_model/Fresh/next_seq rep_model/Limits/first_passed rep_model/Roomy/IsRoomy
+    rep_model/Fresh/next_clock rep_model/Fresh/next_epoch rep_model/Fresh/next_seq rep_model/Topics/topic_in rep_model/Limits/first_passed rep_model/Roomy/IsRoomy
     rep_model/Views/is_named rep_model/Views/named jr_disk/disk/Plan jr_disk/disk/Slot
     jr_journal/Faults/fault_of jr_journal/Faults/is_fresh jr_journal/Parts/disk_of jr_journal/Parts/gateway_of
     jr_journal/Parts/slot_of jr_journal/Records/records jr_journal/journal/Journal sn_local/Locals/after_all

@@ -10,6 +10,8 @@ The parts, all where none is named:
   star    each is linked with 1 alone
   killed  in the chain 1 is killed as soon as 2 heard of a message: it comes to 5 all the same. In a mesh of three, over a link that holds back
           what 1 says to 3, 1 is killed as soon as 2 heard: 3 asks 2, and has it within 15 seconds
+  away    in the chain 1 - 2 - 3 something is published with Retain at 1 while 3 is away, and 1 is killed before 3 is back: who subscribes at 3 is
+          handed it
   mesh    of four that are linked in every pair no gateway gets a delta twice
 
 All goes on at 127.0.0.1, at ports that the system gives, in a folder that is gone afterwards. Status 0 only where nothing failed.
@@ -23,7 +25,7 @@ import threading
 import time
 
 sys.dont_write_bytecode = True
-from gateway import HOST, Client, Failed, Gateway, at_port, expect, free_ports, publish, published, subscribe, until
+from gateway import HOST, RETAIN, Client, Display, Failed, Gateway, at_port, expect, free_ports, publish, published, subscribe, until
 
 SHAPES = {
     "chain": [(1, 2), (2, 3), (3, 4), (4, 5)],
@@ -31,6 +33,7 @@ SHAPES = {
     "star": [(2, 1), (3, 1), (4, 1), (5, 1)],
     "mesh": [(1, 2), (1, 3), (1, 4), (2, 3), (2, 4), (3, 4)],
 }
+PARTS = ("chain", "ring", "star", "killed", "away", "mesh")
 
 
 class Hold:
@@ -152,6 +155,26 @@ def killed_in_mesh(gateways: list, way: Hold) -> str:
     return f"{gateways[2].await_octets(body, 15):.1f} seconds"
 
 
+def kept_for_one_away(gateways: list) -> str:
+    """What is retained comes to a gateway that was away from one that only heard of it."""
+    one, two, three = gateways
+    body = b"<read while 3 is away>"
+    three.kill()
+    with Client(b"sensor", one) as sensor:
+        sensor.connect(clean=True)
+        sensor.ask(publish(b"aw", body, 1, 0x22 | RETAIN), published(b"aw", 1))
+    two.await_octets(body, 5)
+    one.kill()
+    three.start()
+    took = three.await_octets(body, 30)
+    with Display(b"display", three) as display:
+        display.connect(clean=True)
+        display.subscribe(b"aw", 0x22)
+        got = display.fetches()
+    expect(got == [(b"aw", body, 1, True)], f"who subscribed at gateway 3 was handed {got}")
+    return f"{took:.1f} seconds after its first answer"
+
+
 def mesh_costs(gateways: list, messages: int) -> str:
     """No delta comes twice where each pair is linked."""
     owed(gateways)
@@ -192,12 +215,11 @@ def tried(program: str, name: str, held: list, trial, dials: list) -> bool:
 def main() -> int:
     reader = argparse.ArgumentParser()
     reader.add_argument("program")
-    reader.add_argument("parts", nargs="*", choices=["chain", "ring", "star", "killed", "mesh", []])
+    reader.add_argument("parts", nargs="*", choices=[*PARTS, []])
     reader.add_argument("--seconds", type=float, default=1)
     asked = reader.parse_args()
     program, good = os.path.abspath(asked.program), True
-    parts = asked.parts or ["chain", "ring", "star", "killed", "mesh"]
-    for part in parts:
+    for part in asked.parts or PARTS:
         if part in ("chain", "ring", "star"):
             dials = SHAPES[part]
             good &= tried(program, f"a {part} of five", [], lambda them, _: delivers(them, dials, asked.seconds), dials)
@@ -205,6 +227,8 @@ def main() -> int:
             good &= tried(program, "the first of a chain of five is killed", [], lambda them, _: killed_in_chain(them), SHAPES["chain"])
             good &= tried(program, "one of a mesh of three is killed", [(1, 3)],
                           lambda them, ways: killed_in_mesh(them, ways[(1, 3)]), [(1, 2), (1, 3), (2, 3)])
+        if part == "away":
+            good &= tried(program, "something is retained while one of three is away", [], lambda them, _: kept_for_one_away(them), [(1, 2), (2, 3)])
         if part == "mesh":
             good &= tried(program, "a mesh of four", [], lambda them, _: mesh_costs(them, 200), SHAPES["mesh"])
     return 0 if good else 1

@@ -9,6 +9,8 @@ The parts, all where none is named:
             fails at `memory`, as what checks its accesses needs more than the process may have there
   loopback  a client sleeps and wakes at one gateway, also where the daemon is killed in between
   links     two and three gateways, linked in a ring; one is killed, another hands the messages over
+  retained  what is published with Retain at one gateway is handed to who subscribes later at another, also behind a restart of both, until an
+            empty message ends it; who is there gets it with Retain clear; a will; all places that there are for topics
   kills     the daemon is killed N times (100) amid publications; what was acknowledged is there in the end
   shifts    N requests (600) over shifts of 16 calls are all answered
   compact   the journal shrinks when a shift is over; kills amid that; a write fails, and the clock opens the gateway anew in its shift; a
@@ -32,8 +34,9 @@ import tempfile
 import time
 
 sys.dont_write_bytecode = True
-from gateway import (AGAIN, BEGUN, CONNECTED, GONE, HOST, PONG, Client, Failed, Gateway, at_port, connect, expect, frame, free_ports, leave,
-                     number, opened, ping, publish, published, register, search, settings_text, subscribe, until, with_the_starter)
+from gateway import (AGAIN, BEGUN, CONNECTED, GONE, HOST, PONG, RETAIN, Client, Display, Failed, Gateway, at_port, connect, expect, frame,
+                     free_ports, leave, number, opened, ping, publish, published, register, search, settings_text, subscribe, until,
+                     with_the_starter)
 
 # The journal of gateway 1 behind the CONNECT of a client s1: header, seal, and a record (docs/JOURNAL.md).
 HEADER = bytes.fromhex("534e4a31 01 0000000000000001")
@@ -706,6 +709,199 @@ def part_links(account: Account, program: str, folder: str, _) -> None:
     account.check("two gateways that each lack twenty megabytes of the other's", lambda: lack_in(20))
 
 
+# ---- what is retained
+
+BY_ID = 7  # the predefined id of the topic of who publishes without a connection
+PREDEFINED = ((BY_ID, b"r/b"),)
+PLACES = 1024  # topics of which something may be retained
+# Topics that are read: the flags of how each is named in a PUBLISH, and its quality of service.
+READINGS = [(b"r/a", 0x00, 2), (b"r/b", 0x01, -1), (b"r/c", 0x00, 0), (b"r/d", 0x00, 1), (b"rs", 0x02, 1)]
+# What displays subscribe to: the flags of how it is named, the topics, the quality of service, and of what they are handed the last readings.
+DISPLAYS = [(0x00, b"#", 2, READINGS), (0x00, b"r/+", 1, READINGS[:4]), (0x00, b"r/d", 2, READINGS[3:4]), (0x01, number(BY_ID), 1, READINGS[1:2]),
+            (0x02, b"rs", 0, READINGS[4:])]
+
+
+def reading(topic: bytes, turn: int) -> bytes:
+    return b"<%s read %d>" % (topic, turn)
+
+
+def field_of(sensor: Client, topic: bytes, kind: int, message: int) -> bytes:
+    """How the topic is named in a PUBLISH; a name in full is registered first."""
+    if kind == 0x00:
+        sensor.flush()
+        return sensor.ask(register(topic, message), b"\x07\x0b")[2:4]
+    return number(BY_ID) if kind == 0x01 else topic
+
+
+def retain(publisher: Client, field: bytes, kind: int, quality: int, body: bytes, message: int) -> None:
+    """Publishes with Retain, until the gateway has it."""
+    octets = publish(field, body, message if quality > 0 else 0, kind | RETAIN | (quality & 3) << 5)
+    if quality < 1:
+        publisher.send(octets)
+        publisher.gateway.await_octets(body)
+    elif quality == 1:
+        publisher.ask(octets, published(field, message))
+    else:
+        publisher.ask(octets, frame(0x0F, number(message)))
+        publisher.ask(frame(0x10, number(message)), frame(0x0E, number(message)))
+
+
+def read_all(gateway: Gateway, turn: int) -> None:
+    """A reading of each topic, and not in the order of topics."""
+    with Client(b"sensor", gateway) as sensor, Client(b"unconnected", gateway) as other:
+        sensor.connect(clean=True)
+        for place, (topic, kind, quality) in enumerate(reversed(READINGS)):
+            field = field_of(sensor, topic, kind, 2 * place + 1)
+            retain(other if quality < 0 else sensor, field, kind, quality, reading(topic, turn), 2 * place + 2)
+
+
+def look_at_displays(gateway: Gateway, tag: bytes) -> None:
+    """Each display is new and is handed the last readings, in the order of topics, at the smaller quality of service, with Retain, and once."""
+    for place, (kind, topic, asked, readings) in enumerate(DISPLAYS):
+        with Display(b"display-%s-%d" % (tag, place), gateway, PREDEFINED) as display:
+            display.connect(clean=True)
+            display.subscribe(topic, kind | asked << 5)
+            got = display.hears(len(readings))
+            last = [(topic, reading(topic, 2), min(max(quality, 0), asked), True) for topic, _, quality in readings]
+            expect(got == last, f"{display.name.decode()} at gateway {gateway.number} was handed {got} and not {last}")
+            again = display.fetches()
+            expect(again == [], f"{display.name.decode()} was sent {again} behind that")
+
+
+def last_readings(gateways: list) -> str:
+    """Two readings of each topic at the first gateway: displays at the second are handed the last ones, also behind a restart of both."""
+    first, second = gateways
+    for turn in (1, 2):
+        read_all(first, turn)
+    for topic, _, _ in READINGS:
+        second.await_octets(reading(topic, 2))
+    look_at_displays(second, b"before")
+    for gateway in gateways:
+        gateway.kill()
+    for gateway in gateways:
+        records, _ = gateway.start()
+    look_at_displays(second, b"behind")
+    look_at_displays(first, b"first")
+    return f"{records} records of gateway {second.number} were read"
+
+
+def knows_of(gateway: Gateway, name: bytes) -> None:
+    """Waits until the gateway knows of a client at another one, and of what it did just now."""
+    gateway.await_octets(name)
+    gateway.settle()
+
+
+def handed(gateway: Gateway, name: bytes, topic: bytes, flags: int) -> list:
+    """What a new display is handed: topics, and what was retained of each."""
+    with Display(name, gateway, PREDEFINED) as display:
+        display.connect(clean=True)
+        display.subscribe(topic, flags)
+        got = display.fetches()
+    expect(all(is_retained for *_, is_retained in got), f"{name.decode()} was handed {got}, and not all of it with Retain")
+    return [(topic, body) for topic, body, *_ in got]
+
+
+def comes_clear(gateways: list) -> None:
+    """Who subscribed before is sent what is published with Retain as all else is. Who subscribes again is handed the last with Retain."""
+    first, second = gateways
+    with Display(b"is-there", second) as display, Client(b"s-there", first) as sensor, Client(b"unconnected", first) as other:
+        display.connect(clean=True)
+        display.subscribe(b"th", 0x42)
+        knows_of(first, b"is-there")
+        sensor.connect(clean=True)
+        for quality in (-1, 0, 1, 2):
+            retain(other if quality < 0 else sensor, b"th", 0x02, quality, b"<at %d>" % quality, 10 + quality)
+        got = sensor.sends_once(display.hears(4))
+        expect(got == [(b"th", b"<at %d>" % quality, max(quality, 0), False) for quality in (-1, 0, 1, 2)], f"who was there got {got}")
+        display.subscribe(b"th", 0x22)
+        got = display.hears(1)
+        expect(got == [(b"th", b"<at 2>", 1, True)], f"who subscribed again got {got}")
+
+
+def empty_ends(gateways: list) -> None:
+    """An empty message ends what was retained of its topic, until something is retained anew. Who is there is sent it."""
+    first, second = gateways
+    one, other = b"e/a", b"e/b"
+    turns = [(one, b"<a>", [(one, b"<a>")]), (other, b"<b>", [(one, b"<a>"), (other, b"<b>")]), (one, b"", [(other, b"<b>")]),
+             (one, b"<anew>", [(one, b"<anew>"), (other, b"<b>")])]
+    with Display(b"e-there", second) as there, Client(b"s-empty", first) as sensor:
+        there.connect(clean=True)
+        there.subscribe(b"e/+", 0x20)
+        knows_of(first, b"e-there")
+        sensor.connect(clean=True)
+        fields = {topic: field_of(sensor, topic, 0x00, place) for place, topic in enumerate((one, other), 1)}
+        for place, (topic, body, later) in enumerate(turns):
+            retain(sensor, fields[topic], 0x00, 1, body, 10 + place)
+            got = sensor.sends_once(there.hears(1))
+            expect(got == [(topic, body, 1, False)], f"who was there got {got} and not {body!r}")
+            got = handed(second, b"e-late-%d" % place, b"e/+", 0x20)
+            expect(got == later, f"who came behind {body!r} was handed {got} and not {later}")
+
+
+def with_will(mortal: Client, flags: int, topic: bytes, body: bytes) -> None:
+    """A client with a will, that has to be heard of each second."""
+    mortal.ask(frame(0x04, b"\x0c\x01" + number(1) + mortal.name), b"\x02\x06")
+    mortal.ask(frame(0x07, bytes([flags]) + topic), b"\x02\x08")
+    mortal.ask(frame(0x09, body), CONNECTED)
+
+
+def wills_stay(gateways: list) -> None:
+    """Of two clients that are lost the will with Retain is handed over later, and both are sent to who is there."""
+    first, second = gateways
+    with Display(b"w-there", second) as there, Client(b"kept", first) as kept, Client(b"told", first) as told:
+        there.connect(clean=True)
+        there.subscribe(b"w/+", 0x20)
+        knows_of(first, b"w-there")
+        for mortal, flags in ((kept, 0x20 | RETAIN), (told, 0x20)):
+            with_will(mortal, flags, b"w/" + mortal.name, b"<will of %s>" % mortal.name)
+        got = sorted(there.hears(2))
+        expect(got == [(b"w/" + name, b"<will of %s>" % name, 1, False) for name in (b"kept", b"told")], f"who was there got {got}")
+    for gateway in gateways:
+        got = handed(gateway, b"w-late-%d" % gateway.number, b"w/+", 0x20)
+        expect(got == [(b"w/kept", b"<will of kept>")], f"who came later to gateway {gateway.number} was handed {got}")
+
+
+def short_name(place: int) -> bytes:
+    """Short names, ascending."""
+    return bytes([65 + place // 32, 65 + place % 32])
+
+
+def fills_all_places(gateway: Gateway) -> str:
+    """A display is handed a reading of each topic that there may be. One topic more is sent to who is there, and not retained."""
+    gateway.start()
+    with Client(b"s-many", gateway) as sensor, Display(b"d-many", gateway) as display:
+        sensor.connect(clean=True)
+        for place in range(PLACES):
+            retain(sensor, short_name(place), 0x02, 1, b"<%04d>" % place, place + 1)
+        began = time.monotonic()
+        display.connect(clean=True)
+        display.subscribe(b"#", 0x20)
+        got = display.hears(PLACES, 120)
+        took = time.monotonic() - began
+        differ = [place for place, it in enumerate(got) if it != (short_name(place), b"<%04d>" % place, 1, True)]
+        expect(len(got) == PLACES and not differ, f"{len(got)} readings came, and {len(differ)} of them otherwise: {[got[it] for it in differ[:2]]}")
+        retain(sensor, b"zz", 0x02, 1, b"<one more>", PLACES + 1)
+        retain(sensor, short_name(0), 0x02, 1, b"<anew>", PLACES + 2)
+        got = sensor.sends_once(display.hears(2))
+        expect(got == [(b"zz", b"<one more>", 1, False), (short_name(0), b"<anew>", 1, False)], f"the display then got {got}")
+    for topic, kept in ((b"zz", []), (short_name(0), [(short_name(0), b"<anew>")])):
+        got = handed(gateway, b"d-late-" + topic, topic, 0x22)
+        expect(got == kept, f"who came later was handed {got} and not {kept}")
+    return f"{PLACES} readings were handed over within {took:.1f} seconds"
+
+
+def part_retained(account: Account, program: str, folder: str, _) -> None:
+    first, second = gateways = ring(program, folder, 2, predefined=f'[{{ id = {BY_ID}, topic = "r/b" }}]')
+    with first, second:
+        account.check("two gateways start", lambda: [gateway.start() for gateway in gateways] and None)
+        account.check("publish with Retain at 1, subscribe at 2, also behind a restart of both", lambda: last_readings(gateways))
+        account.check("publish with Retain at 1 to who is there at 2", lambda: comes_clear(gateways))
+        account.check("an empty message ends what is retained", lambda: empty_ends(gateways))
+        account.check("a will with Retain is handed to who subscribes later", lambda: wills_stay(gateways))
+    with Gateway(program, folder, 3) as gateway:
+        account.check(f"something is retained of {PLACES} topics, and of no other", lambda: fills_all_places(gateway))
+
+
 # ---- kills
 
 WINDOW = 8  # publications that are not answered yet
@@ -1113,8 +1309,9 @@ def good_datagrams(chance: random.Random) -> list:
             frame(0x07, b"\x20will"), frame(0x09, b"message"),
             register(b"topic/%d" % chance.randrange(400), message), subscribe(b"topic/+", message),
             subscribe(b"ab", message, 0x22), frame(0x14, b"\x22" + number(message) + b"ab"), publish(b"ab", b"body", message),
-            publish(b"ab", bytes(chance.randrange(300)), message, 0x42), publish(number(7), b"body", 0, 0x61), frame(0x10, number(message)),
-            published(b"ab", message), frame(0x0F, number(message)), frame(0x0B, number(1) + number(message) + b"\x00"), ping(name), ping(),
+            publish(b"ab", bytes(chance.randrange(300)), message, 0x42), publish(number(7), b"body", 0, 0x61),
+            publish(b"ab", bytes(chance.randrange(3)), message, 0x22 | RETAIN), frame(0x10, number(message)), published(b"ab", message),
+            frame(0x0F, number(message)), frame(0x0B, number(1) + number(message) + b"\x00"), ping(name), ping(),
             leave(chance.randrange(65536)), frame(0x1A, b"\x20will"), frame(0x1C, b"message"), search(), frame(0xFE, b"\x01" + name)]
 
 
@@ -1280,8 +1477,8 @@ def part_hostile(account: Account, program: str, folder: str, options) -> None:
 
 # ---- all
 
-PARTS = {"messages": part_messages, "loopback": part_loopback, "links": part_links, "kills": part_kills, "shifts": part_shifts,
-         "compact": part_compact, "hostile": part_hostile}
+PARTS = {"messages": part_messages, "loopback": part_loopback, "links": part_links, "retained": part_retained, "kills": part_kills,
+         "shifts": part_shifts, "compact": part_compact, "hostile": part_hostile}
 
 
 def options_of() -> argparse.Namespace:

@@ -1,4 +1,4 @@
-"""The daemon as a process, datagrams of MQTT-SN 1.2 and clients that repeat themselves: what daemon.py and field.py share.
+"""The daemon as a process, datagrams of MQTT-SN 1.2, clients that repeat themselves and displays: what daemon.py and others share.
 
 All goes on at 127.0.0.1. Each wait has an end. A daemon that was started ends with the thread that started it.
 """
@@ -15,6 +15,7 @@ import time
 HOST = "127.0.0.1"
 AGAIN = 0.5  # seconds after which a client repeats what was not answered
 FOREVER = 65535  # the longest duration of a sleep, in seconds
+RETAIN = 0x10  # the flag of a PUBLISH that is retained, or that hands over what is
 # What is told where a journal is begun, on a line of its own.
 BEGUN = re.compile(r"^(.*)\.0, \1\.1: no journal is there, one is begun\n", re.M)
 
@@ -86,7 +87,7 @@ def register(name: bytes, message: int) -> bytes:
 
 
 def publish(field: bytes, body: bytes, message: int = 0, flags: int = 0x22) -> bytes:
-    """Flags: 20 is quality of service 1, 40 is 2, 60 is -1; 01 a predefined id, 02 a short name."""
+    """Flags: 20 is quality of service 1, 40 is 2, 60 is -1; 10 is Retain; 01 a predefined id, 02 a short name."""
     return frame(0x0C, bytes([flags]) + field + number(message) + body)
 
 
@@ -453,3 +454,74 @@ class Client:
 
     def __exit__(self, *_):
         self.close()
+
+
+class Display(Client):
+    """A subscriber that notes each message that it is sent, whatever it waits for meanwhile: its topic, what it says, its quality of service,
+    and whether Retain is set. One at quality of service 1 or 2 that is sent again counts once. Predefined topics are given as pairs."""
+
+    def __init__(self, name: bytes, gateway: Gateway, predefined: tuple = ()):
+        super().__init__(name, gateway)
+        self.topics = {(0x01, number(place)): topic for place, topic in predefined}
+        self.seen, self.got = set(), []
+
+    def connect(self, duration: int = 0, clean: bool = False) -> None:
+        """With a clean session message ids begin anew."""
+        if clean:
+            self.seen.clear()
+        super().connect(duration, clean)
+
+    def receive(self, seconds: float):
+        octets = super().receive(seconds)
+        if octets is not None:
+            self.note(octets)
+        return octets
+
+    def note(self, octets: bytes) -> None:
+        kind, body = opened(octets)
+        if kind == 0x0A:
+            self.topics[0x00, body[:2]] = body[4:]
+        bodies = []
+        super().take(octets, self.seen, bodies)
+        for said in bodies:
+            self.got.append((self.topic(body[0] & 0x03, body[1:3]), said, body[0] >> 5 & 0x03, body[0] & RETAIN != 0))
+
+    def topic(self, kind: int, field: bytes) -> bytes:
+        """The topic of a PUBLISH: a short name, or one that an id stands for."""
+        return field if kind == 0x02 else self.topics.get((kind, field), b"no topic of id " + field)
+
+    def take(self, octets: bytes, seen: set, messages: list) -> None:
+        """It was noted when it came."""
+
+    def flush(self) -> None:
+        while self.receive(0.001) is not None:
+            pass
+
+    def subscribe(self, topic: bytes, flags: int) -> None:
+        """Asks once, if an answer comes within ten seconds: who subscribes again is handed all again."""
+        answer = self.ask(subscribe(topic, 1, flags), b"\x08\x13", 30, 10)
+        expect(answer[-1] == 0, f"{self.name.decode()} subscribed and was answered {answer.hex()}")
+        if flags & 0x03 == 0x00:
+            self.topics[0x00, answer[3:5]] = topic
+
+    def so_far(self) -> list:
+        """What it noted since it was asked last. Where it repeated something, it may have been handed all again, and what is equal counts once."""
+        got, self.got = self.got, []
+        return list(dict.fromkeys(got)) if self.repeats else got
+
+    def hears(self, count: int, seconds: float = 30) -> list:
+        """Asks whether the gateway is there until so many messages came. What comes half a second after another one is told, too."""
+        end = time.monotonic() + seconds
+        self.ask(ping(), PONG)
+        while len(self.got) < count and time.monotonic() < end:
+            if self.receive(AGAIN) is None:
+                self.ask(ping(), PONG)
+        while self.receive(0.5) is not None and time.monotonic() < end:
+            pass
+        return self.so_far()
+
+    def fetches(self, seconds: float = 30) -> list:
+        """Falls asleep and wakes: what it was sent up to PINGRESP, behind which nothing waits."""
+        self.sleep()
+        self.wake(seconds)
+        return self.so_far()

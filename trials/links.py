@@ -23,7 +23,8 @@ The parts, all where none is named:
   asks    a peer that asks each half second for all that is there is answered four times in 35 seconds at most
   bound   a peer that tells the same megabyte 256 times ends three shifts at least, as the history of each keeps 64 MiB and one call. VmRSS never grows
           by more than 192 MiB, three times as much: what a shift gave back still counts while the next one fills its history, and the rest is for
-          what the gateway has and hands on. A build that is not proved keeps more, as it gives nothing back for a while
+          what the gateway has and hands on. A build that is not proved keeps more, as it gives nothing back for a while. The megabyte is of
+          messages, and at another gateway of what is retained
   memory  memory is refused for an answer of some 90 MB: that link is closed, clients are served, and once there is memory all is answered
 
 All but the first goes on at 127.0.0.1, at ports that the system gives, in a folder that is gone afterwards. Status 0 only where nothing failed.
@@ -379,11 +380,19 @@ def peak(gateway: Gateway) -> int:
 
 
 def bound(program: str, folder: str) -> str:
-    """250 messages of 4,000 octets for client s1, put by gateway 200. From the second time on they change nothing."""
+    """250 messages of 4,000 octets for client s1, put by gateway 200; and at another gateway as many that are retained, each of its own topic."""
     body = b"." * 4000
-    puts = [b"\x02\x02s1\xc8" + place.to_bytes(8, "big") + b"\x00\x02ow\x01" + len(body).to_bytes(2, "big") + body for place in range(1, 251)]
-    delta = message(3, b"\x01" + len(puts).to_bytes(4, "big") + b"".join(puts))
-    with Gateway(program, folder, 7) as gateway:
+    spelled = len(body).to_bytes(2, "big") + body
+    puts = [b"\x02\x02s1\xc8" + place.to_bytes(8, "big") + b"\x00\x02ow\x01" + spelled for place in range(1, 251)]
+    kept = [b"\x04\x00\x03%03d" % place + (1).to_bytes(8, "big") + b"\xc8\x01" + spelled for place in range(1, 251)]
+    said = [told_again(Gateway(program, folder, 7), b"\x01", puts, body), told_again(Gateway(program, folder, 8), b"\x02", kept, body)]
+    return "; of what is retained ".join(said)
+
+
+def told_again(gateway: Gateway, version: bytes, operations: list, body: bytes) -> str:
+    """Gateway 200 tells these operations 256 times. From the second time on they change nothing."""
+    delta = message(3, version + len(operations).to_bytes(4, "big") + b"".join(operations))
+    with gateway:
         gateway.start()
         before = gateway.memory()
         with socket.create_connection((HOST, gateway.link), 5) as link:
@@ -393,7 +402,7 @@ def bound(program: str, folder: str) -> str:
                 link.sendall(delta)
             time.sleep(2)
             shifts, more = len(gateway.shifts()), (peak(gateway) - before) // 1024
-            expect(gateway.held().count(body) >= len(puts), "the delta was refused")
+            expect(gateway.held().count(body) >= len(operations), "the delta was refused")
     said = f"{shifts} shifts were closed, and VmRSS grew by {more} MiB at most"
     expect(shifts >= 3 and more <= 192, said)
     return said

@@ -19,12 +19,21 @@ is known from outside for two kinds of subscribers:
   made, and what it answered for outlives a kill. So a publication counts that was sent to that gateway alone, first after the SUBACK
   came, and acknowledged before an UNSUBSCRIBE was sent. Others may come or not.
 
+What must be retained. Some publications have Retain set, and some of these are empty, which ends what was retained. Behind each round somebody
+new subscribes to all topics at each gateway: all hand over the same, with Retain set, each topic once. That of a topic is one of the round that
+had Retain set; where none of these was acknowledged it may also be that from before the round. For then all gateways had that, so each that
+retains something of the topic in the round lets it win. To some topics something is published at the end of the round, when each gateway has what
+the others made: that is what they hand over. Homers are handed what is retained when they subscribe; nobody is owed that. Walkers subscribed
+before anything was retained: to them nothing comes with Retain set.
+
 These hold because of what the clients leave undone:
 
   - Fewer than 1,024 messages may wait for a client at a gateway. Nothing waits anywhere when a round begins, and of the frames that are
-    sent in a round at most 900 are publications; each counts twice, for it may be sent twice.
+    sent in a round at most 900 are publications; each counts twice, for it may be sent twice. A homer sends at most 100 SUBSCRIBE in a round,
+    of which each may hand it a message more.
   - PUBREC is also said of a message id that was received before and not released: publishers never use an id again under one name.
-  - CleanSession drops what waits: no subscriber uses it.
+  - CleanSession drops what waits: nobody to whom something is owed uses it.
+  - Nobody takes along what was not acknowledged to the next round, and no will is published.
   - Two gateways that have not heard of each other may give a message id of one client to two messages. An acknowledgement that still lies
     in a socket when the client comes back could then be taken for the other message: each visit of a client has an address of its own.
   - Quality of service 0 and -1 are counted and may be lost, and so is what was refused or not answered.
@@ -47,12 +56,15 @@ import threading
 import time
 
 sys.dont_write_bytecode = True
-from gateway import (CONNECTED, FOREVER, GONE, HOST, PONG, Client, Failed, Gateway, at_port, connect, expect, frame, free_ports, leave,
-                     number, opened, ping, publish, register, subscribe, until)
+from gateway import (CONNECTED, FOREVER, GONE, HOST, PONG, RETAIN, Client, Display, Failed, Gateway, at_port, connect, expect, frame, free_ports,
+                     leave, number, opened, ping, publish, register, subscribe, until)
 
 ROOMY = 1 << 40  # a room that no journal needs
 MOST = 900  # frames of a round that may be messages for one subscriber
+HANDED = 100  # SUBSCRIBE of one subscriber in a round that may each hand it a message that is retained
 LOSS = 0.02  # of the datagrams of clients so many are lost, and so many come twice
+KEPT = 0.3  # of the publications so many are sent with Retain
+ENDED = 0.15  # and of these so many with an empty message, which ends what was retained
 SEVEN = 7  # the predefined topic
 LOCAL = (b"ka", b"kb", b"kc")  # topics of homers
 NAMED = (b"r/one", b"r/two")  # topics that are registered
@@ -67,15 +79,18 @@ WALKS = [
 
 
 class Publication:
-    """A message, to whom it was sent and when, and who acknowledged it."""
+    """A message, to whom it was sent and when, and who acknowledged it. An empty one has Retain set, and nobody is owed it."""
 
-    def __init__(self, topic: bytes, quality: int, body: bytes):
-        self.topic, self.quality, self.body = topic, quality, body
+    def __init__(self, topic: bytes, quality: int, body: bytes, is_kept: bool = False):
+        self.topic, self.quality, self.body, self.is_kept = topic, quality, body, is_kept
         self.sends, self.acknowledged = [], None
+
+    def flags(self) -> int:
+        return (self.quality & 3) << 5 | (RETAIN if self.is_kept else 0)
 
     def told(self) -> str:
         sends = " ".join(f"{gateway}@{moment:.3f}" for gateway, moment in self.sends)
-        return f"{self.body.decode()} quality {self.quality} sent {sends} acknowledged by {self.acknowledged}"
+        return f"{self.body.decode() or 'an end'} quality {self.quality} sent {sends} acknowledged by {self.acknowledged}"
 
 
 class Book:
@@ -86,12 +101,13 @@ class Book:
         self.counts = collections.Counter()
         self.faults = []
         self.all = {}
+        self.last = {}  # what was retained of each topic before the round
         self.clear()
 
     def clear(self) -> None:
         """Nothing of the last round is asked for any more; what came is known by its body all the same."""
         with self.lock:
-            self.round, self.frames = [], 0
+            self.round, self.kept, self.frames = [], collections.defaultdict(list), 0
 
     def count(self, what: str, more: int = 1) -> None:
         with self.lock:
@@ -110,9 +126,13 @@ class Book:
 
     def open(self, publication: Publication) -> None:
         with self.lock:
-            self.all[publication.body] = publication
-            self.round.append(publication)
             self.counts[f"publications at {publication.quality}"] += 1
+            if publication.body:
+                self.all[publication.body] = publication
+                self.round.append(publication)
+            if publication.is_kept:
+                self.kept[publication.topic].append(publication)
+                self.counts["with Retain" if publication.body else "with Retain and empty"] += 1
 
     def sends(self, publication: Publication, gateway: int) -> None:
         with self.lock:
@@ -245,25 +265,30 @@ class Publisher(Actor):
         """A publication at quality of service -1."""
         topic = self.chance.choice([b"qa", b"p/seven"])
         if self.book.may_send():
-            publication = self.made(topic, -1)
+            publication = self.drawn(topic, -1)
             flags, field = COMMON[topic]
             self.book.sends(publication, here.gateway.number)
-            here.send(publish(field, publication.body, 0, flags | 0x60))
+            here.send(publish(field, publication.body, 0, flags | publication.flags()))
 
-    def made(self, topic: bytes, quality: int) -> Publication:
+    def drawn(self, topic: bytes, quality: int) -> Publication:
+        """A publication, of which some are with Retain, and some of these empty."""
+        is_kept = self.chance.random() < KEPT
+        return self.made(topic, quality, is_kept, is_kept and self.chance.random() < ENDED)
+
+    def made(self, topic: bytes, quality: int, is_kept: bool = False, is_end: bool = False) -> Publication:
         self.number += 1
-        made = Publication(topic, quality, b"%s|%s|%d" % (topic, self.base, self.number))
+        made = Publication(topic, quality, b"" if is_end else b"%s|%s|%d" % (topic, self.base, self.number), is_kept)
         self.book.open(made)
         return made
 
-    def mark(self, topics: set) -> dict:
-        """One message for each of these topics; what it says."""
+    def mark(self, topics: set, is_kept: bool = False) -> dict:
+        """One message for each of these topics, with Retain or without; what it says."""
         made = {}
         with self.visit(self.gateways[0]) as here:
             if here.first_of(connect(self.who, 0, True), is_answer(CONNECTED), 5) != CONNECTED:
                 return made
             for topic in sorted(topics):
-                publication = self.made(topic, 1)
+                publication = self.made(topic, 1, is_kept)
                 field = self.field(here, topic, {})
                 if field is not None and self.put(here, publication, self.message(), *field):
                     made[topic] = publication.body
@@ -275,7 +300,7 @@ class Publisher(Actor):
             publication, message = self.left.pop()
         else:
             topic = self.chance.choice([*COMMON, *LOCAL])
-            publication, message = self.made(topic, self.chance.choice([0, 1, 1, 1, 2, 2])), self.message()
+            publication, message = self.drawn(topic, self.chance.choice([0, 1, 1, 1, 2, 2])), self.message()
         field = self.field(here, publication.topic, ids)
         if field is None:
             return False
@@ -301,7 +326,7 @@ class Publisher(Actor):
 
     def put(self, here: Walker, publication: Publication, message: int, flags: int, field: bytes) -> bool:
         """Sends it until it is acknowledged, refused, or four seconds are over."""
-        octets = publish(field, publication.body, message if publication.quality else 0, flags | publication.quality << 5)
+        octets = publish(field, publication.body, message if publication.quality else 0, flags | publication.flags())
         wanted = is_answer(b"\x07\x0d" + field + number(message), frame(0x0F, number(message)))
         for turn in range(4 if publication.quality else 1):
             if not self.book.may_send():
@@ -324,9 +349,11 @@ class Publisher(Actor):
 class Subscriber(Actor):
     """Somebody for whom messages wait."""
 
+    is_handed_kept = False  # whether it subscribes when something is retained
+
     def __init__(self, *given):
         super().__init__(*given)
-        self.handed = collections.Counter()
+        self.handed, self.came = collections.Counter(), 0
         self.topics = set()
         self.trace = collections.deque(maxlen=100_000)
 
@@ -339,16 +366,37 @@ class Subscriber(Actor):
         """A frame of the gateway: messages are noted first, and then acknowledged."""
         kind, body = opened(octets)
         if kind == 0x0C:
-            message = body[5:]
-            self.handed[message] += 1
+            self.came += 1
             self.book.count("deliveries")
+            self.note(body[5:], body[0] & RETAIN != 0)
+        here.take(octets, set(), [])
+
+    def note(self, message: bytes, is_kept: bool) -> None:
+        """What comes with Retain was retained: nobody is owed that, and it is no repeat. An empty message may be anybody's."""
+        if is_kept:
+            self.book.count("deliveries with Retain")
+        elif not message:
+            return
+        else:
+            self.handed[message] += 1
             if self.handed[message] > 1:
                 self.book.count("repeats")
-            if message not in self.book.all:
-                self.book.fault(f"{self.who.decode()} was handed {message!r}, which nobody sent")
-            elif self.book.all[message].topic not in self.topics:
-                self.book.fault(f"{self.who.decode()} was handed {message!r} and has not subscribed to it")
-        here.take(octets, set(), [])
+        wrong = self.wrong(message, is_kept)
+        if wrong:
+            self.book.fault(f"{self.who.decode()} was handed {message!r} {wrong}")
+
+    def wrong(self, message: bytes, is_kept: bool) -> str:
+        """What is wrong with a message that came, if anything is."""
+        sent = self.book.all.get(message)
+        if sent is None:
+            return "which nobody sent"
+        if sent.topic not in self.topics:
+            return "and has not subscribed to it"
+        if is_kept and not sent.is_kept:
+            return "with Retain, and it was published without"
+        if is_kept and not self.is_handed_kept:
+            return "with Retain, and subscribed before anything was retained"
+        return ""
 
     def hear_for(self, here: Walker, seconds: float) -> bool:
         """Takes what comes; whether the gateway has not turned it away."""
@@ -370,7 +418,7 @@ class Subscriber(Actor):
     def fetch(self, gateway: Gateway, seconds: float = 4):
         """Wakes by PINGREQ, or connects; how many messages came up to PINGRESP, or nothing where none came. It falls asleep again."""
         with self.visit(gateway) as here:
-            before, end = sum(self.handed.values()), time.monotonic() + seconds * Walker.patience
+            before, end = self.came, time.monotonic() + seconds * Walker.patience
             while time.monotonic() < end:
                 answer = self.asks(here, ping(self.who), PONG, seconds=min(3, seconds))
                 if answer == GONE:
@@ -381,9 +429,9 @@ class Subscriber(Actor):
                 elif answer == PONG:
                     if not self.hear_for(here, 0.05):
                         return None
-                    if sum(self.handed.values()) == before:
+                    if self.came == before:
                         return 0 if self.asks(here, leave(FOREVER), GONE) == GONE else None
-                    return sum(self.handed.values()) - before
+                    return self.came - before
             return None
 
 
@@ -427,9 +475,11 @@ class Roamer(Subscriber):
 class Homer(Subscriber):
     """Stays at one gateway; it subscribes and unsubscribes there."""
 
+    is_handed_kept = True
+
     def __init__(self, gateway: Gateway, *given):
         super().__init__(*given)
-        self.home = gateway
+        self.home, self.asked = gateway, 0
         self.topics = set(LOCAL)
         self.spans = {topic: [] for topic in LOCAL}  # from SUBACK to UNSUBSCRIBE
         self.message = 0
@@ -439,6 +489,15 @@ class Homer(Subscriber):
             return False
         first, last = publication.sends[0][1], publication.acknowledged[1]
         return any(begin < first and last < end for begin, end in self.spans.get(publication.topic, []))
+
+    def begin_round(self) -> None:
+        self.asked = 0
+        super().begin_round()
+
+    def may_ask(self) -> bool:
+        """Whether one SUBSCRIBE more may be sent in this round: five times, and each may come twice."""
+        self.asked += 10
+        return self.asked <= HANDED
 
     def settle_in(self, _) -> None:
         with self.visit(self.home) as here:
@@ -456,6 +515,8 @@ class Homer(Subscriber):
             self.book.count("unsubscribed")
             asked, wanted = frame(0x14, b"\x02" + number(self.message) + topic), frame(0x15, number(self.message))
             return self.asks(here, asked, wanted, seconds=seconds) is not None
+        if not self.may_ask():
+            return False
         wanted = frame(0x13, b"\x20\x00\x00" + number(self.message) + b"\x00")
         answer = self.asks(here, subscribe(topic, self.message, 0x22), wanted, seconds=seconds)
         if answer is not None and answer != GONE:
@@ -558,7 +619,7 @@ class Field:
         self.chance, self.book = random.Random(f"{options.seed} field"), Book()
         ports = free_ports(2 * options.gateways)
         self.ways, self.gateways, self.due, self.away, self.full, self.still = {}, [], [], set(), {}, set()
-        self.older = options.older
+        self.older, self.met = options.older, 0
         for place in range(options.gateways):
             for other in range(place + 1, place + 2 if options.chain and place + 1 < options.gateways else options.gateways):
                 # a ring: the last one dials the first
@@ -569,6 +630,7 @@ class Field:
             peers = ", ".join(at_port(way.port) for (dialler, _), way in self.ways.items() if dialler == place)
             self.gateways.append(Gateway(program, folder, place + 1, (ports[2 * place], ports[2 * place + 1]), peers=f"[{peers}]",
                                          steps=str(options.steps), predefined=f'[{{ id = {SEVEN}, topic = "p/seven" }}]'))
+        self.closers = [Publisher(self.book, [gateway], b"closer-%d" % gateway.number, str(options.seed)) for gateway in self.gateways]
 
     def begin(self, gateway: Gateway) -> None:
         gateway.room = self.full.get(gateway.number, ROOMY)
@@ -773,6 +835,87 @@ def look_at_round(field: Field, subscribers: list, look: str) -> None:
                          f"waits at {waits_at(field, look, publication)}")
 
 
+def somebody_new(gateway: Gateway) -> Display:
+    """A client with an empty session."""
+    display = Display(b"fresh-%d" % gateway.number, gateway, ((SEVEN, b"p/seven"),))
+    display.again = 2 * Walker.patience
+    display.connect(clean=True)
+    return display
+
+
+def meet(field: Field) -> None:
+    """Waits until each gateway has what each other one has made so far: a topic that somebody registers just now, and what comes with it."""
+    field.met += 1
+    for gateway in field.gateways:
+        topic = b"met/%d/%d." % (gateway.number, field.met)
+        with somebody_new(gateway) as display:
+            display.ask(register(topic, 1), b"\x07\x0b")
+        for other in field.gateways:
+            other.await_octets(topic, 120 * Walker.patience)
+    for gateway in field.gateways:
+        gateway.settle(60 * Walker.patience)
+
+
+def say_last(field: Field) -> dict:
+    """Once all have met, one publication more with Retain to some topics, each at any gateway. What was acknowledged is the last of its topic."""
+    meet(field)
+    tried, said = set(), {}
+    for closer in field.closers:
+        topics = {topic for topic in (*COMMON, *LOCAL) if topic not in tried and field.chance.random() < 0.3}
+        tried |= topics
+        said.update(closer.mark(topics, True))
+    field.book.count("last publications with Retain", len(said))
+    return said
+
+
+def kept_at(gateway: Gateway) -> dict:
+    """What the gateway hands over of each topic to somebody new, who leaves nothing behind."""
+    with somebody_new(gateway) as display:
+        display.subscribe(b"#", 0x40)
+        got = [(topic, body) for topic, body, _, is_kept in display.fetches(60 * Walker.patience) if is_kept]
+        display.connect(clean=True)
+        display.ask(leave(), GONE)
+    kept = dict(got)
+    expect(got == sorted(kept.items()), f"gateway {gateway.number} handed over {got}, and not each topic once in their order")
+    expect(all(kept.values()), f"gateway {gateway.number} handed over what was ended: {got}")
+    return kept
+
+
+def kept_at_all(field: Field) -> dict:
+    """The same, once all gateways have met and hand over the same."""
+    meet(field)
+    end = time.monotonic() + 120 * Walker.patience
+    while True:
+        told = [kept_at(gateway) for gateway in field.gateways]
+        if all(each == told[0] for each in told):
+            return told[0]
+        expect(time.monotonic() < end, f"gateways do not hand over the same: {told}")
+        field.watch()
+        time.sleep(1)
+
+
+def may_be_kept(book: Book, topic: bytes, said: dict) -> set:
+    """What may be retained of a topic: what was said last; else something of the round, or what was before where nothing was acknowledged."""
+    if topic in said:
+        return {said[topic]}
+    sent = [publication for publication in book.kept[topic] if publication.sends]
+    found = {publication.body for publication in sent}
+    if not any(publication.acknowledged for publication in sent):
+        found.add(book.last.get(topic, b""))
+    return found
+
+
+def look_at_kept(field: Field, said: dict) -> None:
+    book, told = field.book, kept_at_all(field)
+    for topic in sorted({*COMMON, *LOCAL, *told}):
+        book.count("looks at what is retained of a topic")
+        if told.get(topic, b"") not in may_be_kept(book, topic, said):
+            sent = "; ".join(publication.told() for publication in book.kept[topic][-20:])
+            book.fault(f"RETAINED of {topic.decode()} is {told.get(topic)!r}, was {book.last.get(topic)!r} before the round and said last "
+                       f"{said.get(topic)!r}; with Retain there were: {sent or 'none'}")
+    book.last = told
+
+
 def one_round(field: Field, actors: list, subscribers: list, seconds: float, look: str, tell) -> None:
     book = field.book
     book.clear()
@@ -787,7 +930,9 @@ def one_round(field: Field, actors: list, subscribers: list, seconds: float, loo
         tell()
         time.sleep(0.1)
     round_over(field, actors)
+    said = say_last(field)
     look_at_round(field, subscribers, look)
+    look_at_kept(field, said)
     if look:
         try:
             until(lambda: alike(field, look), 120, "gateways do not show the same", 1)

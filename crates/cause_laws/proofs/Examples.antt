@@ -1,5 +1,5 @@
 -- Worked causes: what a clean CONNECT acknowledges, whom a frame is from, and frames that are no cause.
-use Rattle.std.proofs.Common.{◌≡◌, ℕ, true, List, [], ◌∷◌, Some, None, refl, sym, true≢false, ⊎_elim, arith}
+use Rattle.std.proofs.Common.{◌≡◌, ℕ, true, List, [], ◌∷◌, Some, None, refl, sym, true≢false, ⊎_elim, arith, false}
 use Rattle.std.specs.Prelude.{codes}
 use Rattle.sn_session.specs.declared.change.SessionOp.TheVariants.{Take}
 use Rattle.sn_frame.specs.declared.frame.Frame.{Frame}
@@ -21,7 +21,7 @@ use Rattle.cause_laws.proofs.Stepping.{step-cause}
 
 -- a message of quality of service 2 that waits for the client
 abbrev waiting : Put
-waiting = record { origin = 1; seq = 1; topic = codes "ab"; qos = 2; body = codes "x" }
+waiting = record { origin = 1; seq = 1; topic = codes "ab"; qos = 2; retain = false; expires = 0; body = codes "x" }
 
 abbrev waits : Seen
 waits = seen_of (first_take ∷ OfPut s1 waiting ∷ [])

@@ -23,12 +23,14 @@ use Rattle.sn_local.specs.Seen.{Seen}
 use Rattle.sn_plan.specs.declared.row.Follow.{Follow}
 use Rattle.sn_plan.specs.declared.row.Follow.TheVariants as follows
 use Rattle.sn_plan.specs.declared.row.Row.{Row}
+use Rattle.sn_plan.specs.Asking.{retain_asked}
 use Rattle.sn_plan.specs.Bound.{bound_to, session_of}
 use Rattle.sn_plan.specs.Drafts.{Drafted, nothing, changed, changed_if, moved, session_after}
 use Rattle.sn_plan.specs.Others.{other}
 use Rattle.sn_plan.specs.Rows.{row_of, heard_row, stray}
 use Rattle.sn_flow.specs.Connection.{leave, fall_asleep, disconnect_draft, disconnect_of}
 use Rattle.sn_flow.specs.Wills.{topic_update_of, message_update_of}
+use Rattle.sn_subscribe.specs.Handing.{waiting_for}
 use Rattle.sn_subscribe.specs.TopicRows.{register_of, subscribe_of, unsubscribe_of}
 use Rattle.sn_publish.specs.declared.meaning.Meant.{Meant}
 use Rattle.sn_publish.specs.declared.meaning.Meant.TheVariants.{Topic, Refused}
@@ -102,41 +104,41 @@ module _ (seen : Seen) (a : Addr) (now : ℕ) where
 
   pub topic_update-quiet : (bound : Option (List ℕ)) (will : Option Will) → QuietRow seen bound (topic_update_of a bound will now)
   topic_update-quiet None will = tt
-  topic_update-quiet (Some c) will = (refl, (of_will_topic_update a will).acks, tt)
+  topic_update-quiet (Some c) will = (refl, (of_will_topic_update a will).leaves.acks, tt)
 
   pub message_update-quiet : (bound : Option (List ℕ)) (message : List ℕ) → QuietRow seen bound (message_update_of seen a bound message now)
   message_update-quiet None message = tt
-  message_update-quiet (Some c) message = (refl, (of_will_msg_update a (session_of seen c) message).acks, tt)
+  message_update-quiet (Some c) message = (refl, (of_will_msg_update a (session_of seen c) message).leaves.acks, tt)
 
   pub register-quiet : (bound : Option (List ℕ)) (msg_id : ℕ) (name : List ℕ) → QuietRow seen bound (register_of seen a bound msg_id name now)
   register-quiet None msg_id name = tt
-  register-quiet (Some c) msg_id name = (refl, (of_register a (session_of seen c) msg_id name).acks, tt)
+  register-quiet (Some c) msg_id name = (refl, (of_register a (session_of seen c) msg_id name).leaves.acks, tt)
 
   pub subscribe-quiet : (predefined : Entries) (bound : Option (List ℕ)) (bits msg_id : ℕ) (field : List ℕ) → QuietRow seen bound (subscribe_of predefined seen a bound bits msg_id field now)
   subscribe-quiet predefined None bits msg_id field = tt
-  subscribe-quiet predefined (Some c) bits msg_id field = (refl, (of_subscribe predefined a (session_of seen c) bits msg_id field).acks, tt)
+  subscribe-quiet predefined (Some c) bits msg_id field = (refl, (of_subscribe predefined seen (waiting_for seen c) a (session_of seen c) bits msg_id field).acks, tt)
 
   pub unsubscribe-quiet : (predefined : Entries) (bound : Option (List ℕ)) (bits msg_id : ℕ) (field : List ℕ) → QuietRow seen bound (unsubscribe_of predefined seen a bound bits msg_id field now)
   unsubscribe-quiet predefined None bits msg_id field = tt
-  unsubscribe-quiet predefined (Some c) bits msg_id field = (refl, (of_unsubscribe predefined a (session_of seen c) bits msg_id field).acks, tt)
+  unsubscribe-quiet predefined (Some c) bits msg_id field = (refl, (of_unsubscribe predefined a (session_of seen c) bits msg_id field).leaves.acks, tt)
 
   -- ---- publications
 
-  publish_at-acks : (s : Session) (topic msg_id : ℕ) (body name : List ℕ) (qos : Qos) → (publish_at seen a s topic msg_id body name qos).acks ≡ []
-  publish_at-acks s topic msg_id body name levels.Zero = refl
-  publish_at-acks s topic msg_id body name levels.One = refl
-  publish_at-acks s topic msg_id body name levels.Two =
+  publish_at-acks : (asked : Bool) (s : Session) (topic msg_id : ℕ) (body name : List ℕ) (qos : Qos) → (publish_at seen asked a s topic msg_id body name qos).acks ≡ []
+  publish_at-acks asked s topic msg_id body name levels.Zero = refl
+  publish_at-acks asked s topic msg_id body name levels.One = refl
+  publish_at-acks asked s topic msg_id body name levels.Two =
       choose-none (is_received msg_id s.received) _ _ refl (choose-none (id_has_no_room msg_id s.received) _ _ refl refl)
-  publish_at-acks s topic msg_id body name levels.MinusOne = refl
+  publish_at-acks asked s topic msg_id body name levels.MinusOne = refl
 
-  publish_meant-acks : (s : Session) (topic msg_id : ℕ) (body : List ℕ) (qos : Qos) (meant : Meant) → (publish_meant seen a s topic msg_id body qos meant).acks ≡ []
-  publish_meant-acks s topic msg_id body qos (Refused code) = refl
-  publish_meant-acks s topic msg_id body qos (Topic name) = publish_at-acks s topic msg_id body name qos
+  publish_meant-acks : (asked : Bool) (s : Session) (topic msg_id : ℕ) (body : List ℕ) (qos : Qos) (meant : Meant) → (publish_meant seen asked a s topic msg_id body qos meant).acks ≡ []
+  publish_meant-acks asked s topic msg_id body qos (Refused code) = refl
+  publish_meant-acks asked s topic msg_id body qos (Topic name) = publish_at-acks asked s topic msg_id body name qos
 
   publish_of-quiet : (predefined : Entries) (bound : Option (List ℕ)) (bits topic msg_id : ℕ) (body : List ℕ) → QuietRow seen bound (publish_of predefined seen a bound bits topic msg_id body now)
   publish_of-quiet predefined None bits topic msg_id body = tt
   publish_of-quiet predefined (Some c) bits topic msg_id body =
-      (refl, publish_meant-acks (session_of seen c) topic msg_id body (qos_of bits) (publication_meant predefined (session_of seen c) bits topic body), tt)
+      (refl, publish_meant-acks (retain_asked bits) (session_of seen c) topic msg_id body (qos_of bits) (publication_meant predefined (session_of seen c) bits topic body), tt)
 
   pub publish-quiet : (predefined : Entries) (local : Local) (bits topic msg_id : ℕ) (body : List ℕ) (qos : Qos) → QuietRow seen (client_at a local.bindings) (publish_in_at predefined seen local a bits topic msg_id body now qos)
   publish-quiet predefined local bits topic msg_id body levels.MinusOne = tt

@@ -79,7 +79,7 @@ module _ (g : ℕ) (p : Entries) (seen : Seen) (local : Local) (a : Addr) (frame
       × (IsCause seen local a frame plan.sends c put ⊎ IsSpent p a c now (session_after (session_of seen c) d) put plan.sends))
 
   module _ (d : Drafted) (c : List ℕ) (is : sender_of local a frame ≡ Some c) (name : ℕ × ℕ) where
-    by-cause : Stays d (record { changes = []; acks = []; puts = []; sends = plan.sends; local = [] }) → Caused seen (IsCause seen local a frame) d.sends c name → IsFor d c name
+    by-cause : Stays d (record { changes = []; acks = []; handed = []; retain = None; puts = []; sends = plan.sends; local = [] }) → Caused seen (IsCause seen local a frame) d.sends c name → IsFor d c name
     by-cause stays (put, among, named, cause) = (is, (put, among, named, inl (cause-more seen local a d.sends plan.sends stays c put frame cause)))
 
     by-delivery : is_served (session_after (session_of seen c) d).presence ≡ true → IsOfOneDone p (peer_at a c now) (session_after (session_of seen c) d) (seen.of c).pending plan.sends name → IsFor d c name

@@ -4,6 +4,7 @@ use Rattle.std.specs.Prelude.{◌≢◌}
 use Rattle.std.proofs.lemmas.Option.{none-some, same_Some}
 use Rattle.sn_frame.specs.declared.fault.FrameFault.{FrameFault}
 use Rattle.sn_frame.proofs.Refusals.{one_frame, is_refused, one_first_fault}
+use Rattle.rep_op.specs.declared.op.Subject.{Subject}
 use Rattle.rep_op.specs.declared.op.Op.{Op}
 use Rattle.rep_op.specs.declared.fault.OpsFault.{OpsFault}
 use Rattle.rep_op.specs.declared.fault.OpsFault.TheVariants as ops_faults
@@ -38,7 +39,7 @@ use Rattle.gw_node.proofs.Splits.{delta-one, answer-one, held-one}
 no-delta : IsDeltaOf [] []
 no-delta = record {
   delta = record { well_made = tt; ascending = tt };
-  same = record { operations_same = λ c name. refl; puts_same = λ c name. refl; acknowledgements_same = λ c name. refl };
+  same = record { operations_same = λ c name. refl; puts_same = λ c name. refl; acknowledgements_same = λ c name. refl; retains_same = λ t name. refl };
 }
 
 -- what has one delta within the limit makes it
@@ -109,7 +110,7 @@ fault-plan old Clock now fault p h k = h
 
 -- the answer is no Conflict
 abbrev pub IsAgreed : Result Out Refusal → Type 0
-IsAgreed answer = (client : List ℕ) → answer ≡ Err (refusals.Conflict client) → ⊥
+IsAgreed answer = (of : Subject) → answer ≡ Err (refusals.Conflict of) → ⊥
 
 -- two answers, gateways and lists are the same
 abbrev pub Alike : Result Out Refusal → Result Out Refusal → Gateway → Gateway → List (List Op) → List (List Op) → Type 0

@@ -8,10 +8,10 @@ use Rattle.rep_model.proofs.Lookup.{or_else}
 use Rattle.std.proofs.lemmas.List.Elements.{All-from_recursion, All-contains, Contains-append_left, Contains-append_right}
 use Rattle.std.proofs.lemmas.Option.{none-some, same_Some, slice_get_within, get_or_from_slice_get}
 use Rattle.rep_op.specs.declared.op.Op.{Op}
-use Rattle.rep_op.specs.Sets.{operation_at, put_at, is_acknowledged, Stands, Within, Same}
+use Rattle.rep_op.specs.Sets.{operation_at, put_at, is_acknowledged, retain_at, Stands, Within, Same}
 use Rattle.rep_model.specs.Keep.{keep, CountsAs}
 use Rattle.rep_model.proofs.Joins.{counts-more, within-left, within-standing, same_sym, same_trans}
-use Rattle.rep_model.proofs.Readers.{operation_at_both, put_at_both, is_acknowledged_both}
+use Rattle.rep_model.proofs.Readers.{operation_at_both, put_at_both, is_acknowledged_both, retain_at_both}
 use Rattle.rep_model.proofs.Thin.{same_kept, thin-same}
 use Rattle.jr_disk.specs.Disk.{Image}
 use Rattle.jr_journal.specs.Records.{records}
@@ -62,6 +62,7 @@ same-behind W D h = record {
   operations_same = λ c name. operation_at_both c W D name ∙ behind (operation_at c W name) (operation_at c D name) (λ x. h.operations_in c name x);
   puts_same = λ c name. put_at_both c W D name ∙ behind (put_at c W name) (put_at c D name) (λ x. h.puts_in c name x);
   acknowledgements_same = λ c name. is_acknowledged_both c W D name ∙ behind_test (is_acknowledged c W name) (is_acknowledged c D name) (h.acknowledgements_in c name);
+  retains_same = λ t name. retain_at_both t W D name ∙ behind (retain_at t W name) (retain_at t D name) (λ x. h.retains_in t name x);
 }
 
 -- nor to what counts as the set
@@ -109,10 +110,10 @@ made-later old mid (Frame number from bytes now) (Node answer) delta i maker h t
     own-later old mid number i maker (Datagram from bytes) now (said answer) delta at h.0 h.1 h.2 h.3 h.4 h.5 h.6 there
 made-later old mid (Tick number now) (Node answer) delta i maker h there may at =
     own-later old mid number i maker Clock now (said answer) delta at h.0 h.1 h.2 h.3 h.4 h.5 h.6 there
-made-later old mid (Frame number from bytes now) (Views views) delta i maker h there may at = absurd h
+made-later old mid (Frame number from bytes now) (Views views topics) delta i maker h there may at = absurd h
 made-later old mid (Frame number from bytes now) (Records count) delta i maker h there may at = absurd h
 made-later old mid (Frame number from bytes now) Nothing delta i maker h there may at = absurd h
-made-later old mid (Tick number now) (Views views) delta i maker h there may at = absurd h
+made-later old mid (Tick number now) (Views views topics) delta i maker h there may at = absurd h
 made-later old mid (Tick number now) (Records count) delta i maker h there may at = absurd h
 made-later old mid (Tick number now) Nothing delta i maker h there may at = absurd h
 made-later old mid (Take number k) answer delta i maker h there may at = absurd may

@@ -5,9 +5,11 @@ use Rattle.std.specs.declared.sync.Arc.{Arc}
 use Rattle.std.specs.declared.alloc.Global.{Global}
 use Rattle.std.proofs.lemmas.Option.{none-some, same_Some}
 use Rattle.std.proofs.lemmas.List.Elements.{All-contains_itself, recursion_from_All}
+use Rattle.rep_op.specs.declared.op.Subject.{Subject}
 use Rattle.rep_op.specs.declared.op.Op.{Op}
 use Rattle.sn_local.specs.declared.config.Config.{Config}
 use Rattle.sn_plan.proofs.Lists.{all-weaken}
+use Rattle.rep_model.specs.Topics.{all_retained}
 use Rattle.gw_answer.specs.declared.out.Out.{Out}
 use Rattle.gw_answer.specs.declared.refusal.Refusal.{Refusal}
 use Rattle.gw_answer.specs.declared.refusal.Refusal.TheVariants as refusals
@@ -58,7 +60,7 @@ room-start (config ∷ configs) = (record { now = refl; back = refl; runs = λ _
 -- the answer is no Conflict
 abbrev IsCalm : Answer → Type 0
 IsCalm (Node answer) = IsAgreed (said answer)
-IsCalm (Views views) = Unit {0}
+IsCalm (Views views topics) = Unit {0}
 IsCalm (Records count) = Unit {0}
 IsCalm Nothing = Unit {0}
 
@@ -122,31 +124,32 @@ after-one old (Restart number kept) (Records a) (Records b) new next room f g h 
     let at = at-one old number h.0 k.0 h.1 k.1 h.2 k.2 in
     let same : changed old h.0 (restarted kept h.1) [] ≡ changed old k.0 (restarted kept k.1) [] = λ t. changed old (at.0 t) (restarted kept (at.1 t)) [] in
     (ap (λ (n : ℕ). Read n) (h.3 ∙ ap (λ (x : Gateway). records_left kept x) at.1 ∙ sym k.3), h.4 ∙ same ∙ sym k.4)
-after-one old (Show number) (Views a) (Views b) new next room f g h k =
+after-one old (Show number) (Views a ts) (Views b us) new next room f g h k =
     let at = at-one old number h.0 k.0 h.1 k.1 h.2 k.2 in
     let same : shown h.1.taken ≡ shown k.1.taken = ap (λ (x : Gateway). shown x.taken) at.1 in
-    (ap (λ views. Shown views) (h.3 ∙ same ∙ sym k.3), h.4 ∙ sym k.4)
-after-one old (Frame number from bytes now) (Node a) (Views b) new next room f g h k = absurd k
-after-one old (Tick number now) (Node a) (Views b) new next room f g h k = absurd k
-after-one old (Take number delta) (Node a) (Views b) new next room f g h k = absurd k
-after-one old (Asks number other) (Node a) (Views b) new next room f g h k = absurd k
-after-one old (Show number) (Views a) (Node b) new next room f g h k = absurd k
+    let retained : all_retained h.1.taken ≡ all_retained k.1.taken = ap (λ (x : Gateway). all_retained x.taken) at.1 in
+    ((λ t. Shown ((h.3 ∙ same ∙ sym k.3) t) ((h.5 ∙ retained ∙ sym k.5) t)), h.4 ∙ sym k.4)
+after-one old (Frame number from bytes now) (Node a) (Views b us) new next room f g h k = absurd k
+after-one old (Tick number now) (Node a) (Views b us) new next room f g h k = absurd k
+after-one old (Take number delta) (Node a) (Views b us) new next room f g h k = absurd k
+after-one old (Asks number other) (Node a) (Views b us) new next room f g h k = absurd k
+after-one old (Show number) (Views a ts) (Node b) new next room f g h k = absurd k
 after-one old (Frame number from bytes now) (Node a) (Records b) new next room f g h k = absurd k
 after-one old (Tick number now) (Node a) (Records b) new next room f g h k = absurd k
 after-one old (Take number delta) (Node a) (Records b) new next room f g h k = absurd k
 after-one old (Asks number peer) (Node a) (Records b) new next room f g h k = absurd k
-after-one old (Compact number) (Node a) (Views b) new next room f g h k = absurd k
+after-one old (Compact number) (Node a) (Views b us) new next room f g h k = absurd k
 after-one old (Compact number) (Node a) (Records b) new next room f g h k = absurd k
 after-one old (Restart number kept) (Records a) (Node b) new next room f g h k = absurd k
-after-one old (Restart number kept) (Records a) (Views b) new next room f g h k = absurd k
-after-one old (Show number) (Views a) (Records b) new next room f g h k = absurd k
-after-one old (Frame number from bytes now) (Views a) b new next room f g h k = absurd h
-after-one old (Tick number now) (Views a) b new next room f g h k = absurd h
-after-one old (Take number delta) (Views a) b new next room f g h k = absurd h
-after-one old (Asks number other) (Views a) b new next room f g h k = absurd h
+after-one old (Restart number kept) (Records a) (Views b us) new next room f g h k = absurd k
+after-one old (Show number) (Views a ts) (Records b) new next room f g h k = absurd k
+after-one old (Frame number from bytes now) (Views a ts) b new next room f g h k = absurd h
+after-one old (Tick number now) (Views a ts) b new next room f g h k = absurd h
+after-one old (Take number delta) (Views a ts) b new next room f g h k = absurd h
+after-one old (Asks number other) (Views a ts) b new next room f g h k = absurd h
 after-one old (Show number) (Node a) b new next room f g h k = absurd h
-after-one old (Compact number) (Views views) b new next room f g h k = absurd h
-after-one old (Restart number kept) (Views views) b new next room f g h k = absurd h
+after-one old (Compact number) (Views views topics) b new next room f g h k = absurd h
+after-one old (Restart number kept) (Views views topics) b new next room f g h k = absurd h
 after-one old (Restart number kept) (Node answer) b new next room f g h k = absurd h
 after-one old (Frame number from bytes now) (Records count) b new next room f g h k = absurd h
 after-one old (Tick number now) (Records count) b new next room f g h k = absurd h
@@ -155,10 +158,10 @@ after-one old (Asks number peer) (Records count) b new next room f g h k = absur
 after-one old (Compact number) (Records count) b new next room f g h k = absurd h
 after-one old (Show number) (Records count) b new next room f g h k = absurd h
 after-one old (WriteFails number bytes sync) (Node a) b new next room f g h k = absurd h
-after-one old (WriteFails number bytes sync) (Views a) b new next room f g h k = absurd h
+after-one old (WriteFails number bytes sync) (Views a ts) b new next room f g h k = absurd h
 after-one old (WriteFails number bytes sync) (Records a) b new next room f g h k = absurd h
 after-one old (WriteFails number bytes sync) Nothing (Node b) new next room f g h k = absurd k
-after-one old (WriteFails number bytes sync) Nothing (Views b) new next room f g h k = absurd k
+after-one old (WriteFails number bytes sync) Nothing (Views b us) new next room f g h k = absurd k
 after-one old (WriteFails number bytes sync) Nothing (Records b) new next room f g h k = absurd k
 after-one old (Frame number from bytes now) Nothing b new next room f g h k = absurd h
 after-one old (Tick number now) Nothing b new next room f g h k = absurd h
@@ -173,7 +176,7 @@ after-one old (Take number delta) (Node a) Nothing new next room f g h k = absur
 after-one old (Asks number other) (Node a) Nothing new next room f g h k = absurd k
 after-one old (Compact number) (Node a) Nothing new next room f g h k = absurd k
 after-one old (Restart number kept) (Records a) Nothing new next room f g h k = absurd k
-after-one old (Show number) (Views a) Nothing new next room f g h k = absurd k
+after-one old (Show number) (Views a ts) Nothing new next room f g h k = absurd k
 
 pub after-room : (old : Field) (event : Event) (a : Answer) (new : Field) → HaveRoom old → After old event a new → HaveRoom new
 after-room old (Frame number from bytes now) (Node a) new room h = steps-room old number (Datagram from bytes) now (said a) new room h
@@ -184,14 +187,14 @@ after-room old (Asks number other) (Node a) new room h = subst HaveRoom (sym h.8
 after-room old (WriteFails number bytes sync) Nothing new room h = next-at old new h.0 h.1 (failing bytes sync h.1) room h.2.1 (failing-room bytes sync h.1) h.3
 after-room old (Compact number) (Node a) new room h = next-at old new h.0 h.1 h.2 room h.3.1 (compact-room h.1 h.2 (said a) h.4) h.5
 after-room old (Restart number kept) (Records a) new room h = next-at old new h.0 h.1 (restarted kept h.1) room h.2.1 (restart-room kept h.1) h.4
-after-room old (Show number) (Views a) new room h = subst HaveRoom (sym h.4) room
-after-room old (Frame number from bytes now) (Views a) new room h = absurd h
-after-room old (Tick number now) (Views a) new room h = absurd h
-after-room old (Take number delta) (Views a) new room h = absurd h
-after-room old (Asks number other) (Views a) new room h = absurd h
+after-room old (Show number) (Views a ts) new room h = subst HaveRoom (sym h.4) room
+after-room old (Frame number from bytes now) (Views a ts) new room h = absurd h
+after-room old (Tick number now) (Views a ts) new room h = absurd h
+after-room old (Take number delta) (Views a ts) new room h = absurd h
+after-room old (Asks number other) (Views a ts) new room h = absurd h
 after-room old (Show number) (Node a) new room h = absurd h
-after-room old (Compact number) (Views views) new room h = absurd h
-after-room old (Restart number kept) (Views views) new room h = absurd h
+after-room old (Compact number) (Views views topics) new room h = absurd h
+after-room old (Restart number kept) (Views views topics) new room h = absurd h
 after-room old (Restart number kept) (Node answer) new room h = absurd h
 after-room old (Frame number from bytes now) (Records count) new room h = absurd h
 after-room old (Tick number now) (Records count) new room h = absurd h
@@ -200,7 +203,7 @@ after-room old (Asks number peer) (Records count) new room h = absurd h
 after-room old (Compact number) (Records count) new room h = absurd h
 after-room old (Show number) (Records count) new room h = absurd h
 after-room old (WriteFails number bytes sync) (Node a) new room h = absurd h
-after-room old (WriteFails number bytes sync) (Views a) new room h = absurd h
+after-room old (WriteFails number bytes sync) (Views a ts) new room h = absurd h
 after-room old (WriteFails number bytes sync) (Records a) new room h = absurd h
 after-room old (Frame number from bytes now) Nothing new room h = absurd h
 after-room old (Tick number now) Nothing new room h = absurd h
@@ -224,7 +227,7 @@ run-one old [] (a ∷ answers) others one other room f g h k = absurd h
 run-one old (event ∷ events) [] others one other room f g h k = absurd h
 run-one old (event ∷ events) (a ∷ answers) [] one other room f g h k = absurd k
 
-said-conflict : (answer : Result (Arc Out Global) NodeFault) (client : List ℕ) → said answer ≡ Err (refusals.Conflict client) → answer ≡ Err (faults.Conflict client)
+said-conflict : (answer : Result (Arc Out Global) NodeFault) (client : Subject) → said answer ≡ Err (refusals.Conflict client) → answer ≡ Err (faults.Conflict client)
 said-conflict (Ok out) client e = absurd cc
 said-conflict (Err (faults.Conflict c)) client e = cc
 said-conflict (Err (faults.Frame fault)) client e = absurd cc
@@ -237,11 +240,11 @@ said-conflict (Err faults.Memory) client e = absurd cc
 
 -- no answer is a Conflict
 abbrev pub HaveNoConflict : List Answer → Type 0
-HaveNoConflict answers = (client : List ℕ) → Contains answers (Node (Err (faults.Conflict client))) → ⊥
+HaveNoConflict answers = (client : Subject) → Contains answers (Node (Err (faults.Conflict client))) → ⊥
 
 calm-answer : (answers : List Answer) → HaveNoConflict answers → (answer : Answer) → Contains answers answer → IsCalm answer
 calm-answer answers f (Node answer) there = λ client e. f client (subst (λ (x : Answer). Contains answers x) (ap (λ (r : Result (Arc Out Global) NodeFault). Node r) (said-conflict answer client e)) there)
-calm-answer answers f (Views views) there = tt
+calm-answer answers f (Views views topics) there = tt
 calm-answer answers f (Records count) there = tt
 calm-answer answers f Nothing there = tt
 

@@ -4,7 +4,9 @@ use Rattle.std.specs.List.{AllByRecursion}
 use Rattle.std.proofs.lemmas.List.Concat.{flat_map-append}
 use Rattle.std.proofs.lemmas.List.Elements.{All-from_recursion, All-contains, Contains-append_left, Contains-append_right}
 use Rattle.rep_op.specs.declared.op.Op.{Op}
-use Rattle.rep_op.specs.Sets.{operation_at, put_at, is_acknowledged, Stands, Within, Same}
+use Rattle.rep_op.specs.Sets.{operation_at, put_at, is_acknowledged, retain_at, Stands, Within, Same}
+use Rattle.rep_model.specs.Topics.{all_retained}
+use Rattle.rep_model.proofs.Topics.{all_retained-thin}
 use Rattle.rep_model.proofs.Joins.{all-moved, same-elements, same_sym, same_trans, within-standing}
 use Rattle.rep_model.proofs.Named.{clients-thin}
 use Rattle.rep_model.proofs.Thin.{thin-same, view-thin}
@@ -83,14 +85,14 @@ after-listed old (Compact number) (Node answer) new h well w =
     subst AreListed (sym h.5) (listed-moved old w h.0 h.1 h.2 [] h.3.1 (inl (compact-still h.1 h.2 (said answer) h.4)))
 after-listed old (Restart number kept) (Records count) new h well w =
     subst AreListed (sym h.4) (listed-moved old w h.0 h.1 (restarted kept h.1) [] h.2.1 (inl (restart-still kept h.1 (well h.0 h.1 h.2.1).0)))
-after-listed old (Show number) (Views views) new h well w = subst AreListed (sym h.4) w
-after-listed old (Frame number from bytes now) (Views views) new h well w = absurd h
-after-listed old (Tick number now) (Views views) new h well w = absurd h
-after-listed old (Take number delta) (Views views) new h well w = absurd h
-after-listed old (Asks number peer) (Views views) new h well w = absurd h
+after-listed old (Show number) (Views views topics) new h well w = subst AreListed (sym h.4) w
+after-listed old (Frame number from bytes now) (Views views topics) new h well w = absurd h
+after-listed old (Tick number now) (Views views topics) new h well w = absurd h
+after-listed old (Take number delta) (Views views topics) new h well w = absurd h
+after-listed old (Asks number peer) (Views views topics) new h well w = absurd h
 after-listed old (Show number) (Node answer) new h well w = absurd h
-after-listed old (Compact number) (Views views) new h well w = absurd h
-after-listed old (Restart number kept) (Views views) new h well w = absurd h
+after-listed old (Compact number) (Views views topics) new h well w = absurd h
+after-listed old (Restart number kept) (Views views topics) new h well w = absurd h
 after-listed old (Restart number kept) (Node answer) new h well w = absurd h
 after-listed old (Frame number from bytes now) (Records count) new h well w = absurd h
 after-listed old (Tick number now) (Records count) new h well w = absurd h
@@ -99,7 +101,7 @@ after-listed old (Asks number peer) (Records count) new h well w = absurd h
 after-listed old (Compact number) (Records count) new h well w = absurd h
 after-listed old (Show number) (Records count) new h well w = absurd h
 after-listed old (WriteFails number bytes sync) (Node answer) new h well w = absurd h
-after-listed old (WriteFails number bytes sync) (Views views) new h well w = absurd h
+after-listed old (WriteFails number bytes sync) (Views views topics) new h well w = absurd h
 after-listed old (WriteFails number bytes sync) (Records count) new h well w = absurd h
 after-listed old (Frame number from bytes now) Nothing new h well w = absurd h
 after-listed old (Tick number now) Nothing new h well w = absurd h
@@ -161,6 +163,7 @@ same-within A B f g = record {
   operations_same = λ c name. options-alike (operation_at c A name) (operation_at c B name) (f.operations_in c name) (g.operations_in c name);
   puts_same = λ c name. options-alike (put_at c A name) (put_at c B name) (f.puts_in c name) (g.puts_in c name);
   acknowledgements_same = λ c name. tests-alike (is_acknowledged c A name) (is_acknowledged c B name) (f.acknowledgements_in c name) (g.acknowledgements_in c name);
+  retains_same = λ t name. options-alike (retain_at t A name) (retain_at t B name) (f.retains_in t name) (g.retains_in t name);
 }
 
 -- of parts of a field, that which has all operations of another has what stands in it
@@ -212,3 +215,6 @@ field-complete configs events answers field one other h in_field too all others 
 
 pub shown-same : (A B : List Op) → Same A B → shown A ≡ shown B
 shown-same A B s = λ i. map (λ c. (c, view-thin A B (thin-same A B s) c i)) (clients-thin A B (thin-same A B s) i)
+
+pub retained-same : (A B : List Op) → Same A B → all_retained A ≡ all_retained B
+retained-same A B s = all_retained-thin A B (thin-same A B s)

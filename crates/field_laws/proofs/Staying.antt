@@ -4,6 +4,12 @@ use Rattle.std.proofs.lemmas.Option.{same_Some}
 use Rattle.rep_op.specs.declared.op.Op.{Op}
 use Rattle.rep_op.specs.declared.op.Put.{Put}
 use Rattle.rep_op.specs.Sets.{is_acknowledged, Within}
+use Rattle.std.specs.Prelude.{IsTrue}
+use Rattle.std.specs.Ordering.{is_lt}
+use Rattle.rep_op.specs.declared.op.Retained.{Retained}
+use Rattle.rep_op.specs.Orders.{clock_of, clock_cmp}
+use Rattle.rep_model.specs.Topics.{retained}
+use Rattle.rep_model.proofs.Topics.{retained-leaves}
 use Rattle.rep_model.specs.Views.{view}
 use Rattle.rep_model.proofs.Joins.{within-left}
 use Rattle.rep_model.proofs.Pending.{pending-stay}
@@ -34,3 +40,17 @@ stays configs events more answers replies old new i gateway later c put before p
 
 pub moves : (gateway other : Gateway) (c : List ℕ) (put : Put) → Contains (view c gateway.taken).pending put → Within gateway.taken other.taken → WaitsOrAcknowledged c put other.taken
 moves gateway other c put waits within = pending-stay c gateway.taken other.taken put within waits
+
+-- ---- what is retained
+
+-- what is retained of a topic is retained later, or something later is
+abbrev IsRetainedFrom : List ℕ → Retained → List Op → Type 0
+IsRetainedFrom t k W = (last : Retained) × (retained t W ≡ Some last) × ((last ≡ k) ⊎ IsTrue (is_lt (clock_cmp (clock_of k) (clock_of last))))
+
+pub retained-stays : (old new : Field) (more : List Event) (replies : List Answer) (i : ℕ) (gateway later : Gateway) (t : List ℕ) (k : Retained)
+    → slice_get old.gateways i ≡ Some gateway → retained t gateway.taken ≡ Some k → Run old more replies new → slice_get new.gateways i ≡ Some later → IsRetainedFrom t k later.taken
+retained-stays old new more replies i gateway later t k place e after there =
+    retained-leaves t gateway.taken k later.taken (grows old new more replies i gateway later place after there) e
+
+pub retained-moves : (gateway other : Gateway) (t : List ℕ) (k : Retained) → retained t gateway.taken ≡ Some k → Within gateway.taken other.taken → IsRetainedFrom t k other.taken
+retained-moves gateway other t k e within = retained-leaves t gateway.taken k other.taken within e

@@ -7,7 +7,7 @@ use Rattle.sn_session.specs.declared.change.SessionOp.{SessionOp}
 use Rattle.sn_session.specs.Session.{is_take}
 use Rattle.rep_op.specs.declared.op.Stamp.{Stamp}
 use Rattle.rep_op.specs.declared.op.Op.{Op}
-use Rattle.rep_op.specs.declared.op.Op.TheVariants.{Session as OfSession, Put as OfPut, Ack}
+use Rattle.rep_op.specs.declared.op.Op.TheVariants.{Session as OfSession, Put as OfPut, Ack, Retain as OfRetain}
 use Rattle.rep_ops.specs.Deltas.{IsDelta}
 use Rattle.rep_op.specs.Ranges.{is_change}
 use Rattle.rep_op.specs.Sets.{operation_at}
@@ -39,6 +39,7 @@ take-at-zero (OfSession c stamp counter change) made =
     at-zero (is_take change) counter (and_parts (is_stamp stamp) (is_counted counter change) (and_parts (is_stamp stamp && is_counted counter change) (is_change change) made).0).1
 take-at-zero (OfPut c put) made = tt
 take-at-zero (Ack c origin first last) made = tt
+take-at-zero (OfRetain topic kept) made = tt
 
 delta-takes : (delta : List Op) → IsDelta delta → AllByRecursion IsTakeAtZero delta
 delta-takes delta d = all-weaken (λ op. IsTrue (is_well_made op)) IsTakeAtZero take-at-zero delta d.well_made
@@ -89,27 +90,27 @@ after-takes old (Compact number) (Node answer) new h w d all =
 after-takes old (Restart number kept) (Records count) new h w d all =
     subst TakesField (sym h.4)
     (fed-takes old.gateways h.0 h.1 (restarted kept h.1) h.1.refused [] h.2.1 (refused-takes old.deltas h.1 w.proper (d h.0 h.1 h.2.1).due) (restart-moves kept h.1) all)
-after-takes old (Show number) (Views views) new h w d all = subst TakesField (sym h.4) all
-after-takes old (Frame number from bytes now) (Views views) new h w d all = absurd h
+after-takes old (Show number) (Views views topics) new h w d all = subst TakesField (sym h.4) all
+after-takes old (Frame number from bytes now) (Views views topics) new h w d all = absurd h
 after-takes old (Frame number from bytes now) (Records count) new h w d all = absurd h
 after-takes old (Frame number from bytes now) Nothing new h w d all = absurd h
-after-takes old (Tick number now) (Views views) new h w d all = absurd h
+after-takes old (Tick number now) (Views views topics) new h w d all = absurd h
 after-takes old (Tick number now) (Records count) new h w d all = absurd h
 after-takes old (Tick number now) Nothing new h w d all = absurd h
-after-takes old (Take number delta) (Views views) new h w d all = absurd h
+after-takes old (Take number delta) (Views views topics) new h w d all = absurd h
 after-takes old (Take number delta) (Records count) new h w d all = absurd h
 after-takes old (Take number delta) Nothing new h w d all = absurd h
-after-takes old (Asks number peer) (Views views) new h w d all = absurd h
+after-takes old (Asks number peer) (Views views topics) new h w d all = absurd h
 after-takes old (Asks number peer) (Records count) new h w d all = absurd h
 after-takes old (Asks number peer) Nothing new h w d all = absurd h
 after-takes old (WriteFails number bytes sync) (Node answer) new h w d all = absurd h
-after-takes old (WriteFails number bytes sync) (Views views) new h w d all = absurd h
+after-takes old (WriteFails number bytes sync) (Views views topics) new h w d all = absurd h
 after-takes old (WriteFails number bytes sync) (Records count) new h w d all = absurd h
-after-takes old (Compact number) (Views views) new h w d all = absurd h
+after-takes old (Compact number) (Views views topics) new h w d all = absurd h
 after-takes old (Compact number) (Records count) new h w d all = absurd h
 after-takes old (Compact number) Nothing new h w d all = absurd h
 after-takes old (Restart number kept) (Node answer) new h w d all = absurd h
-after-takes old (Restart number kept) (Views views) new h w d all = absurd h
+after-takes old (Restart number kept) (Views views topics) new h w d all = absurd h
 after-takes old (Restart number kept) Nothing new h w d all = absurd h
 after-takes old (Show number) (Node answer) new h w d all = absurd h
 after-takes old (Show number) (Records count) new h w d all = absurd h

@@ -4,8 +4,9 @@
 //! is one induction. An answered delta leaves a gateway flush because of where its names are at
 //! home, and names are at home because gateways are flush.
 
-ghost use Rattle.std.specs.Prelude.{◌≡◌, ℕ, ◌⊎◌, ◌↔◌, true, List, ◌++◌, Some, None, Ok, Err, IfSome, Contains, slice_get};
+ghost use Rattle.std.specs.Prelude.{◌≡◌, ℕ, ◌⊎◌, ◌↔◌, true, List, ◌++◌, Some, None, Ok, Err, IfSome, IsTrue, Contains, slice_get};
 ghost use Rattle.rep_op.specs.declared.op.Op.{Op};
+ghost use Rattle.rep_op.specs.declared.op.Subject.{Subject};
 ghost use Rattle.rep_op.specs.declared.op.Put.{Put};
 ghost use Rattle.rep_ops.specs.Deltas.{IsDelta};
 ghost use Rattle.rep_ops.specs.Making.{IsDeltaOf};
@@ -13,6 +14,10 @@ ghost use Rattle.rep_op.specs.Sets.{is_acknowledged, IsConsistent, Within, Same}
 ghost use Rattle.rep_ops.specs.Splitting.{all_of};
 ghost use Rattle.rep_model.specs.Keep.{keep, CountsAs};
 ghost use Rattle.rep_model.specs.Views.{view};
+ghost use Rattle.rep_model.specs.Topics.{retained, all_retained};
+ghost use Rattle.rep_op.specs.declared.op.Retained.{Retained};
+ghost use Rattle.rep_op.specs.Orders.{clock_of, clock_cmp};
+ghost use Rattle.std.specs.Ordering.{is_lt};
 ghost use Rattle.rep_model.specs.Taking.{AllAgree};
 ghost use Rattle.sn_local.specs.declared.config.Config.{Config};
 ghost use Rattle.sn_plan.specs.declared.plan.Plan.{Plan};
@@ -34,8 +39,9 @@ ghost use Rattle.field_laws.specs.Settings.{settings};
 /// No message vanishes. What a gateway has taken it keeps: its set only grows, whatever comes and
 /// whatever fails. So a message that waits for a client at a gateway, at any moment of a run, waits
 /// there at every later moment, or its acknowledgement is in the set of that gateway. The same
-/// holds at each gateway that has taken all that this one had. No gateway leaves the field, and
-/// each keeps its place, its number and its other settings.
+/// holds at each gateway that has taken all that this one had. What is retained of a topic is still
+/// retained then, or something later of the topic is. No gateway leaves the field, and each keeps
+/// its place, its number and its other settings.
 pub fn nothing_vanishes()
     ensures places { (old new : Field) (more : List Event) (replies : List Answer)
         → Run old more replies new → settings new ≡ settings old }
@@ -55,6 +61,16 @@ pub fn nothing_vanishes()
         → Contains (view c gateway.taken).pending put → Within gateway.taken other.taken
         → Contains (view c other.taken).pending put
         ⊎ (is_acknowledged c other.taken (put.seq, put.origin) ≡ true) }
+    ensures retained { (old new : Field) (more : List Event) (replies : List Answer) (i : ℕ)
+        (gateway later : Gateway) (t : List ℕ) (kept : Retained)
+        → slice_get old.gateways i ≡ Some gateway → retained t gateway.taken ≡ Some kept
+        → Run old more replies new → slice_get new.gateways i ≡ Some later
+        → (last : Retained) × (retained t later.taken ≡ Some last)
+        × ((last ≡ kept) ⊎ IsTrue (is_lt (clock_cmp (clock_of kept) (clock_of last)))) }
+    ensures retained_moves { (gateway other : Gateway) (t : List ℕ) (kept : Retained)
+        → retained t gateway.taken ≡ Some kept → Within gateway.taken other.taken
+        → (last : Retained) × (retained t other.taken ≡ Some last)
+        × ((last ≡ kept) ⊎ IsTrue (is_lt (clock_cmp (clock_of kept) (clock_of last)))) }
 {}
 
 /// Whatever happens in a field, each gateway stays flush, and what it wrote itself comes back to it
@@ -68,17 +84,17 @@ pub fn steady_field()
         → IsPlan gateway occasion now (Some plan) → IsDeltaOf plan.ops delta
         → AllAgree gateway.taken delta }
     ensures no_conflict { (field : Field) (number i : ℕ) (gateway : Gateway) (occasion : Occasion)
-        (now : ℕ) (client : List ℕ) (new : Gateway) (made : List (List Op)) → IsSteady field
+        (now : ℕ) (of : Subject) (new : Gateway) (made : List (List Op)) → IsSteady field
         → IsAt field number i gateway → OwnStep gateway occasion now
-        (Err (refusals.Conflict client)) new made → ⊥ }
+        (Err (refusals.Conflict of)) new made → ⊥ }
 {}
 
 /// A field never contradicts itself, whatever fails in it. In whatever all its gateways have taken
-/// and all deltas of its list hold, no name of a session operation or a message stands for two
-/// operations, and so in each part of it, however it is put together. Each delta of the list is a
-/// delta, with counter 0 exactly at the operations that take a session, and can be written. A delta
-/// of the list agrees with what any gateway has taken, and with what it must keep of that; so no
-/// delivery of it, and no event of a run at all, is answered by Conflict.
+/// and all deltas of its list hold, no name of a session operation, a message or what is retained
+/// stands for two operations, and so in each part of it, however it is put together. Each delta of
+/// the list is a delta, with counter 0 exactly at the operations that take a session, and can be
+/// written. A delta of the list agrees with what any gateway has taken, and with what it must keep
+/// of that; so no delivery of it, and no event of a run at all, is answered by Conflict.
 pub fn consistent_field()
     ensures consistent { (configs : List Config) (events : List Event) (answers : List Answer)
         (field : Field)
@@ -95,23 +111,23 @@ pub fn consistent_field()
         → Contains field.deltas delta → AllAgree gateway.taken delta
         × AllAgree (keep gateway.taken) delta }
     ensures no_conflict { (configs : List Config) (events : List Event) (answers : List Answer)
-        (field : Field) (number i k : ℕ) (gateway : Gateway) (delta : List Op) (client : List ℕ)
+        (field : Field) (number i k : ℕ) (gateway : Gateway) (delta : List Op) (of : Subject)
         (new : Gateway) (made : List (List Op)) → Run (new_field configs) events answers field
         → IsAt field number i gateway → IsDeltaAt field k delta
-        → TakeStep gateway delta (Err (refusals.Conflict client)) new made → ⊥ }
+        → TakeStep gateway delta (Err (refusals.Conflict of)) new made → ⊥ }
     ensures never { (configs : List Config) (events : List Event) (answers : List Answer)
-        (field : Field) (client : List ℕ) → Run (new_field configs) events answers field
-        → Contains answers (Node (Err (faults.Conflict client))) → ⊥ }
+        (field : Field) (of : Subject) → Run (new_field configs) events answers field
+        → Contains answers (Node (Err (faults.Conflict of))) → ⊥ }
 {}
 
-/// No session operation and no message is made twice. Each that is anywhere in a field stands in
-/// the set of the gateway whose number is in its name. What an event adds to a field is named after
-/// the gateway that the event is at: nobody else writes under that number. In all deltas that
-/// answers tell of as made, a name stands in one place; only answers to datagrams and ticks tell of
-/// any; and where no failure is arranged, whatever has a name was told of. The list is what the
-/// answers bring, in their order: deltas that were made, and deltas that answer a digest, which
-/// repeat what was made before. Where no digest is sent, in the whole list a name stands in one
-/// place.
+/// No session operation and no message is made twice, and nothing is retained twice under one name.
+/// Each that is anywhere in a field stands in the set of the gateway whose number is in its name.
+/// What an event adds to a field is named after the gateway that the event is at: nobody else
+/// writes under that number. In all deltas that answers tell of as made, a name stands in one
+/// place; only answers to datagrams and ticks tell of any; and where no failure is arranged,
+/// whatever has a name was told of. The list is what the answers bring, in their order: deltas that
+/// were made, and deltas that answer a digest, which repeat what was made before. Where no digest
+/// is sent, in the whole list a name stands in one place.
 pub fn made_once()
     ensures home { (configs : List Config) (events : List Event) (answers : List Answer)
         (field : Field) (op : Op) → Run (new_field configs) events answers field
@@ -147,7 +163,7 @@ pub fn made_once()
 /// gateway's set that does not stand in the list; so a gateway that every delta of the list has
 /// reached has what the list has, and two of them have equal sets. (A delta that a gateway refused,
 /// and read back when it was opened again, is in no list until the gateway answers a digest.) And
-/// gateways with equal sets show the same.
+/// gateways with equal sets show the same, of clients and of topics.
 pub fn settled_field()
     ensures listed { (configs : List Config) (events : List Event) (answers : List Answer)
         (field : Field) (gateway : Gateway) (op : Op) → Run (new_field configs) events answers field
@@ -181,6 +197,8 @@ pub fn settled_field()
         → NoneFails events → Contains field.gateways one → Contains field.gateways other
         → HasTakenAll field one → HasTakenAll field other → Same one.taken other.taken }
     ensures shown { (one other : List Op) → Same one other → shown one ≡ shown other }
+    ensures kept { (one other : List Op) → Same one other
+        → all_retained one ≡ all_retained other }
 {}
 
 /// The answer to its digest completes a gateway. With the deltas that a peer answers, in whatever

@@ -1,9 +1,9 @@
 //! The laws of a field: what holds of every run, whatever happens and fails in it. They stand
 //! beside the chain: nothing is built on them.
 //!
-//! - `fields`: no message vanishes, a field never contradicts itself, nothing is made twice,
-//!   gateways that have taken the same show the same, and the answer to its digest completes a
-//!   gateway.
+//! - `fields`: no message vanishes, what is retained makes way only for something later, a field
+//!   never contradicts itself, nothing is made twice, gateways that have taken the same show the
+//!   same, and the answer to its digest completes a gateway.
 //! - `again`: nothing but the events fixes a run.
 //! - `laws`: in every run each plan of a gateway is well made, so that a gateway refuses what it
 //!   made itself only where a limit would be passed, or the delta be too long; a client that is

@@ -15,7 +15,7 @@ abbrev pub told : NodeFault → Refusal
 told (faults.Frame fault) = refusals.Frame fault
 told faults.Halted = refusals.Halted
 told (faults.Disk out) = refusals.Disk (arc_value out)
-told (faults.Conflict client) = refusals.Conflict client
+told (faults.Conflict of) = refusals.Conflict of
 told faults.Full = refusals.Full
 told faults.Exhausted = refusals.Exhausted
 told (faults.Journal fault) = refusals.Journal fault
@@ -26,7 +26,7 @@ abbrev pub refusal_number : Refusal → ℕ
 refusal_number (refusals.Frame fault) = 1
 refusal_number refusals.Halted = 2
 refusal_number (refusals.Disk excuse) = 3
-refusal_number (refusals.Conflict client) = 4
+refusal_number (refusals.Conflict of) = 4
 refusal_number refusals.Full = 5
 refusal_number refusals.Exhausted = 6
 refusal_number refusals.Memory = 7

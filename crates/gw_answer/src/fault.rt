@@ -5,7 +5,7 @@ ghost use Rattle.gw_answer.specs.Answers.{told, refusal_number};
 
 use super::out::Out;
 use jr_journal::JournalFault;
-use rep_ops::ClientId;
+use rep_ops::Subject;
 use sn_frame::FrameFault;
 use std::sync::Arc;
 use thiserror::Error;
@@ -32,15 +32,15 @@ pub enum NodeFault {
     /// made or taken is not taken, and nothing of it was sent.
     #[error("the disk of the journal failed")]
     Disk { out: Arc<Out> },
-    /// Fault 4: the delta contradicts what the gateway has taken of the client.
-    #[error("an operation of client {client:?} contradicts one that was taken under the same name")]
-    Conflict { client: ClientId },
+    /// Fault 4: the delta contradicts what the gateway has taken of the client or the topic.
+    #[error("an operation of {of:?} contradicts one that was taken under the same name")]
+    Conflict { of: Subject },
     /// Fault 5: the gateway would hold more than a limit allows, or the operations of its step make
     /// no delta, as where that would have more than 8 MiB.
     #[error("the gateway would hold more than it may, or make a delta of more than 8 MiB")]
     Full,
-    /// Fault 6: an epoch or a sequence number is at its last value.
-    #[error("an epoch or a sequence number is at its last value")]
+    /// Fault 6: an epoch, a sequence number or a clock is at its last value.
+    #[error("an epoch, a sequence number or a clock is at its last value")]
     Exhausted,
     /// Fault 7: memory ran out.
     #[error("out of memory")]

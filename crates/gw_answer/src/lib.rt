@@ -8,7 +8,8 @@
 //! - `step`: a call, with its arguments (`Step`).
 //! - `out`: what is answered (`Out`).
 //! - `fault`: why a gateway refuses (`NodeFault`), with the number of each fault.
-//! - `shares`: three shares of an answer, and three copies of a name (`Shares`, `Names`).
+//! - `shares`: three shares of an answer, and three copies of what a refusal is about (`Shares`,
+//!   `Subjects`).
 //! - `refusal`: a refusal with such shares (`Refusal`), and an answer out of them, once or three
 //!   times.
 //! - `same`, `same_out`: whether two calls, or two answers, are equal (`same_step`, `same_answer`).
@@ -28,5 +29,5 @@ pub use fault::NodeFault;
 pub use out::Out;
 pub use refusal::{Answer, Refusal, one_share, three_shares};
 pub use same::{same_answer, same_step};
-pub use shares::{Names, Shares};
+pub use shares::{Shares, Subjects};
 pub use step::Step;

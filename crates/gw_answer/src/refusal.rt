@@ -6,7 +6,7 @@ ghost use Rattle.gw_answer.specs.declared.refusal.Refusal.TheVariants.{Memory};
 
 use super::fault::NodeFault;
 use super::out::Out;
-use super::shares::{Names, Shares};
+use super::shares::{Shares, Subjects};
 use jr_journal::JournalFault;
 use octets::NoMemory;
 use sn_frame::FrameFault;
@@ -25,8 +25,8 @@ pub enum Refusal {
     Halted,
     /// The disk of the journal failed, and this is answered.
     Disk { excuse: Shares },
-    /// The delta contradicts what was taken of the client.
-    Conflict { client: Names },
+    /// The delta contradicts what was taken of the client or the topic.
+    Conflict { of: Subjects },
     /// More would be held than may be, or the operations make no delta.
     Full,
     /// A number is at its last value.
@@ -89,9 +89,7 @@ impl Refusal {
             Refusal::Disk { excuse } => NodeFault::Disk {
                 out: excuse.into_one(),
             },
-            Refusal::Conflict { client } => NodeFault::Conflict {
-                client: client.into_one(),
-            },
+            Refusal::Conflict { of } => NodeFault::Conflict { of: of.into_one() },
             Refusal::Full => NodeFault::Full,
             Refusal::Exhausted => NodeFault::Exhausted,
             Refusal::Journal { fault } => NodeFault::Journal { fault },
@@ -124,12 +122,12 @@ impl Refusal {
                     NodeFault::Disk { out: third },
                 )
             }
-            Refusal::Conflict { client } => {
-                let (first, second, third) = client.into_three();
+            Refusal::Conflict { of } => {
+                let (first, second, third) = of.into_three();
                 (
-                    NodeFault::Conflict { client: first },
-                    NodeFault::Conflict { client: second },
-                    NodeFault::Conflict { client: third },
+                    NodeFault::Conflict { of: first },
+                    NodeFault::Conflict { of: second },
+                    NodeFault::Conflict { of: third },
                 )
             }
             Refusal::Full => (NodeFault::Full, NodeFault::Full, NodeFault::Full),

@@ -9,7 +9,7 @@ use super::refusal::Answer;
 use super::same_out::{same_digest, same_out};
 use super::step::Step;
 use jr_journal::JournalFault;
-use rep_same::{same_client, same_delta};
+use rep_same::{same_client, same_delta, same_subject};
 use sn_frame::FrameFault;
 use sn_local::Addr;
 
@@ -73,7 +73,7 @@ fn same_fault(a: &NodeFault, b: &NodeFault) -> bool
         (NodeFault::Frame { fault: x }, NodeFault::Frame { fault: y }) => same_frame_fault(x, y),
         (NodeFault::Halted, NodeFault::Halted) => true,
         (NodeFault::Disk { out: x }, NodeFault::Disk { out: y }) => same_out(x, y),
-        (NodeFault::Conflict { client: x }, NodeFault::Conflict { client: y }) => same_client(x, y),
+        (NodeFault::Conflict { of: x }, NodeFault::Conflict { of: y }) => same_subject(x, y),
         (NodeFault::Full, NodeFault::Full) => true,
         (NodeFault::Exhausted, NodeFault::Exhausted) => true,
         (NodeFault::Journal { fault: x }, NodeFault::Journal { fault: y }) => {

@@ -3,10 +3,10 @@
 ghost use Rattle.std.specs.Prelude.{◌≡◌, ◌↔◌, IsTrue};
 
 use super::out::Out;
-use rep_digest::{ClientEntry, Digest, OriginEntry};
+use rep_digest::{ClientEntry, Digest, OriginEntry, RetainedEntry};
 use rep_ops::Delta;
 use rep_same::rep_model::ClientView;
-use rep_same::{same_client, same_delta, same_deltas, same_view};
+use rep_same::{same_client, same_delta, same_deltas, same_topic, same_view};
 use sn_local::Send;
 
 /// Whether two lists of ranges are equal.
@@ -76,11 +76,34 @@ fn same_entries(a: &[ClientEntry], b: &[ClientEntry]) -> bool
     left.is_empty() && right.is_empty()
 }
 
+/// Whether two digests say the same of a topic.
+fn same_retained(a: &RetainedEntry, b: &RetainedEntry) -> bool
+    ensures { IsTrue result ↔ (a.now ≡ b.now) }
+{
+    same_topic(&a.topic, &b.topic) && a.clock == b.clock && a.gateway == b.gateway
+}
+
+/// Whether two lists of entries of topics are equal.
+fn same_topics(a: &[RetainedEntry], b: &[RetainedEntry]) -> bool
+    ensures { IsTrue result ↔ (a.now ≡ b.now) }
+{
+    let mut left = a;
+    let mut right = b;
+    'entries: while let (Some((x, xs)), Some((y, ys))) = (left.split_first(), right.split_first()) {
+        if !same_retained(x, y) {
+            return false;
+        }
+        left = xs;
+        right = ys;
+    }
+    left.is_empty() && right.is_empty()
+}
+
 /// Whether two digests are equal.
 pub(crate) fn same_digest(a: &Digest, b: &Digest) -> bool
     ensures { IsTrue result ↔ (a.now ≡ b.now) }
 {
-    same_entries(a.entries(), b.entries())
+    same_entries(a.clients(), b.clients()) && same_topics(a.topics(), b.topics())
 }
 
 /// Whether two datagrams that are to be sent are equal.

@@ -6,7 +6,7 @@ ghost use Rattle.gw_answer.specs.declared.out.Out.{Out};
 
 use super::out::Out;
 use octets::NoMemory;
-use rep_ops::ClientId;
+use rep_ops::Subject;
 use std::alloc::{AllocError, Global};
 use std::marker::Model;
 use std::sync::Arc;
@@ -72,48 +72,49 @@ impl Shares {
     }
 }
 
-/// Three copies of a client's name. Contracts see the name.
+/// Three copies of the client or the topic that a refusal is about. Contracts see one.
 #[derive(Drop)]
-pub struct Names {
+pub struct Subjects {
     /// One copy.
-    pub first: ClientId,
+    pub first: Subject,
     /// Another.
-    pub second: ClientId,
+    pub second: Subject,
     /// And another.
-    pub third: ClientId,
+    pub third: Subject,
 }
 
-impl Model for Names {
-    ghost use Rattle.std.specs.Prelude.{◌≡◌, ℕ, List};
+impl Model for Subjects {
+    ghost use Rattle.std.specs.Prelude.{◌≡◌};
+    ghost use Rattle.rep_op.specs.declared.op.Subject.{Subject};
 
-    ghost Value = { List ℕ };
+    ghost Value = { Subject };
 
     ghost view = { λ n. n.first };
 
     ghost invariant = { λ n. (n.second ≡ n.first) × (n.third ≡ n.first) };
 }
 
-impl Names {
-    /// Copies of a name.
-    pub fn new(alloc: Global, client: ClientId) -> Result<Names, NoMemory>
-        ensures { IfOk result (λ names. names ≡ client) }
+impl Subjects {
+    /// Copies of one.
+    pub fn new(alloc: Global, of: Subject) -> Result<Subjects, NoMemory>
+        ensures { IfOk result (λ subjects. subjects ≡ of) }
     {
-        Ok(Names {
-            second: client.copied(alloc)?,
-            third: client.copied(alloc)?,
-            first: client,
+        Ok(Subjects {
+            second: of.copied(alloc)?,
+            third: of.copied(alloc)?,
+            first: of,
         })
     }
 
     /// One of them.
-    pub fn into_one(self) -> ClientId
+    pub fn into_one(self) -> Subject
         ensures { result ≡ self }
     {
         self.first
     }
 
     /// All of them.
-    pub fn into_three(self) -> (ClientId, ClientId, ClientId)
+    pub fn into_three(self) -> (Subject, Subject, Subject)
         ensures first { result.0 ≡ self }
         ensures second { result.1 ≡ self }
         ensures third { result.2 ≡ self }

@@ -74,8 +74,7 @@ torn_base plan gateway base drive = record drive {
   plan = None;
 }
 
--- a failure is arranged, instead of one that was: the next append stops after so many bytes, or its
--- sync fails
+-- a failure is arranged, and no other: the next append stops after so many bytes, or in its sync
 abbrev pub arranged : ℕ → Bool → Drive → Drive
 arranged bytes sync drive = record drive { plan = Some (if sync then KeepBack else Stop bytes) }
 

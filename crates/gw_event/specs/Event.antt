@@ -2,17 +2,17 @@
 -- if it makes one. What is made or taken is in the journal then. If the disk fails, the gateway is
 -- halted: it refuses everything that would change it, until it is opened again.
 use Rattle.std.specs.Prelude.{◌≡◌, ◌≢◌, ◌⊎◌, ◌<◌, ℕ, true, false, length, if◌then◌else◌, List, [], ◌∷◌, ◌++◌, Option, Some, None, Result, Ok, Err, Contains}
+use Rattle.rep_op.specs.declared.op.Subject.{Subject}
 use Rattle.rep_op.specs.declared.op.Op.{Op}
-use Rattle.rep_op.specs.declared.op.Op.TheVariants.{Session as OfSession, Put as OfPut}
+use Rattle.rep_op.specs.declared.op.Op.TheVariants.{Session as OfSession, Put as OfPut, Retain as OfRetain}
 use Rattle.rep_op.specs.declared.fault.OpsFault.{OpsFault}
 use Rattle.rep_op.specs.declared.fault.OpsFault.TheVariants as ops_faults
-use Rattle.rep_op.specs.Orders.{client_of}
+use Rattle.rep_op.specs.Orders.{subject_of}
 use Rattle.rep_op.specs.Values.{AreValues}
 use Rattle.rep_ops.specs.Making.{AreApart, IsDeltaOf, IsRefusal}
 use Rattle.rep_ops.specs.Spelling.{max_octets, IsWithinLimit}
-use Rattle.rep_digest.specs.declared.entry.ClientEntry.{ClientEntry}
 use Rattle.rep_answer.specs.Answers.{IsAnswer}
-use Rattle.rep_digest.specs.Digests.{digest}
+use Rattle.rep_digest.specs.Digests.{Digested, digest}
 use Rattle.rep_digest.specs.Spelling.{spelling, IsWithinLimit as IsDigestWithinLimit}
 use Rattle.rep_model.specs.declared.fault.Limit.{Limit}
 use Rattle.rep_model.specs.Keep.{keep}
@@ -38,19 +38,21 @@ use Rattle.gw_event.specs.Occasions.{Occasion, Datagram, Clock, IsPlanOf, IsNoFr
 use Rattle.gw_answer.specs.Answers.{only_sends}
 use Rattle.gw_event.specs.Excuses.{IsExcuse}
 
--- two operations have one name: session operations, or messages; acknowledgements contradict
--- nothing
+-- two operations have one name: session operations, messages, or what is retained;
+-- acknowledgements contradict nothing
 abbrev pub HaveName : Op → Op → Type 0
 HaveName (OfSession c s i o) (OfSession d t j p) = (c ≡ d) × (s ≡ t) × (i ≡ j)
 HaveName (OfPut c p) (OfPut d q) = (c ≡ d) × (p.origin ≡ q.origin) × (p.seq ≡ q.seq)
+HaveName (OfRetain t k) (OfRetain u l) =
+    (t ≡ u) × (k.clock ≡ l.clock) × (k.gateway ≡ l.gateway)
 HaveName a b = ⊥
 
--- the delta contradicts the set: an operation of the client in it differs from one in the set that
--- has its name
-pub record IsConflict (taken delta : List Op) (client : List ℕ) : Type 0 where
+-- the delta contradicts the set: an operation in it on this client or topic differs from one in the
+-- set that has its name
+pub record IsConflict (taken delta : List Op) (of : Subject) : Type 0 where
   pub new : Op
   pub is_new : Contains delta new
-  pub is_of : client_of new ≡ client
+  pub is_of : subject_of new ≡ of
   pub old : Op
   pub is_old : Contains taken old
   pub named : HaveName old new
@@ -64,7 +66,7 @@ pub record IsTakable (taken delta : List Op) : Type 0 where
 -- The gateway refuses the delta. Conflict: it contradicts the set. Full: nothing that must be kept
 -- contradicts it, and both together pass a limit.
 abbrev pub IsRefused : List Op → List Op → Refusal → Type 0
-IsRefused taken delta (refusals.Conflict client) = IsConflict taken delta client
+IsRefused taken delta (refusals.Conflict of) = IsConflict taken delta of
 IsRefused taken delta refusals.Full =
     AllAgree (keep taken) delta × ((limit : Limit) × (first_passed (taken ++ delta) ≡ Some limit))
 IsRefused taken delta fault = ⊥
@@ -102,8 +104,7 @@ IsCarriedOut old plan out new made =
     (out ≡ record (only_sends plan.sends) { made = out.made })
     × IsMade plan.ops old plan out.made new made × AreApart plan.ops
 
--- the plan for the occasion, by what the gateway has taken; none if it needs a number after the
--- last
+-- the plan for the occasion, by what the gateway has taken; none if a number is after the last
 abbrev pub IsPlan : Gateway → Occasion → ℕ → Option Plan → Type 0
 IsPlan old occasion now plan = IsPlanOf old.config (seen_of old.taken) old.local occasion now plan
 
@@ -126,8 +127,7 @@ pub record IsTorn (old : Gateway) (delta : List Op) (new : Gateway)
   pub halted : new ≡ record old { refused = delta; drive = torn failure delta old.drive }
   pub none : made ≡ []
 
--- The plan was not carried out, because the disk failed; the excuse is sent instead of what it
--- says.
+-- The plan was not carried out: the disk failed, and the excuse is sent instead of what it says.
 pub record IsDropped (old : Gateway) (occasion : Occasion) (plan : Plan) (excuse : Out)
     (new : Gateway) (made : List (List Op)) : Type 0 where
   pub some : plan.ops ≢ []
@@ -150,9 +150,9 @@ OwnStep old occasion now (Err (refusals.Frame fault)) new made =
     IsNoFrame occasion fault × NothingHappens old new made × (old.drive.halted ≡ false)
 OwnStep old occasion now (Err refusals.Exhausted) new made =
     IsPlan old occasion now None × NothingHappens old new made × (old.drive.halted ≡ false)
-OwnStep old occasion now (Err (refusals.Conflict client)) new made =
+OwnStep old occasion now (Err (refusals.Conflict of)) new made =
     (plan : Plan) × IsPlan old occasion now (Some plan)
-    × IsTooMuch old plan (refusals.Conflict client) × NothingHappens old new made
+    × IsTooMuch old plan (refusals.Conflict of) × NothingHappens old new made
     × (old.drive.halted ≡ false)
 OwnStep old occasion now (Err refusals.Full) new made =
     (plan : Plan) × IsPlan old occasion now (Some plan)
@@ -177,8 +177,8 @@ TakeStep old delta (Ok out) new made =
       drive = noted delta old.drive;
     })
     × GoesOut delta old.drive × (old.drive.halted ≡ false)
-TakeStep old delta (Err (refusals.Conflict client)) new made =
-    IsRefused old.taken delta (refusals.Conflict client) × NothingHappens old new made
+TakeStep old delta (Err (refusals.Conflict of)) new made =
+    IsRefused old.taken delta (refusals.Conflict of) × NothingHappens old new made
     × (old.drive.halted ≡ false)
 TakeStep old delta (Err refusals.Full) new made =
     IsRefused old.taken delta refusals.Full × NothingHappens old new made
@@ -212,7 +212,7 @@ CompactStep old (Err (refusals.Disk excuse)) new =
     × (old.drive.plan ≡ Some failure)
     × (new ≡ record old { drive = torn_base failure old.config.gateway base old.drive }))
     × (old.drive.halted ≡ false)
-CompactStep old (Err (refusals.Conflict client)) new = ⊥
+CompactStep old (Err (refusals.Conflict of)) new = ⊥
 CompactStep old (Err refusals.Full) new = ⊥
 CompactStep old (Err refusals.Exhausted) new = ⊥
 CompactStep old (Err refusals.Memory) new = ⊥
@@ -238,7 +238,7 @@ DigestStep old (Err refusals.Full) new =
 DigestStep old (Err refusal) new = ⊥
 
 -- A gateway asks for what its digest does not cover of what must be kept of the set.
-abbrev pub ReplyStep : Gateway → List ClientEntry → Result Out Refusal → Gateway → Type 0
+abbrev pub ReplyStep : Gateway → Digested → Result Out Refusal → Gateway → Type 0
 ReplyStep old asked (Ok out) new =
     IsAnswer asked old.taken out.answer × (out ≡ record (only_sends []) { answer = out.answer })
     × (new ≡ old)

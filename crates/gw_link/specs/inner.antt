@@ -1,2 +1,3 @@
 -- What proofs stand on and no public clause cites.
 pub mod Calling
+pub mod Weights

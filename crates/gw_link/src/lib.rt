@@ -20,7 +20,7 @@
 //!
 //! The definitions are in `specs/`: `Adding` (what a thread adds to its pass: calls of its own kind
 //! and nothing else), `Calling` (why a call may not reach the gateway, and which refusal says that
-//! the gateway is halted).
+//! the gateway is halted), `Weights` (as how many octets an operation counts).
 #![tactic(auto)]
 
 mod calling;

@@ -1,5 +1,8 @@
 //! What all links of a gateway share: what is handed on from one to the others, and who is linked.
 
+ghost use Rattle.std.specs.Prelude.{◌≡◌};
+ghost use Rattle.gw_link.specs.inner.Weights as spec;
+
 use crate::calling::End;
 use crate::trouble::{Report, Tally, Trouble, count_one, report_of};
 use gw_relay::{
@@ -410,18 +413,27 @@ fn note_all(alloc: Global, board: &mut Board, ops: &[Op]) {
 pub(crate) fn weight(ops: &[Op]) -> usize {
     let mut octets = 0usize;
     for op in ops {
-        octets = octets.saturating_add(match op {
-            Op::Put { put, .. } => put.body.len().saturating_add(128),
-            _ => 128,
-        });
+        octets = octets.saturating_add(weight_of_operation(op));
     }
     octets
 }
 
+/// Some measure of the octets of an operation: what is in it of a message, and some for the rest.
+fn weight_of_operation(op: &Op) -> usize
+    ensures { result ≡ spec.weight_of op.now }
+{
+    match op {
+        Op::Session { .. } => 128,
+        Op::Put { put, .. } => put.body.len() + 128,
+        Op::Ack { .. } => 128,
+        Op::Retain { retained, .. } => retained.body.len() + 384,
+    }
+}
+
 /// Some measure of the octets of a digest.
 pub(crate) fn weight_of_digest(digest: &Digest) -> usize {
-    let mut octets = 0usize;
-    for entry in digest.entries() {
+    let mut octets = digest.topics().len().saturating_mul(128);
+    for entry in digest.clients() {
         octets = octets.saturating_add(weight_of_entry(entry));
     }
     octets

@@ -53,7 +53,7 @@ fn say_hello<S: Drop>(alloc: Global, link: &mut Link<S>, gateway: u8) -> Result<
 fn equal(alloc: Global, digest: &Digest) -> Result<Digest, NoMemory>
     ensures { IfOk result (λ made. made ≡ digest.now) }
 {
-    let _entries = digest.entries();
+    let _entries = digest.clients();
     let mut octets = Vec::new(alloc);
     digest.append_to(&mut octets)?;
     match Digest::decode(alloc, octets.as_slice()) {

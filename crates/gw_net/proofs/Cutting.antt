@@ -4,8 +4,8 @@ use Rattle.std.specs.Int.{w32, to_be_bytes}
 use Rattle.std.proofs.lemmas.Bool.{le-ltb, lt-ltb}
 use Rattle.std.proofs.lemmas.List.{length-append}
 use Rattle.rep_op.specs.declared.fault.OpsFault.{OpsFault}
-use Rattle.rep_octets.specs.Reading.{number_at}
-use Rattle.rep_octets.proofs.Laws.{extended, number_law, wide32, ok_is}
+use Rattle.rep_read.specs.Reading.{number_at}
+use Rattle.rep_read.proofs.Laws.{extended, number_law, wide32, ok_is}
 use Rattle.rep_ops.specs.Spelling.{max_octets}
 use Rattle.gw_net.specs.declared.fault.LinkFault.TheVariants as faults
 use Rattle.gw_net.specs.declared.message.LinkMessage.{LinkMessage}

@@ -10,11 +10,11 @@ use Rattle.byteorder.specs.Endian.{big_bytes}
 use Rattle.rep_op.specs.declared.fault.OpsFault.{OpsFault}
 use Rattle.rep_op.specs.declared.op.Op.{Op}
 use Rattle.rep_ops.specs.Reading.{AreOctets, reading as delta_reading}
-use Rattle.rep_octets.specs.Reading.{number_at}
+use Rattle.rep_read.specs.Reading.{number_at}
 use Rattle.rep_ops.specs.Spelling.{max_octets}
-use Rattle.rep_octets.proofs.Laws.{IsBytes, Taken, number_law, wide32}
+use Rattle.rep_read.proofs.Laws.{IsBytes, Taken, number_law, wide32}
 use Rattle.rep_ops.proofs.Format.{read_spelled as delta_spelled}
-use Rattle.rep_digest.specs.declared.entry.ClientEntry.{ClientEntry}
+use Rattle.rep_digest.specs.Digests.{Digested}
 use Rattle.rep_digest.specs.Reading.{reading as digest_reading}
 use Rattle.rep_digest.proofs.Format.{read_spelled as digest_spelled}
 use Rattle.gw_net.specs.declared.fault.LinkFault.{LinkFault}
@@ -54,7 +54,7 @@ hello_body (g ∷ []) m octets e =
       | false ↦ λ _ s. absurd (none_some m s)
     ] refl e
 
-digest_body : (body : List ℕ) (m : LinkMessage) (r : Result (List ClientEntry) OpsFault) → digest_reading body ≡ r → AreOctets body → read_or_none (λ d. OfDigest d) r ≡ Some m → IsBodyOf 2 body m
+digest_body : (body : List ℕ) (m : LinkMessage) (r : Result Digested OpsFault) → digest_reading body ≡ r → AreOctets body → read_or_none (λ d. OfDigest d) r ≡ Some m → IsBodyOf 2 body m
 digest_body body m (Err f) is octets e = absurd (none_some m e)
 digest_body body m (Ok d) is octets e =
     let s = digest_spelled body d octets is in

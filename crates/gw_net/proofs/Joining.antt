@@ -7,10 +7,10 @@ use Rattle.std.proofs.lemmas.Bool.{le-ltb}
 use Rattle.std.proofs.lemmas.List.{length-append, take_at, drop_at}
 use Rattle.std.proofs.lemmas.Grind.{flat_map-append}
 use Rattle.rep_op.specs.declared.fault.OpsFault.{OpsFault}
-use Rattle.rep_octets.specs.Reading.{number_at}
+use Rattle.rep_read.specs.Reading.{number_at}
 use Rattle.rep_ops.specs.Reading.{reading as delta_reading}
 use Rattle.rep_ops.specs.Spelling.{max_octets, spelling as delta_spelling}
-use Rattle.rep_octets.proofs.Laws.{number_law, wide32}
+use Rattle.rep_read.proofs.Laws.{number_law, wide32}
 use Rattle.rep_ops.proofs.Format.{read_again as delta_again}
 use Rattle.rep_digest.specs.Reading.{reading as digest_reading}
 use Rattle.rep_digest.specs.Spelling.{spelling as digest_spelling}

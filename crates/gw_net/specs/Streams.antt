@@ -3,7 +3,7 @@ use Rattle.std.specs.Prelude.{◌≡◌, ℕ, ◌&&◌, if◌then◌else◌, nat
 use Rattle.std.specs.Int.{w32}
 use Rattle.std.specs.List.{flat_map, AllByRecursion}
 use Rattle.rep_op.specs.declared.fault.OpsFault.{OpsFault}
-use Rattle.rep_octets.specs.Reading.{number_at}
+use Rattle.rep_read.specs.Reading.{number_at}
 use Rattle.rep_ops.specs.Spelling.{max_octets}
 use Rattle.gw_net.specs.declared.fault.LinkFault.{LinkFault}
 use Rattle.gw_net.specs.declared.fault.LinkFault.TheVariants as faults

@@ -2,7 +2,7 @@
 
 ghost use Rattle.std.specs.Prelude.{◌≡◌, Ok, Err, MatchOption};
 ghost use Rattle.std.specs.Int.{w32};
-ghost use Rattle.rep_octets.specs.Reading.{number_at};
+ghost use Rattle.rep_read.specs.Reading.{number_at};
 ghost use Rattle.rep_ops.specs.Reading as reading;
 ghost use Rattle.rep_digest.specs.Reading as digests;
 ghost use Rattle.gw_net.specs.declared.message.LinkMessage.TheVariants.{Digest as OfDigest, Delta as OfDelta};

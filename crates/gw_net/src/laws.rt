@@ -3,7 +3,7 @@
 ghost use Rattle.std.specs.Prelude.{◌≡◌, ◌≢◌, ◌≤◌, ◌++◌, ℕ, List, [], length, Option, None, Err};
 ghost use Rattle.rep_op.specs.declared.fault.OpsFault.TheVariants as faults;
 ghost use Rattle.rep_ops.specs.Spelling.{max_octets};
-ghost use Rattle.rep_digest.specs.declared.entry.ClientEntry.{ClientEntry};
+ghost use Rattle.rep_digest.specs.Digests.{Digested};
 ghost use Rattle.rep_digest.specs.WellMade.{IsDigest};
 ghost use Rattle.rep_digest.specs.Spelling.{spelling as digest_spelling, IsWithinLimit};
 ghost use Rattle.rep_digest.specs.Reading.{reading as digest_reading};
@@ -29,15 +29,15 @@ pub fn one_stream()
 /// No spelling of a digest begins another.
 pub fn no_digest_begins_another()
     // If two spellings begin the same octets, the digests are the same, and so is what comes after.
-    ensures free { (d e : List ClientEntry) (x y : List ℕ) → IsDigest d → IsWithinLimit d
+    ensures free { (d e : Digested) (x y : List ℕ) → IsDigest d → IsWithinLimit d
         → IsDigest e → IsWithinLimit e → digest_spelling d ++ x ≡ digest_spelling e ++ y
         → (d ≡ e) × (x ≡ y) }
     // A spelling that is cut off anywhere is refused as Truncated.
-    ensures cut { (d : List ClientEntry) (front rest : List ℕ) → IsDigest d → IsWithinLimit d
+    ensures cut { (d : Digested) (front rest : List ℕ) → IsDigest d → IsWithinLimit d
         → digest_spelling d ≡ front ++ rest → rest ≢ []
         → digest_reading front ≡ Err faults.Truncated }
     // A spelling with octets after it is refused as Trailing.
-    ensures more { (d : List ClientEntry) (rest : List ℕ) → IsDigest d → rest ≢ []
+    ensures more { (d : Digested) (rest : List ℕ) → IsDigest d → rest ≢ []
         → length (digest_spelling d ++ rest) ≤ max_octets
         → digest_reading (digest_spelling d ++ rest) ≡ Err faults.Trailing }
 {}

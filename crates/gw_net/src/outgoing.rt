@@ -46,7 +46,7 @@ fn is_short(message: &LinkMessage)
     match message {
         LinkMessage::Hello(_) => {}
         LinkMessage::Digest(digest) => {
-            let _entries = digest.entries();
+            let _entries = digest.clients();
         }
         LinkMessage::Delta(delta) => {
             let _ops = delta.ops();

@@ -5,16 +5,18 @@ use Rattle.sn_session.specs.declared.change.SessionOp.{SessionOp}
 use Rattle.rep_op.specs.declared.op.Stamp.{Stamp}
 use Rattle.rep_op.specs.declared.op.Put.{Put}
 use Rattle.rep_op.specs.declared.op.Op.{Op}
-use Rattle.rep_op.specs.declared.op.Op.TheVariants.{Session as OfSession, Put as OfPut, Ack}
-use Rattle.rep_op.specs.Orders.{operation_cmp, put_cmp}
-use Rattle.rep_op.specs.Sets.{same_client, operation_of, operation_at, put_of, put_at, is_acknowledged, Agrees, Within, Same}
+use Rattle.rep_op.specs.declared.op.Op.TheVariants.{Session as OfSession, Put as OfPut, Ack, Retain as OfRetain}
+use Rattle.rep_op.specs.declared.op.Retained.{Retained}
+use Rattle.rep_op.specs.Orders.{operation_cmp, put_cmp, clock_of, clock_cmp}
+use Rattle.rep_op.specs.Sets.{same_client, same_topic, operation_of, operation_at, put_of, put_at, is_acknowledged, retain_of, retain_at, Agrees, Within, Same}
 use Rattle.rep_ops.specs.Splitting.{all_of}
 use Rattle.rep_ops.proofs.Splitting.{all_of_more}
 use Rattle.rep_model.specs.Views.{visible}
-use Rattle.rep_model.specs.Keep.{is_below, keep, CountsAs}
+use Rattle.rep_model.specs.Topics.{latest}
+use Rattle.rep_model.specs.Keep.{is_below, is_outdone, keep, CountsAs}
 use Rattle.rep_model.specs.Taking.{AllAgree}
 use Rattle.rep_model.proofs.Lookup.{or_else, find-all}
-use Rattle.rep_model.proofs.Readers.{operation_exact, put_exact, same_client-true, operation_at_both, put_at_both, is_acknowledged_both, operation_at_keep, put_at_keep, is_acknowledged_keep}
+use Rattle.rep_model.proofs.Readers.{operation_exact, put_exact, clock_exact, same_client-true, same_topic-true, operation_at_both, put_at_both, is_acknowledged_both, retain_at_both, operation_at_keep, put_at_keep, is_acknowledged_keep, retain_at_keep}
 use Rattle.rep_model.proofs.Thin.{thin-keep, thin-right}
 use Rattle.rep_model.proofs.Joins.{all-weaker, counts-between, same_trans, within-left}
 use Rattle.gw_node.specs.Taking.{IsBetween}
@@ -69,6 +71,7 @@ module _ (S : List Op) (c : List ℕ) where
       ] refl
   agreed_operation (OfPut d put) h = tt
   agreed_operation (Ack d origin first last) h = tt
+  agreed_operation (OfRetain t k) h = tt
 
   agreed_put : (op : Op) → Agrees S op → IfSome (put_of c op) (λ e. IfSome (put_at c S e.0) (λ kept. kept ≡ e.1))
   agreed_put (OfSession d stamp counter change) h = tt
@@ -78,12 +81,27 @@ module _ (S : List Op) (c : List ℕ) where
         | false ↦ λ _. tt
       ] refl
   agreed_put (Ack d origin first last) h = tt
+  agreed_put (OfRetain t k) h = tt
+
+  -- of the topic c
+  agreed_retain : (op : Op) → Agrees S op → IfSome (retain_of c op) (λ e. IfSome (retain_at c S e.0) (λ kept. kept ≡ e.1))
+  agreed_retain (OfSession d stamp counter change) h = tt
+  agreed_retain (OfPut d put) h = tt
+  agreed_retain (Ack d origin first last) h = tt
+  agreed_retain (OfRetain t k) h =
+      elim (same_topic c t) as (λ b. same_topic c t ≡ b → IfSome {T = (ℕ × ℕ) × Retained} (if b then Some (clock_of k, k) else None) (λ e. IfSome (retain_at c S e.0) (λ kept. kept ≡ e.1))) [
+        | true ↦ λ e. subst (λ (x : List ℕ). IfSome (retain_at x S (clock_of k)) (λ kept. kept ≡ k)) (sym (same_topic-true c t e)) h
+        | false ↦ λ _. tt
+      ] refl
 
   agreed_operations : (D : List Op) → AllAgree S D → (name : Stamp × ℕ) → IfSome (operation_at c D name) (λ x. IfSome (operation_at c S name) (λ kept. kept ≡ x))
   agreed_operations D all name = find-all operation_cmp operation_exact (operation_of c) (λ k x. IfSome (operation_at c S k) (λ kept. kept ≡ x)) D (all-weaker (Agrees S) _ agreed_operation D all) name
 
   agreed_puts : (D : List Op) → AllAgree S D → (name : ℕ × ℕ) → IfSome (put_at c D name) (λ x. IfSome (put_at c S name) (λ kept. kept ≡ x))
   agreed_puts D all name = find-all put_cmp put_exact (put_of c) (λ k x. IfSome (put_at c S k) (λ kept. kept ≡ x)) D (all-weaker (Agrees S) _ agreed_put D all) name
+
+  agreed_retains : (D : List Op) → AllAgree S D → (name : ℕ × ℕ) → IfSome (retain_at c D name) (λ x. IfSome (retain_at c S name) (λ kept. kept ≡ x))
+  agreed_retains D all name = find-all clock_cmp clock_exact (retain_of c) (λ k x. IfSome (retain_at c S k) (λ kept. kept ≡ x)) D (all-weaker (Agrees S) _ agreed_retain D all) name
 
 -- ---- one more delta
 
@@ -107,6 +125,12 @@ module _ (S J D : List Op) where
         ∙ either (is_acknowledged c S name) (is_acknowledged c D name) (is_acknowledged c J name) (is_acknowledged c D name)
         (λ h. lower.acknowledgements_in c name (is_acknowledged_keep c S name ∙ h)) (λ h. h)
         (sym (is_acknowledged_both c S D name) ∙ sym (is_acknowledged_keep c (S ++ D) name) ∙ e);
+    retains_in = λ t name x e.
+        let w = there (is_outdone name (latest t (S ++ D))) (retain_at t (S ++ D) name) x (sym (retain_at_keep t (S ++ D) name) ∙ e) in
+        let thin = (thin-right (keep S) S (thin-keep S) D).retains_same t name w.0 in
+        retain_at_both t J D name
+        ∙ behind_both (retain_at t (keep S) name) (retain_at t J name) (retain_at t S name) (retain_at t D name) x (lower.retains_in t name) (upper.retains_in t name)
+        (sym (retain_at_both t (keep S) D name) ∙ thin ∙ w.1) (sym (retain_at_both t S D name) ∙ w.1);
   }
 
   pub upper-join : Within J S → AllAgree S D → Within (J ++ D) (S ++ D)
@@ -121,6 +145,9 @@ module _ (S J D : List Op) where
         is_acknowledged_both c S D name
         ∙ either (is_acknowledged c J name) (is_acknowledged c D name) (is_acknowledged c S name) (is_acknowledged c D name) (upper.acknowledgements_in c name) (λ h. h)
         (sym (is_acknowledged_both c J D name) ∙ e);
+    retains_in = λ t name x e.
+        retain_at_both t S D name
+        ∙ behind_agreed (retain_at t J name) (retain_at t S name) (retain_at t D name) x (upper.retains_in t name) (agreed_retains S t D all name) (sym (retain_at_both t J D name) ∙ e);
   }
 
 -- ---- what a journal gives back is taken once more
@@ -139,6 +166,10 @@ module _ (S J : List Op) where
     acknowledgements_in = λ c name e.
         once (is_acknowledged c S name) (is_acknowledged c J name) (λ h. lower.acknowledgements_in c name (is_acknowledged_keep c S name ∙ h))
         (sym (is_acknowledged_both c S J name) ∙ sym (is_acknowledged_keep c (S ++ J) name) ∙ e);
+    retains_in = λ t name x e.
+        let w = there (is_outdone name (latest t (S ++ J))) (retain_at t (S ++ J) name) x (sym (retain_at_keep t (S ++ J) name) ∙ e) in
+        let thin = (thin-right (keep S) S (thin-keep S) J).retains_same t name w.0 in
+        second_has (retain_at t (keep S) name) (retain_at t J name) x (lower.retains_in t name) (sym (retain_at_both t (keep S) J name) ∙ thin ∙ w.1);
   }
     where
       once : (a b : Bool) → (a ≡ true → b ≡ true) → (a || b) ≡ true → b ≡ true
@@ -154,6 +185,9 @@ module _ (S J : List Op) where
         put_at_both c S J name
         ∙ first_or_second (put_at c S name) (put_at c refused name) (put_at c J name) x e (sym (put_at_both c S refused name) ∙ upper.puts_in c name x e);
     acknowledgements_in = λ c name e. is_acknowledged_both c S J name ∙ or_last (is_acknowledged c S name) (is_acknowledged c J name) e;
+    retains_in = λ t name x e.
+        retain_at_both t S J name
+        ∙ first_or_second (retain_at t S name) (retain_at t refused name) (retain_at t J name) x e (sym (retain_at_both t S refused name) ∙ upper.retains_in t name x e);
   }
     where
       or_last : (a b : Bool) → b ≡ true → (a || b) ≡ true
@@ -167,6 +201,7 @@ within-trans A B C f g = record {
   operations_in = λ c name x e. g.operations_in c name x (f.operations_in c name x e);
   puts_in = λ c name x e. g.puts_in c name x (f.puts_in c name x e);
   acknowledgements_in = λ c name e. g.acknowledgements_in c name (f.acknowledgements_in c name e);
+  retains_in = λ t name x e. g.retains_in t name x (f.retains_in t name x e);
 }
 
 pub within-same : (A B : List Op) → Same A B → Within A B
@@ -174,6 +209,7 @@ within-same A B s = record {
   operations_in = λ c name x e. sym (s.operations_same c name) ∙ e;
   puts_in = λ c name x e. sym (s.puts_same c name) ∙ e;
   acknowledgements_in = λ c name e. sym (s.acknowledgements_same c name) ∙ e;
+  retains_in = λ t name x e. sym (s.retains_same t name) ∙ e;
 }
 
 pub within-keep : (S : List Op) → Within (keep S) S
@@ -181,6 +217,7 @@ within-keep S = record {
   operations_in = λ c name x e. (there (is_below name.0 (visible c S)) (operation_at c S name) x (sym (operation_at_keep c S name) ∙ e)).1;
   puts_in = λ c name x e. (there (is_acknowledged c S name) (put_at c S name) x (sym (put_at_keep c S name) ∙ e)).1;
   acknowledgements_in = λ c name e. sym (is_acknowledged_keep c S name) ∙ e;
+  retains_in = λ t name x e. (there (is_outdone name (latest t S)) (retain_at t S name) x (sym (retain_at_keep t S name) ∙ e)).1;
 }
 
 pub within-nothing : (A S : List Op) → Within A (S ++ []) → Within A S

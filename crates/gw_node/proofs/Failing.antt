@@ -1,7 +1,7 @@
 -- The disk failed as often at least as a call was told so, whichever call it was.
 use Rattle.std.proofs.Common.{◌≡◌, ◌+◌, ◌≤◌, ℕ, List, [], ◌∷◌, Option, Some, None, Result, Ok, Err, ap, arith}
 use Rattle.rep_op.specs.declared.op.Op.{Op}
-use Rattle.rep_digest.specs.declared.entry.ClientEntry.{ClientEntry}
+use Rattle.rep_digest.specs.Digests.{Digested}
 use Rattle.jr_disk.specs.declared.disk.Disk.{Ghosts}
 use Rattle.jr_journal.specs.declared.fault.JournalFault.TheVariants as journal_faults
 use Rattle.jr_journal.specs.declared.journal.Journal.{Journal}
@@ -83,7 +83,7 @@ digests old (Err (refusals.Conflict of)) new h = absurd h
 digests old (Err refusals.Exhausted) new h = absurd h
 digests old (Err (refusals.Journal fault)) new h = absurd h
 
-answers : {D : Type 0} {G : Ghosts D} (old : State G) (asked : List ClientEntry) (answer : Result Out Refusal) (new : State G)
+answers : {D : Type 0} {G : Ghosts D} (old : State G) (asked : Digested) (answer : Result Out Refusal) (new : State G)
     → AnswerCall old asked answer new → Fails old.journal (failed answer) new.journal
 answers old asked (Ok out) new h = untouched old.journal new.journal h.2.journal
 answers old asked (Err refusals.Memory) new h = untouched old.journal new.journal h.journal

@@ -2,20 +2,22 @@
 use Rattle.std.proofs.Common.{◌≡◌, ◌⊎◌, List, [], ◌++◌, Option, Some, None, Contains, sym, ◌∙◌, inl, inr, subst}
 use Rattle.std.proofs.lemmas.List.Elements.{Contains-append_left, Contains-append_right}
 use Rattle.rep_op.specs.declared.op.Op.{Op}
-use Rattle.rep_op.specs.declared.op.Op.TheVariants.{Session as OfSession, Put as OfPut}
-use Rattle.rep_op.specs.Sets.{operation_at, put_at}
+use Rattle.rep_op.specs.declared.op.Op.TheVariants.{Session as OfSession, Put as OfPut, Retain as OfRetain}
+use Rattle.rep_op.specs.Orders.{clock_of}
+use Rattle.rep_op.specs.Sets.{operation_at, put_at, retain_at}
 use Rattle.rep_model.specs.Keep.{IsKeptOf}
 use Rattle.rep_model.proofs.Joins.{counts-refl, counts-join}
 use Rattle.rep_model.proofs.Lookup.{or_else}
-use Rattle.rep_model.proofs.Readers.{operation_at_both, put_at_both}
+use Rattle.rep_model.proofs.Readers.{operation_at_both, put_at_both, retain_at_both}
 use Rattle.gw_node.specs.Keeping.{Keeps}
-use Rattle.gw_node.proofs.Occurring.{operation_occurs, put_occurs}
+use Rattle.gw_node.proofs.Occurring.{operation_occurs, put_occurs, retain_occurs}
 
 pub keeps_nothing : Keeps [] []
 keeps_nothing = record {
   counts = counts-refl [];
   operations_taken = λ c name change found. operation_occurs c [] name change found;
   puts_taken = λ c name put found. put_occurs c [] name put found;
+  retains_taken = λ t name last found. retain_occurs t [] name last found;
 }
 
 in_either : {X : Type 0} (a b : Option X) (x : X) → or_else a b ≡ Some x → (a ≡ Some x) ⊎ (b ≡ Some x)
@@ -37,6 +39,12 @@ keeps_more S K D L k h = record {
       elim (in_either (put_at c K name) (put_at c D name) put both) as (λ _. Contains (S ++ D) (OfPut c put) × ((put.seq, put.origin) ≡ name)) [
         | inl e ↦ let p = k.puts_taken c name put e in (Contains-append_left S D _ p.0, p.1)
         | inr e ↦ let p = put_occurs c D name put e in (Contains-append_right S D _ p.0, p.1)
+      ];
+  retains_taken = λ t name last found.
+      let both = sym (retain_at_both t K D name) ∙ h.upper.retains_in t name last found in
+      elim (in_either (retain_at t K name) (retain_at t D name) last both) as (λ _. Contains (S ++ D) (OfRetain t last) × (clock_of last ≡ name)) [
+        | inl e ↦ let p = k.retains_taken t name last e in (Contains-append_left S D _ p.0, p.1)
+        | inr e ↦ let p = retain_occurs t D name last e in (Contains-append_right S D _ p.0, p.1)
       ];
 }
 

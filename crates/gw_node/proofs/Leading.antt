@@ -1,12 +1,12 @@
 -- Each call of a node is an event of the gateway that it stands for.
 use Rattle.std.proofs.Common.{◌≡◌, ◌≢◌, ◌⊎◌, ℕ, ◌+◌, ◌<◌, length, if◌then◌else◌, Bool, true, false, true≢false, inl, inr, List, [], ◌∷◌, ◌++◌, Option, Some, None, Result, Ok, Err, refl, sym, ap, ◌∙◌, subst, append-nil}
 use Rattle.std.specs.Prelude.{IsTrue}
+use Rattle.rep_op.specs.declared.op.Subject.{Subject}
 use Rattle.rep_op.specs.declared.op.Op.{Op}
 use Rattle.rep_ops.specs.Making.{IsDeltaOf}
 use Rattle.rep_ops.specs.Spelling.{max_octets}
 use Rattle.rep_ops.specs.Splitting.{all_of}
-use Rattle.rep_digest.specs.declared.entry.ClientEntry.{ClientEntry}
-use Rattle.rep_digest.specs.Digests.{digest}
+use Rattle.rep_digest.specs.Digests.{Digested, digest}
 use Rattle.rep_digest.specs.Spelling.{spelling, IsWithinLimit as IsDigestWithinLimit}
 use Rattle.rep_digest.proofs.Counted.{same_digest}
 use Rattle.rep_answer.proofs.Completing.{same_answer}
@@ -68,7 +68,7 @@ module _ {D : Type 0} {G : Ghosts D} (g : Gateway) (old : State G) (s : Stands g
   nothing = record { same = refl; none = refl }
 
   -- operations that cannot be taken
-  conflict_taken : (plan : Plan) (c : List ℕ) → AreTooMuch old.kept plan.ops (refusals.Conflict c) → IsTooMuch g plan (refusals.Conflict c)
+  conflict_taken : (plan : Plan) (c : Subject) → AreTooMuch old.kept plan.ops (refusals.Conflict c) → IsTooMuch g plan (refusals.Conflict c)
   conflict_taken plan c (inl (delta, is_delta, h)) = (delta, is_delta, conflict_with_taken g.taken old.kept delta c s.keeps h)
   conflict_taken plan c (inr (e, h)) = absurd (cc)
 
@@ -235,7 +235,7 @@ module _ {D : Type 0} {G : Ghosts D} (g : Gateway) (old : State G) (s : Stands g
       (inl ((subst IsDigestWithinLimit digest_taken within, is_out ∙ (λ i. record { sends = []; made = None; answer = []; digest = Some (digest_taken i); view = None }), refl), refl))
   digest_leads new (Err refusals.Full) (long, u) =
       same_leads g old s (OrWant (Err refusals.Full) (λ before next made. DigestStep before (Err refusals.Full) next × (made ≡ []))) (Unit {0}) new u
-      (inl ((subst (λ (d : List ClientEntry). max_octets < length (spelling d)) digest_taken long, refl), refl))
+      (inl ((subst (λ (d : Digested). max_octets < length (spelling d)) digest_taken long, refl), refl))
   digest_leads new (Err refusals.Memory) u = wants (λ before next made. DigestStep before (Err refusals.Memory) next × (made ≡ [])) (Unit {0}) new u
   digest_leads new (Err refusals.Halted) h = absurd h
   digest_leads new (Err (refusals.Frame fault)) h = absurd h
@@ -244,7 +244,7 @@ module _ {D : Type 0} {G : Ghosts D} (g : Gateway) (old : State G) (s : Stands g
   digest_leads new (Err refusals.Exhausted) h = absurd h
   digest_leads new (Err (refusals.Journal fault)) h = absurd h
 
-  reply_leads : (new : State G) (asked : List ClientEntry) (answer : Result Out Refusal) → AnswerCall old asked answer new
+  reply_leads : (new : State G) (asked : Digested) (answer : Result Out Refusal) → AnswerCall old asked answer new
       → LeadsTo (OrWant answer (λ before next made. ReplyStep before asked answer next × (made ≡ []))) (Unit {0}) g old new
   reply_leads new asked (Ok out) (is_answer, is_out, u) =
       same_leads g old s (OrWant (Ok out) (λ before next made. ReplyStep before asked (Ok out) next × (made ≡ []))) (Unit {0}) new u

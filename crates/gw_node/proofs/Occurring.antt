@@ -9,11 +9,12 @@ use Rattle.std.proofs.lemmas.List.Elements.{All-from_recursion, All-contains, Co
 use Rattle.sn_session.specs.declared.change.SessionOp.{SessionOp}
 use Rattle.rep_op.specs.declared.op.Stamp.{Stamp}
 use Rattle.rep_op.specs.declared.op.Put.{Put}
+use Rattle.rep_op.specs.declared.op.Retained.{Retained}
 use Rattle.rep_op.specs.declared.op.Op.{Op}
-use Rattle.rep_op.specs.declared.op.Op.TheVariants.{Session as OfSession, Put as OfPut, Ack}
-use Rattle.rep_op.specs.Orders.{operation_cmp, put_cmp}
-use Rattle.rep_op.specs.Sets.{same_client, operation_of, operation_at, put_of, put_at}
-use Rattle.rep_model.proofs.Readers.{operation_exact, put_exact, same_client-true}
+use Rattle.rep_op.specs.declared.op.Op.TheVariants.{Session as OfSession, Put as OfPut, Ack, Retain as OfRetain}
+use Rattle.rep_op.specs.Orders.{operation_cmp, put_cmp, clock_of, clock_cmp}
+use Rattle.rep_op.specs.Sets.{same_client, same_topic, operation_of, operation_at, put_of, put_at, retain_of, retain_at}
+use Rattle.rep_model.proofs.Readers.{operation_exact, put_exact, clock_exact, same_client-true, same_topic-true}
 use Rattle.sn_plan.proofs.Standing.{IsThere, all-there}
 
 head_of : {X : Type 0} (x : X) (xs : List X) → Contains (x ∷ xs) x
@@ -31,6 +32,7 @@ pub operation_occurs : (c : List ℕ) (S : List Op) (name : Stamp × ℕ) (chang
 operation_occurs c [] name change e = absurd (cc)
 operation_occurs c (OfPut d put ∷ S) name change e = behind _ _ S (operation_occurs c S name change e)
 operation_occurs c (Ack d origin first last ∷ S) name change e = behind _ _ S (operation_occurs c S name change e)
+operation_occurs c (OfRetain t k ∷ S) name change e = behind _ _ S (operation_occurs c S name change e)
 operation_occurs c (OfSession d stamp counter o ∷ S) name change e =
     elim (same_client c d) as (λ b. same_client c d ≡ b → find operation_cmp name (filter_map (operation_of c) (OfSession d stamp counter o ∷ S)) ≡ Some change → Contains (OfSession d stamp counter o ∷ S) (OfSession c name.0 name.1 change)) [
       | true ↦ λ same found.
@@ -54,6 +56,7 @@ pub put_occurs : (c : List ℕ) (S : List Op) (name : ℕ × ℕ) (put : Put) �
 put_occurs c [] name put e = absurd (cc)
 put_occurs c (OfSession d stamp counter o ∷ S) name put e = let h = put_occurs c S name put e in (behind _ _ S h.0, h.1)
 put_occurs c (Ack d origin first last ∷ S) name put e = let h = put_occurs c S name put e in (behind _ _ S h.0, h.1)
+put_occurs c (OfRetain t k ∷ S) name put e = let h = put_occurs c S name put e in (behind _ _ S h.0, h.1)
 put_occurs c (OfPut d p ∷ S) name put e =
     elim (same_client c d) as (λ b. same_client c d ≡ b → find put_cmp name (filter_map (put_of c) (OfPut d p ∷ S)) ≡ Some put → Contains (OfPut d p ∷ S) (OfPut c put) × ((put.seq, put.origin) ≡ name)) [
       | true ↦ λ same found.
@@ -70,6 +73,29 @@ put_occurs c (OfPut d p ∷ S) name put e =
       | false ↦ λ same found.
           let there : put_at c S name ≡ Some put = rw same at found in
           let h = put_occurs c S name put there in (behind _ _ S h.0, h.1)
+    ] refl e
+
+pub retain_occurs : (t : List ℕ) (S : List Op) (name : ℕ × ℕ) (last : Retained) → retain_at t S name ≡ Some last → Contains S (OfRetain t last) × (clock_of last ≡ name)
+retain_occurs t [] name last e = absurd (cc)
+retain_occurs t (OfSession d stamp counter o ∷ S) name last e = let h = retain_occurs t S name last e in (behind _ _ S h.0, h.1)
+retain_occurs t (OfPut d p ∷ S) name last e = let h = retain_occurs t S name last e in (behind _ _ S h.0, h.1)
+retain_occurs t (Ack d origin first upto ∷ S) name last e = let h = retain_occurs t S name last e in (behind _ _ S h.0, h.1)
+retain_occurs t (OfRetain u k ∷ S) name last e =
+    elim (same_topic t u) as (λ b. same_topic t u ≡ b → find clock_cmp name (filter_map (retain_of t) (OfRetain u k ∷ S)) ≡ Some last → Contains (OfRetain u k ∷ S) (OfRetain t last) × (clock_of last ≡ name)) [
+      | true ↦ λ same found.
+          let there : cond (is_eq (clock_cmp name (clock_of k))) (Some k) (retain_at t S name) ≡ Some last = rw same at found in
+          elim (is_eq (clock_cmp name (clock_of k))) as (λ b. is_eq (clock_cmp name (clock_of k)) ≡ b → cond b (Some k) (retain_at t S name) ≡ Some last → Contains (OfRetain u k ∷ S) (OfRetain t last) × (clock_of last ≡ name)) [
+            | true ↦ λ tie is.
+                let names : name ≡ clock_of k = clock_exact name (clock_of k) (equal_of _ tie) in
+                let content : k ≡ last = cc in
+                let whose : t ≡ u = same_topic-true t u same in
+                let whole : OfRetain u k ≡ OfRetain t last = cc in
+                (subst (λ op. Contains (OfRetain u k ∷ S) op) whole (head_of _ S), ap clock_of (sym content) ∙ sym names)
+            | false ↦ λ tie is. let h = retain_occurs t S name last is in (behind _ _ S h.0, h.1)
+          ] refl there
+      | false ↦ λ same found.
+          let there : retain_at t S name ≡ Some last = rw same at found in
+          let h = retain_occurs t S name last there in (behind _ _ S h.0, h.1)
     ] refl e
 
 -- and a list has something under the name of each of its operations

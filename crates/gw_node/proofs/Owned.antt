@@ -5,7 +5,7 @@ use Rattle.std.proofs.lemmas.Bool.{and_parts, and_from, or_right}
 use Rattle.std.proofs.lemmas.List.Elements.{filter_map-append}
 use Rattle.rep_op.specs.declared.op.Stamp.{Stamp}
 use Rattle.rep_op.specs.declared.op.Op.{Op}
-use Rattle.rep_op.specs.declared.op.Op.TheVariants.{Session as OfSession, Put as OfPut, Ack}
+use Rattle.rep_op.specs.declared.op.Op.TheVariants.{Session as OfSession, Put as OfPut, Ack, Retain as OfRetain}
 use Rattle.rep_op.specs.Orders.{stamp_cmp}
 use Rattle.rep_op.specs.Sets.{same_client, operation_of, operations}
 use Rattle.rep_model.specs.Views.{greatest, take_stamp, names, visible}
@@ -147,6 +147,7 @@ abbrev takes_it : List ℕ → Op → Bool
 takes_it c (OfSession d stamp counter change) = same_client c d && (counter == 0)
 takes_it c (OfPut d put) = false
 takes_it c (Ack d origin first last) = false
+takes_it c (OfRetain t k) = false
 
 no_takes : (c : List ℕ) (D : List Op) → list_any (takes_it c) D ≡ false → filter_map take_stamp (names (operations c D)) ≡ []
 no_takes c [] h = refl
@@ -159,6 +160,7 @@ no_takes c (OfSession d s k x ∷ rest) h = elim (same_client c d) as (λ z. ((z
 ] h
 no_takes c (OfPut d put ∷ rest) h = no_takes c rest h
 no_takes c (Ack d origin first last ∷ rest) h = no_takes c rest h
+no_takes c (OfRetain t k ∷ rest) h = no_takes c rest h
 
 visible_same : (c : List ℕ) (K D : List Op) → list_any (takes_it c) D ≡ false → visible c (K ++ D) ≡ visible c K
 visible_same c K D h =
@@ -181,6 +183,7 @@ left_one g seen local c (OfSession d s k x ∷ rest) any all =
     ] refl any
 left_one g seen local c (OfPut d put ∷ rest) any all = left_one g seen local c rest any all
 left_one g seen local c (Ack d origin first last ∷ rest) any all = left_one g seen local c rest any all
+left_one g seen local c (OfRetain t k ∷ rest) any all = left_one g seen local c rest any all
 
 or_first : (a b : Bool) → (a || b) ≡ true → (b ≡ true → ⊥) → a ≡ true
 or_first true b h fails = refl

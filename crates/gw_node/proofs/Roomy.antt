@@ -6,8 +6,10 @@ use Rattle.std.proofs.lemmas.Option.{same_Some, none-some}
 use Rattle.std.proofs.lemmas.List.Concat.{flat_map-append}
 use Rattle.std.proofs.lemmas.List.Elements.{All-from_recursion, All-contains, Contains-append_left, Contains-append_right}
 use Rattle.rep_op.specs.declared.op.Op.{Op}
-use Rattle.rep_op.specs.declared.op.Op.TheVariants.{Session as OfSession, Put as OfPut, Ack}
-use Rattle.rep_op.specs.Sets.{operation_at, put_at, Stands, Agrees, IsConsistent}
+use Rattle.rep_op.specs.declared.op.Op.TheVariants.{Session as OfSession, Put as OfPut, Ack, Retain as OfRetain}
+use Rattle.rep_op.specs.declared.op.Subject.{Subject}
+use Rattle.rep_op.specs.Orders.{clock_of}
+use Rattle.rep_op.specs.Sets.{operation_at, put_at, retain_at, Stands, Agrees, IsConsistent}
 use Rattle.rep_ops.specs.Splitting.{all_of}
 use Rattle.rep_ops.proofs.Splitting.{all_of_more}
 use Rattle.rep_model.specs.Keep.{CountsAs}
@@ -78,9 +80,16 @@ module _ (W J K : List Op) (proper : IsConsistent W) (inside : (op : Op) → Con
             same_Some k put (sym (sym (ap (λ name. put_at c W name) p.1) ∙ stands (OfPut c k) (inside _ p.0)) ∙ stands (OfPut c put) place)
       ] refl
   agrees_kept (Ack c origin first last) place = tt
+  agrees_kept (OfRetain t new) place =
+      elim (retain_at t K (clock_of new)) as (λ o. retain_at t K (clock_of new) ≡ o → IfSome o (λ k. k ≡ new)) [
+        | None ↦ λ _. tt
+        | Some k ↦ λ e.
+            let p = keeps.retains_taken t (clock_of new) k e in
+            same_Some k new (sym (sym (ap (λ name. retain_at t W name) p.1) ∙ stands (OfRetain t k) (inside _ p.0)) ∙ stands (OfRetain t new) place)
+      ] refl
 
-pub no_conflict : (ds : List (List Op)) → IsConsistent (all_of ds) → (client : List ℕ) → HasMisfit ds (refusals.Conflict client) → ⊥
-no_conflict ds proper client h =
+pub no_conflict : (ds : List (List Op)) → IsConsistent (all_of ds) → (of : Subject) → HasMisfit ds (refusals.Conflict of) → ⊥
+no_conflict ds proper of h =
     let before = all_of (take h.before ds) in
     let rest = all_of (drop (suc h.before) ds) in
     let op = h.misfit.0 in

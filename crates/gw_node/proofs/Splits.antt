@@ -1,21 +1,19 @@
 -- A digest has one answer: what is left of a set is one delta, and a delta has one split into parts that are full.
 use Rattle.std.proofs.Common.{◌≡◌, ◌⊎◌, ◌+◌, ◌<◌, ◌≤◌, List, [], ◌∷◌, ◌++◌, length, refl, sym, ap, ◌∙◌, subst, append_assoc, arith, inl, inr}
-use Rattle.std.specs.List.{AllByRecursion, flat_map}
-use Rattle.std.proofs.lemmas.Grind.{flat_map-append}
-use Rattle.std.proofs.lemmas.List.{length-append}
+use Rattle.std.specs.List.{AllByRecursion}
 use Rattle.rep_op.specs.declared.op.Op.{Op}
 use Rattle.rep_ops.specs.Making.{IsDeltaOf}
 use Rattle.rep_op.specs.Sets.{Same}
-use Rattle.rep_octets.specs.Spelling.{op_octets}
 use Rattle.rep_ops.specs.Spelling.{spelling, IsWithinLimit}
 use Rattle.rep_ops.specs.Splitting.{all_of, IsPart, AreFull, IsSplit, AreDeltasOf}
 use Rattle.rep_ops.proofs.Canonical.{one_delta}
+use Rattle.rep_ops.proofs.Sizes.{spelled_longer}
 use Rattle.rep_op.proofs.Sets.{Same-sym, Same-trans}
 use Rattle.rep_model.specs.Keep.{keep, CountsAs}
 use Rattle.rep_model.specs.Held.{IsHeld}
 use Rattle.rep_model.proofs.Joins.{same_refl}
 use Rattle.rep_answer.specs.Answers.{IsRest, IsAnswer}
-use Rattle.rep_digest.specs.declared.entry.ClientEntry.{ClientEntry}
+use Rattle.rep_digest.specs.Digests.{Digested}
 
 no-cons : {A : Type 0} (x : A) (xs : List A) → [] ≡ x ∷ xs → ⊥
 no-cons x xs e = absurd cc
@@ -28,23 +26,11 @@ tail-same x y xs ys e = cc
 
 -- ---- lengths
 
-spelled-length : (ops : List Op) → length (spelling ops) ≡ 5 + length (flat_map op_octets ops)
-spelled-length ops = omega arith
-
--- more operations have no fewer octets
-longer : (a b : List Op) → length (spelling a) ≤ length (spelling (a ++ b))
-longer a b =
-    let front = spelled-length a in
-    let whole = spelled-length (a ++ b) in
-    let parts : length (flat_map op_octets (a ++ b)) ≡ length (flat_map op_octets a) + length (flat_map op_octets b) =
-    ap length (flat_map-append op_octets a b) ∙ length-append (flat_map op_octets a) (flat_map op_octets b) in
-    omega (arith, front, whole, parts)
-
 -- a part that goes on after a full one would pass the limit
 too-long : (d : List Op) (op : Op) (r : List Op) → IsWithinLimit (d ++ op ∷ r) → 8388608 < length (spelling (d ++ op ∷ [])) → ⊥
 too-long d op r within full =
     let more : length (spelling (d ++ op ∷ [])) ≤ length (spelling (d ++ op ∷ r)) =
-    subst (λ (e : List Op). length (spelling (d ++ op ∷ [])) ≤ length (spelling e)) (append_assoc d (op ∷ []) r) (longer (d ++ op ∷ []) r) in
+    subst (λ (e : List Op). length (spelling (d ++ op ∷ [])) ≤ length (spelling e)) (append_assoc d (op ∷ []) r) (spelled_longer (d ++ op ∷ []) r) in
     omega (arith, more, within, full)
 
 -- ---- the first part of two splits
@@ -106,11 +92,12 @@ delta-one ops d e h k = one_delta d e h.delta k.delta (Same-trans d ops e h.same
 pub delta-same : (X Y d e : List Op) → Same X Y → IsDeltaOf X d → IsDeltaOf Y e → d ≡ e
 delta-same X Y d e same h k = one_delta d e h.delta k.delta (Same-trans d X e h.same (Same-trans X Y e same (Same-sym e Y k.same)))
 
-rest-one : (asked : List ClientEntry) (S X Y : List Op) → IsRest asked S X → IsRest asked S Y → Same X Y
+rest-one : (asked : Digested) (S X Y : List Op) → IsRest asked S X → IsRest asked S Y → Same X Y
 rest-one asked S X Y h k = record {
   operations_same = λ c name. h.operations_left c name ∙ sym (k.operations_left c name);
   puts_same = λ c name. h.puts_left c name ∙ sym (k.puts_left c name);
   acknowledgements_same = λ c name. h.acknowledgements_left c name ∙ sym (k.acknowledgements_left c name);
+  retains_same = λ t name. h.retains_left t name ∙ sym (k.retains_left t name);
 }
 
 deltas-one : (X Y : List Op) (ds es : List (List Op)) → Same X Y → AreDeltasOf X ds → AreDeltasOf Y es → ds ≡ es
@@ -118,7 +105,7 @@ deltas-one X Y ds es same h k =
     let whole : h.0 ≡ k.0 = delta-same X Y h.0 k.0 same h.1 k.1 in
     split-one k.0 ds es (subst (λ (w : List Op). IsSplit w ds) whole h.2) k.2
 
-pub answer-one : (asked : List ClientEntry) (S : List Op) (ds es : List (List Op)) → IsAnswer asked S ds → IsAnswer asked S es → ds ≡ es
+pub answer-one : (asked : Digested) (S : List Op) (ds es : List (List Op)) → IsAnswer asked S ds → IsAnswer asked S es → ds ≡ es
 answer-one asked S ds es h k = deltas-one h.0 k.0 ds es (rest-one asked _ h.0 k.0 h.1 k.1) h.2 k.2
 
 -- ---- what must be kept of a set, as deltas

@@ -5,9 +5,10 @@ use Rattle.std.proofs.lemmas.Bool.{lt-ltb, le-ltb}
 use Rattle.std.proofs.lemmas.List.{length-append}
 use Rattle.std.proofs.lemmas.List.Elements.{All-from_recursion, All-contains}
 use Rattle.rep_op.specs.declared.op.Op.{Op}
-use Rattle.rep_op.specs.declared.op.Op.TheVariants.{Session as OfSession, Put as OfPut}
+use Rattle.rep_op.specs.declared.op.Op.TheVariants.{Session as OfSession, Put as OfPut, Retain as OfRetain}
 use Rattle.rep_ops.specs.Deltas.{IsDelta}
-use Rattle.rep_op.specs.Sets.{operation_at, put_at, Stands as StandsIn, IsConsistent}
+use Rattle.rep_op.specs.Orders.{clock_of}
+use Rattle.rep_op.specs.Sets.{operation_at, put_at, retain_at, Stands as StandsIn, IsConsistent}
 use Rattle.rep_model.specs.Keep.{CountsAs, IsKeptOf}
 use Rattle.rep_model.specs.Taking.{AllAgree, Fits}
 use Rattle.sn_local.specs.Locals.{Local}
@@ -32,7 +33,7 @@ use Rattle.gw_node.specs.Standing.{IsSynced, Lasts, Stands, IsForeseen, fated, L
 use Rattle.gw_node.specs.Taking.{on_disk, IsBetween, StandsFor, HasTaken}
 use Rattle.gw_node.specs.Writing.{IsWritten, IsFailed}
 use Rattle.gw_node.proofs.Keeping.{keeps_more}
-use Rattle.gw_node.proofs.Occurring.{operation_occurs, put_occurs}
+use Rattle.gw_node.proofs.Occurring.{operation_occurs, put_occurs, retain_occurs}
 use Rattle.gw_node.proofs.Taken.{StandFor, MayFollow, stands_at, records_stand, taken_then, opened, more}
 
 -- ---- sets
@@ -56,6 +57,11 @@ keeps-read S J K between proper keeps counts = record {
       let stands = All-contains (StandsIn J) J (OfPut c put) (All-from_recursion (StandsIn J) J proper) there.0 in
       let found = subst (λ (T : List Op). put_at c T (put.seq, put.origin) ≡ Some put) (append-nil S) (between.upper.puts_in c (put.seq, put.origin) put stands) in
       ((put_occurs c S (put.seq, put.origin) put found).0, there.1);
+  retains_taken = λ t name last e.
+      let there = keeps.retains_taken t name last e in
+      let stands = All-contains (StandsIn J) J (OfRetain t last) (All-from_recursion (StandsIn J) J proper) there.0 in
+      let found = subst (λ (T : List Op). retain_at t T (clock_of last) ≡ Some last) (append-nil S) (between.upper.retains_in t (clock_of last) last stands) in
+      ((retain_occurs t S (clock_of last) last found).0, there.1);
 }
 
 -- ---- all of a disk is synced

@@ -20,7 +20,7 @@ use Rattle.jr_journal.specs.Faults.{is_fresh}
 use Rattle.jr_journal.specs.declared.fault.JournalFault.TheVariants as journal_faults
 use Rattle.jr_journal.specs.Crashes.{Opens, Leaves, LeavesOneMore, LeavesEither, LeavesNoMore}
 use Rattle.jr_journal.specs.Parts.{disk_of, gateway_of}
-use Rattle.rep_digest.specs.declared.entry.ClientEntry.{ClientEntry}
+use Rattle.rep_digest.specs.Digests.{Digested}
 use Rattle.gw_answer.specs.declared.out.Out.{Out}
 use Rattle.gw_answer.specs.declared.refusal.Refusal.{Refusal}
 use Rattle.gw_answer.specs.declared.refusal.Refusal.TheVariants as refusals
@@ -397,7 +397,7 @@ module _ {D : Type 0} {G : Ghosts D} where
   digest_carries_on old new (Err refusals.Exhausted) h = absurd h
   digest_carries_on old new (Err (refusals.Journal fault)) h = absurd h
 
-  answer_carries_on : (old new : State G) (asked : List ClientEntry) (answer : Result Out Refusal) → AnswerCall old asked answer new → TakesNothing old new
+  answer_carries_on : (old new : State G) (asked : Digested) (answer : Result Out Refusal) → AnswerCall old asked answer new → TakesNothing old new
   answer_carries_on old new asked (Ok out) (is_answer, is_out, same) = unchanged old new same
   answer_carries_on old new asked (Err refusals.Memory) h = unchanged old new h
   answer_carries_on old new asked (Err refusals.Full) h = absurd h

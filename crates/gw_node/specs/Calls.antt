@@ -8,8 +8,7 @@ use Rattle.rep_model.specs.Keep.{IsKeptOf}
 use Rattle.rep_model.specs.Held.{IsHeld}
 use Rattle.rep_model.specs.Taking.{Fits}
 use Rattle.rep_ops.specs.Spelling.{max_octets, IsWithinLimit as IsDeltaWithinLimit}
-use Rattle.rep_digest.specs.declared.entry.ClientEntry.{ClientEntry}
-use Rattle.rep_digest.specs.Digests.{digest}
+use Rattle.rep_digest.specs.Digests.{Digested, digest}
 use Rattle.rep_answer.specs.Answers.{IsAnswer}
 use Rattle.rep_digest.specs.Spelling.{spelling, IsWithinLimit}
 use Rattle.sn_plan.specs.declared.plan.Plan.{Plan}
@@ -182,7 +181,7 @@ DigestCall old (Err (refusals.Journal fault)) new = ⊥
 
 -- A gateway asks for what its digest does not cover of what must be kept; a halted node answers
 -- too.
-abbrev pub AnswerCall : {D : Type 0} {G : Ghosts D} → State G → List ClientEntry
+abbrev pub AnswerCall : {D : Type 0} {G : Ghosts D} → State G → Digested
     → Result Out Refusal → State G → Type 0
 AnswerCall old asked (Ok out) new =
     IsAnswer asked old.kept out.answer × (out ≡ record (only_sends []) { answer = out.answer })

@@ -126,8 +126,7 @@ CanBeSaid gateway old (steps.Answer asked) answer new = Unit {0}
 CanBeSaid gateway old steps.Compact answer new = IsClear gateway old answer new
 CanBeSaid {G = G} gateway old steps.Reopen answer new = WentWell G.honest gateway answer
 
--- Whatever gateway the node stood for, the call is an event of it, and the node stands for the next
--- one.
+-- Whatever gateway the node stood for, the call is its event, and the node stands for the next one.
 abbrev pub EventOn : {D : Type 0} {G : Ghosts D} → State G → Step → Result Out Refusal → State G
     → Type 0
 EventOn old step answer new =

@@ -19,7 +19,7 @@ ghost use Rattle.gw_event.specs.Event.{IsWritable};
 
 use super::node::Node;
 use super::tidy::{keep_owned, note_changes, note_taken};
-use gw_answer::{Names, Out, Refusal, Shares};
+use gw_answer::{Out, Refusal, Shares, Subjects};
 use jr_journal::{Disk, Journal, JournalFault};
 use octets::{NoMemory, Sequence};
 use rep_model::{Replica, TakeFault};
@@ -60,8 +60,8 @@ pub(crate) fn prepare<R: Replica>(
     let _ops = delta.ops();
     match replica.prepare(alloc, delta) {
         Ok(staged) => Ok(staged),
-        Err(TakeFault::Conflict { client }) => match Names::new(alloc, client) {
-            Ok(client) => Err(Refusal::Conflict { client }),
+        Err(TakeFault::Conflict { of }) => match Subjects::new(alloc, of) {
+            Ok(of) => Err(Refusal::Conflict { of }),
             Err(_) => Err(Refusal::Memory),
         },
         Err(TakeFault::Full { .. }) => Err(Refusal::Full),

@@ -257,7 +257,7 @@ fn give_digest(alloc: Global, digest: Digest) -> Result<Shares, NoMemory>
     ensures size { IsWithinLimit digest }
     ensures ok { IfOk result (λ out. out ≡ record (only_sends []) { digest = Some digest }) }
 {
-    let _entries = digest.entries();
+    let _entries = digest.clients();
     Ok(Shares::new(alloc, Out::of_digest(alloc, digest))?)
 }
 

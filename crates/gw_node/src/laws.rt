@@ -7,6 +7,7 @@ ghost use Rattle.rep_ops.specs.Splitting.{all_of};
 ghost use Rattle.jr_disk.specs.Disk.{Image};
 ghost use Rattle.jr_journal.specs.Records.{records};
 ghost use Rattle.jr_journal.specs.Faults.{fault_of};
+ghost use Rattle.rep_op.specs.declared.op.Subject.{Subject};
 ghost use Rattle.gw_answer.specs.declared.refusal.Refusal.{Refusal};
 ghost use Rattle.gw_answer.specs.declared.refusal.Refusal.TheVariants as refusals;
 ghost use Rattle.gw_node.specs.Taking.{StandsFor};
@@ -20,9 +21,9 @@ ghost use Rattle.gw_node.specs.Opening.{FitInTurn, HasMisfit, IsOpenFault, IsDis
 pub fn opening_laws()
     ensures room { (gateway : ℕ) (S refused : List Op) (i : Image) → StandsFor gateway S refused i
         → HasMisfit (records gateway i) refusals.Full → ⊥ }
-    ensures agreement { (gateway : ℕ) (S refused : List Op) (i : Image) (client : List ℕ)
+    ensures agreement { (gateway : ℕ) (S refused : List Op) (i : Image) (of : Subject)
         → StandsFor gateway S refused i → HasMisfit (records gateway i)
-        (refusals.Conflict client) → ⊥ }
+        (refusals.Conflict of) → ⊥ }
     ensures memory { (gateway : ℕ) (S refused : List Op) (i : Image) (refusal : Refusal)
         → StandsFor gateway S refused i → IsOpenFault gateway i refusal → (IsDiskFault refusal → ⊥)
         → refusal ≡ refusals.Memory }

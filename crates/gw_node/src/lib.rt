@@ -14,6 +14,7 @@
 //!   state, in this order.
 //! - `anew`: the journal is written anew from what is kept, or read anew.
 //! - `excuse`: what a client is told where its frame came to nothing for want of a disk.
+//! - `retained`: what it retains of topics.
 //! - `tidy`: whether each address and each timer is of a client that the gateway owns.
 //! - `laws`: what an opening finds that goes on with what was taken (`opening_laws`).
 //!
@@ -38,6 +39,7 @@ mod handling;
 mod laws;
 mod node;
 mod opening;
+mod retained;
 mod tidy;
 
 pub use gw_answer::{Answer, NodeFault, Out, Step, same_answer, same_step};

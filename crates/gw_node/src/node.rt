@@ -19,13 +19,15 @@ use super::handling::{
     handle_answer, handle_digest, handle_frame, handle_step, handle_tick, handle_view,
 };
 use super::opening::{not_opened, nothing, start};
+use super::retained::retained_of;
 use gw_answer::{Answer, NodeFault, Step, one_share, three_shares};
 use jr_journal::{Disk, Journal, MemoryDisk};
 use octets::NoMemory;
 use rep_digest::Digest;
 use rep_model::Replica;
-use rep_ops::{ClientId, Delta};
+use rep_ops::{ClientId, Delta, Retained};
 use sn_local::{Addr, Config, Dialogs};
+use sn_topic::TopicName;
 use std::alloc::Global;
 
 /// A gateway: what it was told, what it keeps of what it has taken, which address is which client,
@@ -52,6 +54,7 @@ impl<R: Replica, D: Disk + Drop> Node<R, D> {
     ghost use Rattle.rep_model.specs.Keep.{CountsAs};
     ghost use Rattle.rep_model.specs.Held.{IsHeld};
     ghost use Rattle.rep_model.specs.Views as views;
+    ghost use Rattle.rep_model.specs.Topics.{all_retained};
     ghost use Rattle.jr_disk.specs.Disk.{image};
     ghost use Rattle.jr_journal.specs.Records.{records};
     ghost use Rattle.jr_journal.specs.Faults.{is_fresh, fault_of};
@@ -161,9 +164,9 @@ impl<R: Replica, D: Disk + Drop> Node<R, D> {
     ///
     /// The faults, in the order in which they are looked for: `Halted`, a write of the journal has
     /// failed, or a try to open it again; `Frame`, the bytes are no frame; `Exhausted`, the step
-    /// needs an epoch or a sequence number after the last; `Conflict` and `Full`, its operations
-    /// cannot be taken, or make no delta; `Disk`, the disk failed. `Memory` may stand in the place
-    /// of each.
+    /// needs an epoch, a sequence number or a clock after the last; `Conflict` and `Full`, its
+    /// operations cannot be taken, or make no delta; `Disk`, the disk failed. `Memory` may stand in
+    /// the place of each.
     ///
     /// After `Disk` the node is halted, and what it keeps and knows is as before; `out` of the
     /// fault is to be sent: return code 1, congestion (section 5.3.10), where the frame's answer
@@ -346,6 +349,14 @@ impl<R: Replica, D: Disk + Drop> Node<R, D> {
             Ok(deltas) => Ok(deltas),
             Err(_) => Err(NoMemory),
         }
+    }
+
+    /// What is retained of each topic of which something ever was, in ascending order of the
+    /// topics; with an empty body where that was ended. A halted node tells it too.
+    pub fn retained(&self, alloc: Global) -> Result<Vec<(TopicName, Retained)>, NoMemory>
+        ensures { IfOk result (λ all. all.items ≡ all_retained (state_of R.kept self.now).kept) }
+    {
+        retained_of(alloc, &self.replica)
     }
 
     /// The clients that the node knows, in ascending order.

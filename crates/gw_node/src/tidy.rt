@@ -45,7 +45,7 @@ fn leaves_all<R: Replica>(gateway: u8, replica: &R, dialogs: &Dialogs, op: &Op) 
             counter,
             ..
         } => *counter != 0 || is_left(gateway, replica, dialogs, client),
-        Op::Put { .. } | Op::Ack { .. } => true,
+        Op::Put { .. } | Op::Ack { .. } | Op::Retain { .. } => true,
     }
 }
 

@@ -1,5 +1,5 @@
 -- The definitions on worked examples.
-use Rattle.std.proofs.Common.{◌≡◌, ◌++◌, [], ◌∷◌, None, Some, refl}
+use Rattle.std.proofs.Common.{◌≡◌, ◌++◌, [], ◌∷◌, None, Some, refl, false}
 use Rattle.std.specs.Prelude.{codes, Ok, Err}
 use Rattle.std.specs.Fmt.{digits}
 use Rattle.hex.specs.Hex.{encode_with}
@@ -9,7 +9,7 @@ use Rattle.gw_answer.specs.Answers.{only_sends}
 use Rattle.gw_world.specs.declared.world.WorldFault.TheVariants as world_faults
 use Rattle.sn_frame.specs.declared.fault.FrameFault.TheVariants as frame_faults
 use Rattle.gw_play.specs.Texts.{line_end}
-use Rattle.gw_play.specs.Printing.{send_line, refusal_text, said_text, put_line, client_text, answers_text}
+use Rattle.gw_play.specs.Printing.{send_line, refusal_text, said_text, put_line, client_text, retained_line, answers_text}
 use Rattle.gw_play.specs.inner.Printing.{world_fault_line, bad_line_text}
 
 -- a CONNACK for port 7
@@ -37,7 +37,7 @@ unfolding digits
 no_frame = refl
 
 -- a message of no octet
-waiting : put_line (record { origin = 2; seq = 1; topic = codes "ab"; qos = 0; body = [] }) ≡ codes "  put 1.2 0 6162 -" ++ line_end
+waiting : put_line (record { origin = 2; seq = 1; topic = codes "ab"; qos = 0; retain = false; expires = 0; body = [] }) ≡ codes "  put 1.2 0 6162 -" ++ line_end
 unfolding digits encode_with
 waiting = refl
 
@@ -45,6 +45,11 @@ waiting = refl
 unknown : client_text (codes "s1", record { stamp = None; prefix = 0; session = None; pending = [] }) ≡ codes "client 7331 stamp none" ++ line_end
 unfolding digits encode_with
 unknown = refl
+
+-- a message of one octet that is retained
+kept : retained_line (codes "ab", record { clock = 3; gateway = 2; qos = 1; body = codes "x" }) ≡ codes "retain 3.2 1 6162 78" ++ line_end
+unfolding digits encode_with
+kept = refl
 
 -- why a run has no result
 no_gateway : world_fault_line (world_faults.NoGateway 3) ≡ codes "event 3: E1" ++ line_end

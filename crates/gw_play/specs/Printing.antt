@@ -8,6 +8,7 @@ use Rattle.sn_session.specs.declared.presence.Presence.TheVariants as presences
 use Rattle.sn_session.specs.declared.session.Session.{Session}
 use Rattle.rep_op.specs.declared.op.Op.{Op}
 use Rattle.rep_op.specs.declared.op.Put.{Put}
+use Rattle.rep_op.specs.declared.op.Retained.{Retained}
 use Rattle.rep_op.specs.declared.op.Stamp.{Stamp}
 use Rattle.rep_model.specs.declared.view.ClientView.{ClientView}
 use Rattle.sn_local.specs.declared.config.Send.{Send}
@@ -112,10 +113,16 @@ abbrev pub client_text : List ℕ × ClientView → List ℕ
 client_text (client, view) =
     client_line client view ▹ session_lines view.stamp view.session ▹ flat_map put_line view.pending
 
--- the clients that a gateway knows
-abbrev pub views_text : List (List ℕ × ClientView) → List ℕ
-views_text [] = codes "empty" ▹ line_end
-views_text (first ∷ rest) = flat_map client_text (first ∷ rest)
+-- what is retained of a topic
+abbrev pub retained_line : List ℕ × Retained → List ℕ
+retained_line (topic, kept) =
+    codes "retain " ▹ decimal kept.clock ▹ codes "." ▹ decimal kept.gateway ▹ codes " "
+    ▹ decimal kept.qos ▹ codes " " ▹ hex_text topic ▹ codes " " ▹ hex_text kept.body ▹ line_end
+
+-- the clients that a gateway knows, and what it retains of topics; nothing of both is empty
+abbrev pub views_text : List (List ℕ × ClientView) → List (List ℕ × Retained) → List ℕ
+views_text [] [] = codes "empty" ▹ line_end
+views_text views topics = flat_map client_text views ▹ flat_map retained_line topics
 
 -- how many records a gateway has read that was opened again
 abbrev pub records_line : ℕ → List ℕ
@@ -129,7 +136,7 @@ said_text before (Err refusal) = refusal_text refusal
 -- what an answer is printed as, if so many deltas were made before it
 abbrev pub answer_text : ℕ → Answer → List ℕ
 answer_text before (answers.Node answer) = said_text before (said answer)
-answer_text before (answers.Views views) = views_text views
+answer_text before (answers.Views views topics) = views_text views topics
 answer_text before (answers.Records count) = records_line count
 answer_text before answers.Nothing = codes "quiet" ▹ line_end
 
@@ -141,7 +148,7 @@ deltas_behind before (Err refusal) = before
 -- how many deltas there are after an answer, if there were so many before it
 abbrev pub deltas_after : ℕ → Answer → ℕ
 deltas_after before (answers.Node answer) = deltas_behind before (said answer)
-deltas_after before (answers.Views views) = before
+deltas_after before (answers.Views views topics) = before
 deltas_after before (answers.Records count) = before
 deltas_after before answers.Nothing = before
 

@@ -4,7 +4,7 @@
 
 ghost use Rattle.std.specs.Prelude.{◌≡◌, ◌+◌, ◌++◌, IfOk, OnOk, flat_map, length, string_bytes};
 ghost use Rattle.std.specs.Option.{option_to_list};
-ghost use Rattle.gw_play.specs.Printing.{answers_text, answer_text, deltas_after, out_text, joined, delta_line, delta_lines, send_line, refusal_text, records_line, views_text, client_text, client_line, stamp_text, session_text, session_lines, put_line};
+ghost use Rattle.gw_play.specs.Printing.{answers_text, answer_text, deltas_after, out_text, joined, delta_line, delta_lines, send_line, refusal_text, records_line, views_text, client_text, client_line, stamp_text, session_text, session_lines, put_line, retained_line};
 ghost use Rattle.gw_play.specs.Printing as spec;
 ghost use Rattle.gw_play.specs.inner.Printing.{world_fault_line, bad_line_text};
 ghost use Rattle.gw_answer.specs.Answers.{told};
@@ -13,9 +13,10 @@ use super::session_lines::print_tables;
 use super::text::hexadecimal;
 use gw_world::{Answer, NodeFault, Out, WorldFault};
 use rep_model::ClientView;
-use rep_ops::{ClientId, Delta, Put, Stamp};
+use rep_ops::{ClientId, Delta, Put, Retained, Stamp};
 use sn_local::Send;
 use sn_session::{Presence, Session};
+use sn_tables::sn_topic::TopicName;
 use std::alloc::{AllocError, Global};
 
 /// The lines of answers, in their order. Deltas are numbered in the order of making, from 1.
@@ -48,8 +49,8 @@ fn print_answer(
             print_fault(alloc, text, fault)?;
             Ok(before)
         }
-        Answer::Views(views) => {
-            print_views(alloc, text, views.as_slice())?;
+        Answer::Views(views, topics) => {
+            print_views(alloc, text, views.as_slice(), topics.as_slice())?;
             Ok(before)
         }
         Answer::Records(count) => {
@@ -177,16 +178,64 @@ fn print_views(
     alloc: Global,
     text: &mut String,
     views: &[(ClientId, ClientView)],
+    topics: &[(TopicName, Retained)],
 ) -> Result<(), AllocError>
-    ensures { OnOk result (string_bytes text.new ≡ string_bytes text.old ++ views_text views.now) }
+    ensures { OnOk result (string_bytes text.new
+        ≡ string_bytes text.old ++ views_text views.now topics.now) }
 {
-    if views.is_empty() {
+    if views.is_empty() && topics.is_empty() {
         return text.push_str("empty\n");
     }
+    print_clients(alloc, text, views)?;
+    print_topics(alloc, text, topics)
+}
+
+/// The lines of clients.
+fn print_clients(
+    alloc: Global,
+    text: &mut String,
+    views: &[(ClientId, ClientView)],
+) -> Result<(), AllocError>
+    ensures { OnOk result (string_bytes text.new
+        ≡ string_bytes text.old ++ flat_map client_text views.now) }
+{
     for view in views {
         print_view(alloc, text, view)?;
     }
     Ok(())
+}
+
+/// A line for each topic.
+fn print_topics(
+    alloc: Global,
+    text: &mut String,
+    topics: &[(TopicName, Retained)],
+) -> Result<(), AllocError>
+    ensures { OnOk result (string_bytes text.new
+        ≡ string_bytes text.old ++ flat_map retained_line topics.now) }
+{
+    for topic in topics {
+        print_retained(alloc, text, topic)?;
+    }
+    Ok(())
+}
+
+/// The line of what is retained of a topic.
+fn print_retained(
+    alloc: Global,
+    text: &mut String,
+    told: &(TopicName, Retained),
+) -> Result<(), AllocError>
+    ensures { OnOk result (string_bytes text.new
+        ≡ string_bytes text.old ++ retained_line told.now) }
+{
+    let (topic, kept) = told;
+    let clock = kept.clock;
+    let gateway = kept.gateway;
+    let qos = kept.qos.number();
+    let topic = hexadecimal(alloc, topic.bytes())?;
+    let body = hexadecimal(alloc, kept.body.as_slice())?;
+    writeln!(text, "retain {clock}.{gateway} {qos} {topic} {body}")
 }
 
 /// The lines of a client.

@@ -181,7 +181,7 @@ fn is_played(event: &Event, number: u8, is_late: bool) -> bool {
 fn made_of(answer: &Answer) -> Option<&Delta> {
     match answer {
         Answer::Node(Ok(out)) => out.made.as_ref(),
-        Answer::Node(Err(_)) | Answer::Views(_) | Answer::Records(_) | Answer::Nothing => None,
+        Answer::Node(Err(_)) | Answer::Views(_, _) | Answer::Records(_) | Answer::Nothing => None,
     }
 }
 

@@ -81,6 +81,6 @@ pub(crate) fn added(answer: &Answer) -> u64 {
             let made = if out.made.is_some() { 1 } else { 0 };
             (out.answer.len() as u64).saturating_add(made)
         }
-        Answer::Node(Err(_)) | Answer::Views(_) | Answer::Records(_) | Answer::Nothing => 0,
+        Answer::Node(Err(_)) | Answer::Views(_, _) | Answer::Records(_) | Answer::Nothing => 0,
     }
 }

@@ -78,6 +78,11 @@ fn service(draw: &mut Draw) -> u8 {
     draw.octet_below(3) * 32
 }
 
+/// The Retain bit, or none.
+fn retain_bit(draw: &mut Draw) -> u8 {
+    if draw.is_once_in(3) { 16 } else { 0 }
+}
+
 /// What a client sends of itself.
 #[derive(Clone, Copy)]
 pub(crate) enum Kind {
@@ -190,39 +195,45 @@ fn topic_field(draw: &mut Draw) -> (u8, u16) {
     }
 }
 
-/// PUBLISH at quality of service 0 to 2.
+/// PUBLISH at quality of service 0 to 2, with Retain or without.
 fn publish(alloc: Global, draw: &mut Draw) -> Result<Frame, NoMemory> {
     let (kind, topic) = topic_field(draw);
     let bits = service(draw) | kind;
+    let kept = retain_bit(draw);
     let again = if draw.is_once_in(8) { 128 } else { 0 };
     Ok(Frame::Publish {
-        flags: Flags { bits: bits | again },
+        flags: Flags {
+            bits: bits | kept | again,
+        },
         topic,
         msg_id: msg_id(draw),
         body: message(alloc, draw)?,
     })
 }
 
-/// PUBLISH at quality of service -1.
+/// PUBLISH at quality of service -1, with Retain or without.
 fn unconnected(alloc: Global, draw: &mut Draw) -> Result<Frame, NoMemory> {
     let (kind, topic) = topic_field(draw);
+    let kept = retain_bit(draw);
     Ok(Frame::Publish {
-        flags: Flags { bits: 96 | kind },
+        flags: Flags {
+            bits: 96 | kind | kept,
+        },
         topic,
         msg_id: 0,
         body: message(alloc, draw)?,
     })
 }
 
-/// A will's flags and topic, or none.
+/// A will's flags, with Retain or without, and its topic; or no will.
 fn will(alloc: Global, draw: &mut Draw) -> Result<Option<Will>, NoMemory> {
     if draw.is_once_in(5) {
         return Ok(None);
     }
+    let bits = service(draw);
+    let kept = retain_bit(draw);
     Ok(Some(Will {
-        flags: Flags {
-            bits: service(draw),
-        },
+        flags: Flags { bits: bits | kept },
         topic: Octets::from_slice(alloc, name(draw))?,
     }))
 }

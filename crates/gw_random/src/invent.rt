@@ -385,7 +385,7 @@ impl Invention {
                 self.note_halt(event, fault);
                 Ok(())
             }
-            Answer::Views(_) | Answer::Records(_) | Answer::Nothing => Ok(()),
+            Answer::Views(_, _) | Answer::Records(_) | Answer::Nothing => Ok(()),
         }
     }
 

@@ -19,6 +19,8 @@ pub(crate) enum What {
     Refused,
     /// A gateway does not show the views of its set.
     Views,
+    /// What is retained is not what the set says.
+    Retained,
     /// A write fails that was not to fail, or one does not that was.
     Disk,
     /// A gateway goes on after a write that failed, or refuses before one does.
@@ -51,6 +53,7 @@ impl What {
             What::Stopped => "the run stops",
             What::Refused => "a delta is refused",
             What::Views => "what is shown is not what the set says",
+            What::Retained => "what is retained is not what the set says",
             What::Disk => "a write fails that was not to fail, or one does not that was",
             What::Halted => "a gateway goes on after a failed write, or stops before one",
             What::Records => "a journal has not the records that it must have",
@@ -99,7 +102,7 @@ pub(crate) fn delta_at(played: &Played, number: u64) -> Option<&Delta> {
 /// The views of an answer.
 fn views_at(played: &Played, at: usize) -> Option<&Sequence<(ClientId, ClientView)>> {
     match played.answers.as_slice().get(at)? {
-        Answer::Views(views) => Some(views),
+        Answer::Views(views, _) => Some(views),
         Answer::Node(_) | Answer::Records(_) | Answer::Nothing => None,
     }
 }
@@ -153,7 +156,12 @@ impl Seats {
             Answer::Node(Err(fault)) => {
                 follow_fault::<R>(alloc, field, events, played, seat, at, event, fault)
             }
-            Answer::Views(views) => follow_views(alloc, seat, played, at, views.as_slice()),
+            Answer::Views(views, topics) => {
+                if !seat.retains(topics.as_slice()) {
+                    return Ok(Some(What::Retained));
+                }
+                follow_views(alloc, seat, played, at, views.as_slice())
+            }
             Answer::Records(told) => follow_restart(alloc, seat, event, *told),
             Answer::Nothing => Ok(arranged(seat, at, event)),
         }

@@ -2,8 +2,8 @@
 //!
 //! `random_run` makes scripts from a seed, plays each through the real thing (`gw_world::run`), and
 //! checks at each step what the definitions say: a gateway shows the views of the set that it made
-//! and took, and a message that waits goes away only by its acknowledgement. A script that shows
-//! something else is made short and is part of the report.
+//! and took, and what that retains, and a message that waits goes away only by its acknowledgement.
+//! A script that shows something else is made short and is part of the report.
 //!
 //! - `draw`: numbers that look random.
 //! - `drive`: what a gateway's journal must hold (`Drive`).

@@ -3,9 +3,10 @@
 use super::drive::Drive;
 use octets::NoMemory;
 use rep_model::{ClientView, Replica, TakeFault};
-use rep_ops::{ClientId, Delta, Op, Put};
+use rep_ops::{ClientId, Delta, Op, Put, Retained};
 use rep_plain::Plain;
-use rep_same::{same_client, same_put, same_view};
+use rep_same::{same_client, same_put, same_retained, same_topic, same_view};
+use sn_topic::TopicName;
 use std::alloc::Global;
 
 /// What a gateway must show: the views of the set that it has made and taken.
@@ -73,6 +74,21 @@ impl Seat {
             }
         }
         true
+    }
+
+    /// Whether this is what the set retains of topics.
+    pub(crate) fn retains(&self, topics: &[(TopicName, Retained)]) -> bool {
+        let mut place = 0;
+        for (topic, kept) in topics {
+            let Some((behind, own, stood)) = self.plain.topic_at(place) else {
+                return false;
+            };
+            if !same_topic(own, topic) || !same_retained(stood, kept) {
+                return false;
+            }
+            place = behind;
+        }
+        self.plain.topic_at(place).is_none()
     }
 
     /// Whether this is the client, and its view.
@@ -161,6 +177,6 @@ fn is_acknowledgement(op: &Op, client: &ClientId, put: &Put) -> bool {
                 && *first <= put.seq
                 && put.seq <= *last
         }
-        Op::Session { .. } | Op::Put { .. } => false,
+        Op::Session { .. } | Op::Put { .. } | Op::Retain { .. } => false,
     }
 }

@@ -4,22 +4,22 @@ ghost use Rattle.std.specs.Prelude.{◌≡◌, IfOk};
 ghost use Rattle.gw_relay.specs.News as spec;
 
 use octets::NoMemory;
-use rep_ops::{ClientId, Op};
+use rep_ops::{Op, Subject};
 use std::alloc::Global;
 
 /// The name of an operation, and of acknowledgements their range: what tells it from others,
 /// without what it says.
 #[derive(Drop)]
 pub struct Name {
-    /// Whose state it is an operation on.
-    pub client: ClientId,
-    /// 0 a change of a session, 1 a message, 2 acknowledgements.
+    /// What it is an operation on.
+    pub of: Subject,
+    /// 0 a change of a session, 1 a message, 2 acknowledgements, 3 what is retained.
     pub kind: u8,
-    /// The gateway of its stamp, or that made its messages.
+    /// The gateway of its stamp, or that made its messages, or that retained it.
     pub gateway: u8,
-    /// The epoch of its stamp, or the first of its messages.
+    /// The epoch of its stamp, or the first of its messages, or its clock.
     pub first: u64,
-    /// The counter below its stamp, or the last of its messages.
+    /// The counter below its stamp, or the last of its messages, or its clock.
     pub last: u64,
 }
 
@@ -34,14 +34,14 @@ pub fn name_of(alloc: Global, op: &Op) -> Result<Name, NoMemory>
             counter,
             ..
         } => Ok(Name {
-            client: client.copied(alloc)?,
+            of: Subject::Client(client.copied(alloc)?),
             kind: 0,
             gateway: stamp.gateway,
             first: stamp.epoch,
             last: u64::from(*counter),
         }),
         Op::Put { client, put } => Ok(Name {
-            client: client.copied(alloc)?,
+            of: Subject::Client(client.copied(alloc)?),
             kind: 1,
             gateway: put.origin,
             first: put.seq,
@@ -53,11 +53,18 @@ pub fn name_of(alloc: Global, op: &Op) -> Result<Name, NoMemory>
             first,
             last,
         } => Ok(Name {
-            client: client.copied(alloc)?,
+            of: Subject::Client(client.copied(alloc)?),
             kind: 2,
             gateway: *origin,
             first: *first,
             last: *last,
+        }),
+        Op::Retain { topic, retained } => Ok(Name {
+            of: Subject::Topic(topic.copied(alloc)?),
+            kind: 3,
+            gateway: retained.gateway,
+            first: retained.clock,
+            last: retained.clock,
         }),
     }
 }

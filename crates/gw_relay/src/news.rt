@@ -2,13 +2,20 @@
 
 ghost use Rattle.std.specs.Prelude.{◌≡◌, not};
 ghost use Rattle.std.specs.List.{list_any};
+ghost use Rattle.std.specs.Ordering.{is_lt};
+ghost use Rattle.sn_tables.specs.inner.Tables.{IsPlace};
+ghost use Rattle.rep_op.specs.declared.op.Op.TheVariants.{Retain as OfRetain};
+ghost use Rattle.rep_op.specs.Orders.{topic_name_cmp, clock_of, clock_cmp};
 ghost use Rattle.rep_model.specs.Keep as keeps;
 ghost use Rattle.rep_model.specs.Limits as limits;
+ghost use Rattle.rep_digest.specs.WellMade.{TopicsAscend};
 ghost use Rattle.gw_relay.specs.News as spec;
 
 use crate::name::Name;
-use rep_digest::{ClientEntry, Digest, OriginEntry};
-use rep_ops::{ClientId, Op, Stamp};
+use rep_digest::{ClientEntry, Digest, OriginEntry, RetainedEntry};
+use rep_op::topic_order;
+use rep_ops::{ClientId, Op, Retained, Stamp, Subject};
+use sn_topic::TopicName;
 
 /// Whether a delta has an operation that is not known: no digest covers it, and it was not noted.
 pub fn brings_news(digest: &Digest, notes: &[Name], ops: &[Op]) -> bool
@@ -35,10 +42,69 @@ pub fn is_known(digest: &Digest, notes: &[Name], op: &Op) -> bool
 pub fn is_covered(digest: &Digest, op: &Op) -> bool
     ensures { result ≡ spec.is_covered digest.now op.now }
 {
+    has_of_clients(digest, op) || has_of_topics(digest, op)
+}
+
+/// Whether an entry of a client covers an operation.
+fn has_of_clients(digest: &Digest, op: &Op) -> bool
+    ensures { result ≡ list_any (spec.is_covered_by op.now) digest.now.clients }
+{
+    if !op.is_of_client() {
+        return false;
+    }
     digest
-        .entries()
+        .clients()
         .iter()
         .any(|entry| is_covered_by(entry, op))
+}
+
+/// Whether an entry of a topic covers an operation.
+fn has_of_topics(digest: &Digest, op: &Op) -> bool
+    ensures { result ≡ list_any (spec.is_retained_by op.now) digest.now.topics }
+{
+    match op {
+        Op::Session { .. } => false,
+        Op::Put { .. } => false,
+        Op::Ack { .. } => false,
+        Op::Retain { topic, retained } => has_topic(digest.topics(), topic, retained),
+    }
+}
+
+/// Whether one of the entries is of the topic, and covers what was retained of it. The time is
+/// logarithmic.
+fn has_topic(entries: &[RetainedEntry], topic: &TopicName, retained: &Retained) -> bool
+    requires { TopicsAscend entries.now }
+    ensures { result ≡ list_any (spec.is_retained_by (OfRetain topic.now retained.now))
+        entries.now }
+{
+    match place(entries, topic) {
+        Ok(at) => is_as_late(&entries[at], retained),
+        Err(_) => false,
+    }
+}
+
+/// Where the entry of a topic is, or where it would go.
+fn place(entries: &[RetainedEntry], topic: &TopicName) -> Result<usize, usize>
+    requires { TopicsAscend entries.now }
+    ensures { IsPlace (λ entry. topic_name_cmp entry.topic topic.now) entries.now result }
+{
+    entries.binary_search_by(|entry| topic_order(&entry.topic, topic))
+}
+
+/// Whether what an entry names is as late as this, or later.
+fn is_as_late(entry: &RetainedEntry, retained: &Retained) -> bool
+    ensures { result ≡ spec.is_as_late entry.now (clock_of retained.now) }
+{
+    !is_before(entry, retained)
+}
+
+/// Whether what an entry names came before this.
+fn is_before(entry: &RetainedEntry, retained: &Retained) -> bool
+    ensures { result ≡ is_lt (clock_cmp (entry.now.clock, entry.now.gateway)
+        (clock_of retained.now)) }
+{
+    entry.clock < retained.clock
+        || (entry.clock == retained.clock && entry.gateway < retained.gateway)
 }
 
 /// Whether an entry is of the client of an operation, and covers that.
@@ -59,6 +125,7 @@ fn is_covered_by(entry: &ClientEntry, op: &Op) -> bool
             first,
             last,
         } => entry.client == *client && has_acks(entry, *origin, *first, *last),
+        Op::Retain { .. } => false,
     }
 }
 
@@ -156,6 +223,7 @@ pub fn is_lost(digest: &Digest, notes: &[Name], gateway: u8, op: &Op) -> bool
             first: _,
             last,
         } => *origin == gateway && !reaches(digest, client, *origin, *last),
+        Op::Retain { retained, .. } => retained.gateway == gateway && !is_known(digest, notes, op),
     }
 }
 
@@ -163,7 +231,7 @@ pub fn is_lost(digest: &Digest, notes: &[Name], gateway: u8, op: &Op) -> bool
 fn reaches(digest: &Digest, client: &ClientId, origin: u8, last: u64) -> bool
     ensures { result ≡ spec.reaches client.now origin last digest.now }
 {
-    digest.entries().iter().any(|entry| entry.client == *client
+    digest.clients().iter().any(|entry| entry.client == *client
         && entry_reaches(entry, origin, last))
 }
 
@@ -218,31 +286,49 @@ fn is_of(name: &Name, op: &Op) -> bool
             stamp,
             counter,
             ..
-        } => is_name(
-            name,
-            0,
-            stamp.gateway,
-            stamp.epoch,
-            u64::from(*counter),
-            client,
-        ),
-        Op::Put { client, put } => is_name(name, 1, put.origin, put.seq, put.seq, client),
+        } => {
+            is_name(name, 0, stamp.gateway, stamp.epoch, u64::from(*counter))
+                && is_client(client, &name.of)
+        }
+        Op::Put { client, put } => {
+            is_name(name, 1, put.origin, put.seq, put.seq) && is_client(client, &name.of)
+        }
         Op::Ack {
             client,
             origin,
             first,
             last,
-        } => is_name(name, 2, *origin, *first, *last, client),
+        } => is_name(name, 2, *origin, *first, *last) && is_client(client, &name.of),
+        Op::Retain { topic, retained } => {
+            is_name(name, 3, retained.gateway, retained.clock, retained.clock)
+                && is_topic(topic, &name.of)
+        }
     }
 }
 
 /// Whether a name has these parts.
-fn is_name(name: &Name, kind: u8, gateway: u8, first: u64, last: u64, client: &ClientId) -> bool
-    ensures { result ≡ spec.is_name kind gateway first last client.now name.now }
+fn is_name(name: &Name, kind: u8, gateway: u8, first: u64, last: u64) -> bool
+    ensures { result ≡ spec.is_name kind gateway first last name.now }
 {
-    name.first == first
-        && name.last == last
-        && name.gateway == gateway
-        && name.kind == kind
-        && name.client == *client
+    name.first == first && name.last == last && name.gateway == gateway && name.kind == kind
+}
+
+/// Whether it is this client.
+fn is_client(client: &ClientId, of: &Subject) -> bool
+    ensures { result ≡ spec.is_client client.now of.now }
+{
+    match of {
+        Subject::Client(own) => own == client,
+        Subject::Topic(_) => false,
+    }
+}
+
+/// Whether it is this topic.
+fn is_topic(topic: &TopicName, of: &Subject) -> bool
+    ensures { result ≡ spec.is_topic topic.now of.now }
+{
+    match of {
+        Subject::Client(_) => false,
+        Subject::Topic(own) => own == topic,
+    }
 }

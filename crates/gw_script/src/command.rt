@@ -66,18 +66,28 @@ impl Word {
         ensures { MatchOption result ((word : Word) → text_of word ≢ text.now)
             (λ word. text_of word ≡ text.now) }
     {
-        match text {
-            b"gateway" => Some(Word::Gateway),
-            b"predefine" => Some(Word::Predefine),
-            b"frame" => Some(Word::Frame),
-            b"tick" => Some(Word::Tick),
-            b"take" => Some(Word::Take),
-            b"answer" => Some(Word::Answer),
-            b"fail" => Some(Word::Fail),
-            b"compact" => Some(Word::Compact),
-            b"restart" => Some(Word::Restart),
-            b"show" => Some(Word::Show),
-            _ => None,
+        if text == b"gateway".as_slice() {
+            Some(Word::Gateway)
+        } else if text == b"predefine".as_slice() {
+            Some(Word::Predefine)
+        } else if text == b"frame".as_slice() {
+            Some(Word::Frame)
+        } else if text == b"tick".as_slice() {
+            Some(Word::Tick)
+        } else if text == b"take".as_slice() {
+            Some(Word::Take)
+        } else if text == b"answer".as_slice() {
+            Some(Word::Answer)
+        } else if text == b"fail".as_slice() {
+            Some(Word::Fail)
+        } else if text == b"compact".as_slice() {
+            Some(Word::Compact)
+        } else if text == b"restart".as_slice() {
+            Some(Word::Restart)
+        } else if text == b"show".as_slice() {
+            Some(Word::Show)
+        } else {
+            None
         }
     }
 }

@@ -6,19 +6,20 @@ use Rattle.sn_session.specs.declared.change.SessionOp.{SessionOp}
 use Rattle.rep_op.specs.declared.op.Stamp.{Stamp}
 use Rattle.rep_op.specs.declared.op.Put.{Put}
 use Rattle.rep_op.specs.declared.op.Op.{Op}
-use Rattle.rep_op.specs.declared.op.Op.TheVariants.{Session as OfSession, Put as OfPut, Ack}
-use Rattle.rep_op.specs.Orders.{ShareName, HasTwice}
+use Rattle.rep_op.specs.declared.op.Op.TheVariants.{Session as OfSession, Put as OfPut, Ack, Retain as OfRetain}
+use Rattle.rep_op.specs.declared.op.Retained.{Retained}
+use Rattle.rep_op.specs.Orders.{ShareName, HasTwice, clock_of}
 use Rattle.rep_ops.specs.Deltas.{IsDelta}
-use Rattle.rep_op.specs.Sets.{operation_at, put_at, acknowledges, is_acknowledged, Stands, Agrees}
+use Rattle.rep_op.specs.Sets.{operation_at, put_at, acknowledges, is_acknowledged, retain_at, Stands, Agrees}
 use Rattle.rep_ops.proofs.Joined.{rising_ascending}
 use Rattle.rep_ops.proofs.Rising.{rising_apart}
 use Rattle.rep_op.proofs.Sets.{IsIn, at_in, any_in, one_of_name}
 use Rattle.rep_model.proofs.Joins.{within-left}
-use Rattle.rep_model.proofs.Readers.{operation_at_both, put_at_both, is_acknowledged_both}
+use Rattle.rep_model.proofs.Readers.{operation_at_both, put_at_both, is_acknowledged_both, retain_at_both}
 use Rattle.sn_plan.specs.Own.{IsFresh}
 use Rattle.sn_local.proofs.Entries.{same_client-itself, none_or}
 use Rattle.gw_event.specs.Event.{HaveName}
-use Rattle.gw_node.proofs.Occurring.{is_there, operation_occurs, put_occurs}
+use Rattle.gw_node.proofs.Occurring.{is_there, operation_occurs, put_occurs, retain_occurs}
 
 pub some-is : {X : Type 0} (o : Option X) → is_some o ≡ true → (x : X) × (o ≡ Some x)
 some-is None h = absurd (true≢false (sym h))
@@ -43,6 +44,14 @@ put-alone T c p x alone e =
     let there = put_occurs c T (p.seq, p.origin) x e in
     put-is c x p (alone (OfPut c x) there.0 (refl, ap (λ (n : ℕ × ℕ). n.1) there.1, ap (λ (n : ℕ × ℕ). n.0) there.1))
 
+retain-is : (t : List ℕ) (x y : Retained) → OfRetain t x ≡ OfRetain t y → x ≡ y
+retain-is t x y e = cc
+
+retain-alone : (T : List Op) (t : List ℕ) (k x : Retained) → IsAlone T (OfRetain t k) → retain_at t T (clock_of k) ≡ Some x → x ≡ k
+retain-alone T t k x alone e =
+    let there = retain_occurs t T (clock_of k) x e in
+    retain-is t x k (alone (OfRetain t x) there.0 (refl, ap (λ (n : ℕ × ℕ). n.0) there.1, ap (λ (n : ℕ × ℕ). n.1) there.1))
+
 is_in : (op : Op) (T : List Op) → Contains T op → IsIn op T
 is_in op T h = at_in op T h.0 (slice_get-get_or T h.0 op h.1 ∙ ap Some h.2)
 
@@ -56,6 +65,9 @@ stands-alone T (OfSession c s k o) h alone =
 stands-alone T (OfPut c p) h alone =
     let r = some-is (put_at c T (p.seq, p.origin)) (is_there T (OfPut c p) h) in
     r.1 ∙ ap Some (put-alone T c p r.0 alone r.1)
+stands-alone T (OfRetain t k) h alone =
+    let r = some-is (retain_at t T (clock_of k)) (is_there T (OfRetain t k) h) in
+    r.1 ∙ ap Some (retain-alone T t k r.0 alone r.1)
 stands-alone T (Ack c origin first last) h alone = λ seq lower upper.
     any_in (acknowledges c (seq, origin)) (Ack c origin first last) T (covered c origin first last seq lower upper) (is_in (Ack c origin first last) T h)
 
@@ -71,15 +83,22 @@ agrees-alone T (OfPut c p) alone =
       | Some x ↦ λ e. put-alone T c p x alone e
     ] refl
 agrees-alone T (Ack c origin first last) alone = tt
+agrees-alone T (OfRetain t k) alone =
+    elim (retain_at t T (clock_of k)) as (λ r. retain_at t T (clock_of k) ≡ r → IfSome r (λ kept. kept ≡ k)) [
+      | None ↦ λ e. tt
+      | Some x ↦ λ e. retain-alone T t k x alone e
+    ] refl
 
 shared : (a b : Op) → HaveName a b → ShareName a b
 shared (OfSession c s k o) (OfSession d t j p) h = h
 shared (OfPut c p) (OfPut d q) h = h
+shared (OfRetain t k) (OfRetain u l) h = h
 shared a b h = absurd h
 
 pub turned : (a b : Op) → HaveName a b → HaveName b a
 turned (OfSession c s k o) (OfSession d t j p) h = (sym h.0, sym h.1, sym h.2)
 turned (OfPut c p) (OfPut d q) h = (sym h.0, sym h.1, sym h.2)
+turned (OfRetain t k) (OfRetain u l) h = (sym h.0, sym h.1, sym h.2)
 turned a b h = absurd h
 
 delta-once : (D : List Op) → IsDelta D → ¬ (HasTwice D)
@@ -106,12 +125,14 @@ contains_at T k op e = (k, slice_get_within T k op e, get_or_from_slice_get T k 
 pub stands-left : (A B : List Op) (op : Op) → Stands A op → Stands (A ++ B) op
 stands-left A B (OfSession c s k o) h = (within-left A B).operations_in c (s, k) o h
 stands-left A B (OfPut c p) h = (within-left A B).puts_in c (p.seq, p.origin) p h
+stands-left A B (OfRetain t k) h = (within-left A B).retains_in t (clock_of k) k h
 stands-left A B (Ack c origin first last) h = λ seq lower upper. (within-left A B).acknowledgements_in c (seq, origin) (h seq lower upper)
 
 -- under a name that is fresh before it
 pub stands-right : (A B : List Op) (op : Op) → IsFresh A op → Stands B op → Stands (A ++ B) op
 stands-right A B (OfSession c s k o) fresh h = operation_at_both c A B (s, k) ∙ none_or (operation_at c A (s, k)) (operation_at c B (s, k)) fresh ∙ h
 stands-right A B (OfPut c p) fresh h = put_at_both c A B (p.seq, p.origin) ∙ none_or (put_at c A (p.seq, p.origin)) (put_at c B (p.seq, p.origin)) fresh ∙ h
+stands-right A B (OfRetain t k) fresh h = retain_at_both t A B (clock_of k) ∙ none_or (retain_at t A (clock_of k)) (retain_at t B (clock_of k)) fresh ∙ h
 stands-right A B (Ack c origin first last) fresh h = λ seq lower upper.
     is_acknowledged_both c A B (seq, origin) ∙ or_right (is_acknowledged c A (seq, origin)) (is_acknowledged c B (seq, origin)) (h seq lower upper)
 
@@ -119,4 +140,5 @@ stands-right A B (Ack c origin first last) fresh h = λ seq lower upper.
 pub stands-contains : (T : List Op) (a b : Op) → HaveName a b → Stands T a → Contains T a
 stands-contains T (OfSession c s k o) (OfSession d t j p) named h = operation_occurs c T (s, k) o h
 stands-contains T (OfPut c p) (OfPut d q) named h = (put_occurs c T (p.seq, p.origin) p h).0
+stands-contains T (OfRetain t k) (OfRetain u l) named h = (retain_occurs t T (clock_of k) k h).0
 stands-contains T a b named h = absurd named

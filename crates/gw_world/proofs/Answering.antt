@@ -5,20 +5,21 @@ use Rattle.std.specs.List.{AllByRecursion}
 use Rattle.std.proofs.lemmas.List.Elements.{All-from_recursion, All-contains}
 use Rattle.std.proofs.lemmas.Option.{none-some}
 use Rattle.rep_op.specs.declared.op.Op.{Op}
-use Rattle.rep_op.specs.declared.op.Op.TheVariants.{Session as OfSession, Put as OfPut, Ack}
+use Rattle.rep_op.specs.declared.op.Op.TheVariants.{Session as OfSession, Put as OfPut, Ack, Retain as OfRetain}
 use Rattle.rep_ops.specs.Deltas.{IsDelta}
 use Rattle.rep_op.specs.WellMade.{is_well_made}
-use Rattle.rep_op.specs.Sets.{operation_at, put_at, is_acknowledged, Stands, IsConsistent, Within, Same}
+use Rattle.rep_op.specs.Orders.{clock_of}
+use Rattle.rep_op.specs.Sets.{operation_at, put_at, is_acknowledged, retain_at, Stands, IsConsistent, Within, Same}
 use Rattle.rep_ops.specs.Splitting.{all_of, AreDeltasOf}
 use Rattle.rep_ops.proofs.Joined.{rising_ascending, ascending_rising}
 use Rattle.rep_ops.proofs.Rising.{Past, Rising}
-use Rattle.rep_model.specs.Keep.{keep, is_below}
+use Rattle.rep_model.specs.Topics.{latest}
+use Rattle.rep_model.specs.Keep.{keep, is_below, is_outdone}
 use Rattle.rep_model.specs.Views.{visible}
 use Rattle.rep_model.proofs.Joins.{all-left, all-right, all-moved}
-use Rattle.rep_model.proofs.Readers.{operation_at_keep, put_at_keep, is_acknowledged_keep}
-use Rattle.rep_digest.specs.declared.entry.ClientEntry.{ClientEntry}
-use Rattle.rep_answer.specs.Answers.{covers_operation, covers_put, covers_acknowledgement, IsRest, IsAnswer}
-use Rattle.rep_digest.specs.Digests.{digest}
+use Rattle.rep_model.proofs.Readers.{operation_at_keep, put_at_keep, is_acknowledged_keep, retain_at_keep}
+use Rattle.rep_answer.specs.Answers.{covers_operation, covers_put, covers_acknowledgement, covers_retain, IsRest, IsAnswer}
+use Rattle.rep_digest.specs.Digests.{Digested, digest}
 use Rattle.gw_answer.specs.declared.out.Out.{Out}
 use Rattle.gw_answer.specs.declared.refusal.Refusal.{Refusal}
 use Rattle.gw_answer.specs.declared.refusal.Refusal.TheVariants as refusals
@@ -68,6 +69,7 @@ within-trans A B C f g = record {
   operations_in = λ c name change e. g.operations_in c name change (f.operations_in c name change e);
   puts_in = λ c name put e. g.puts_in c name put (f.puts_in c name put e);
   acknowledgements_in = λ c name e. g.acknowledgements_in c name (f.acknowledgements_in c name e);
+  retains_in = λ t name last e. g.retains_in t name last (f.retains_in t name last e);
 }
 
 within-same : (A B : List Op) → Same A B → Within A B
@@ -75,6 +77,7 @@ within-same A B s = record {
   operations_in = λ c name change e. sym (s.operations_same c name) ∙ e;
   puts_in = λ c name put e. sym (s.puts_same c name) ∙ e;
   acknowledgements_in = λ c name e. sym (s.acknowledgements_same c name) ∙ e;
+  retains_in = λ t name last e. sym (s.retains_same t name) ∙ e;
 }
 
 without : {X : Type 0} (b : Bool) (o : Option X) (x : X) → (if b then None else o) ≡ Some x → o ≡ Some x
@@ -89,11 +92,12 @@ but : (b a : Bool) → (not b && a) ≡ true → a ≡ true
 but false a e = e
 but true a e = absurd (true≢false (sym e))
 
-rest-within : (d : List ClientEntry) (S X : List Op) → IsRest d S X → Within X S
+rest-within : (d : Digested) (S X : List Op) → IsRest d S X → Within X S
 rest-within d S X r = record {
   operations_in = λ c name change e. without (covers_operation d c name) (operation_at c S name) change (sym (r.operations_left c name) ∙ e);
   puts_in = λ c name put e. without (covers_put d c name) (put_at c S name) put (sym (r.puts_left c name) ∙ e);
   acknowledgements_in = λ c name e. but (covers_acknowledgement d c name) (is_acknowledged c S name) (sym (r.acknowledgements_left c name) ∙ e);
+  retains_in = λ t name last e. without (covers_retain d t name) (retain_at t S name) last (sym (r.retains_left t name) ∙ e);
 }
 
 kept-within : (S : List Op) → Within (keep S) S
@@ -101,6 +105,7 @@ kept-within S = record {
   operations_in = λ c name change e. unless (is_below name.0 (visible c S)) (operation_at c S name) change (sym (operation_at_keep c S name) ∙ e);
   puts_in = λ c name put e. unless (is_acknowledged c S name) (put_at c S name) put (sym (put_at_keep c S name) ∙ e);
   acknowledgements_in = λ c name e. sym (is_acknowledged_keep c S name) ∙ e;
+  retains_in = λ t name last e. unless (is_outdone name (latest t S)) (retain_at t S name) last (sym (retain_at_keep t S name) ∙ e);
 }
 
 -- ---- answers
@@ -117,10 +122,10 @@ none-answered S = record {
   proper = tt;
   writable = tt;
   consistent = tt;
-  within = record { operations_in = λ c name change e. absurd (none-some change e); puts_in = λ c name put e. absurd (none-some put e); acknowledgements_in = λ c name e. absurd (true≢false (sym e)) };
+  within = record { operations_in = λ c name change e. absurd (none-some change e); puts_in = λ c name put e. absurd (none-some put e); acknowledgements_in = λ c name e. absurd (true≢false (sym e)); retains_in = λ t name last e. absurd (none-some last e) };
 }
 
-some-answered : (d : List ClientEntry) (S : List Op) (made : List (List Op)) → IsAnswer d S made → AllByRecursion IsWritable made → Answered S made
+some-answered : (d : Digested) (S : List Op) (made : List (List Op)) → IsAnswer d S made → AllByRecursion IsWritable made → Answered S made
 some-answered d S made h writable =
     let whole = deltas-delta h.0 made h.2 in record {
       proper = parts-proper made whole;
@@ -165,6 +170,7 @@ module _ (P : Op → Type 0) (acks : (c : List ℕ) (origin first last : ℕ) �
   one-answered (OfSession c s k o) h = of_set (OfSession c s k o) (stands-contains S (OfSession c s k o) (OfSession c s k o) (refl, refl, refl) (b.within.operations_in c (s, k) o (stands-there (OfSession c s k o) h)))
   one-answered (OfPut c p) h = of_set (OfPut c p) (stands-contains S (OfPut c p) (OfPut c p) (refl, refl, refl) (b.within.puts_in c (p.seq, p.origin) p (stands-there (OfPut c p) h)))
   one-answered (Ack c origin first last) h = acks c origin first last
+  one-answered (OfRetain t k) h = of_set (OfRetain t k) (stands-contains S (OfRetain t k) (OfRetain t k) (refl, refl, refl) (b.within.retains_in t (clock_of k) k (stands-there (OfRetain t k) h)))
 
   pub all-answered : AllOf P made
   all-answered = flat-all P (λ (delta : List Op). delta) made (all-moved P (all_of made) one-answered)

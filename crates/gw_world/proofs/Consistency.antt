@@ -5,8 +5,9 @@ use Rattle.std.proofs.Common.{◌≡◌, Bool, refl, ℕ, zero, suc, ◌-◌, �
 use Rattle.std.specs.List.{AllByRecursion}
 use Rattle.std.proofs.lemmas.List.Elements.{All-from_recursion, All-contains}
 use Rattle.std.proofs.lemmas.Option.{none-some, same_Some}
+use Rattle.rep_op.specs.declared.op.Subject.{Subject}
 use Rattle.rep_op.specs.declared.op.Op.{Op}
-use Rattle.rep_op.specs.declared.op.Op.TheVariants.{Session as OfSession, Put as OfPut, Ack}
+use Rattle.rep_op.specs.declared.op.Op.TheVariants.{Session as OfSession, Put as OfPut, Ack, Retain as OfRetain}
 use Rattle.rep_ops.specs.Deltas.{IsDelta}
 use Rattle.rep_op.specs.Sets.{Stands, IsConsistent, Agrees}
 use Rattle.rep_model.specs.Keep.{keep}
@@ -59,7 +60,7 @@ IsAtPeace answer = Unit {0}
 
 abbrev pub IsPeaceful : Answer → Type 0
 IsPeaceful (Node answer) = IsAtPeace (said answer)
-IsPeaceful (Views views) = Unit {0}
+IsPeaceful (Views views topics) = Unit {0}
 IsPeaceful (Records count) = Unit {0}
 IsPeaceful Nothing = Unit {0}
 
@@ -129,7 +130,7 @@ module _ (field : Field) (s : FlushField field) (w : WholeField field) (n i : �
   own-peaceful occasion now (Err refusals.Memory) next made h = tt
 
   -- a listed delta has nothing that differs from what the gateway has under its name
-  listed-peaceful : (k : ℕ) (delta : List Op) (client : List ℕ) → slice_get field.deltas k ≡ Some delta → IsConflict old.taken delta client → ⊥
+  listed-peaceful : (k : ℕ) (delta : List Op) (client : Subject) → slice_get field.deltas k ≡ Some delta → IsConflict old.taken delta client → ⊥
   listed-peaceful k delta client there x =
       x.differs (held-alike field.gateways x.old x.new
       (All-contains (IsHeld field.gateways) old.taken x.old (All-from_recursion (IsHeld field.gateways) old.taken (w.each.sets i old at.1)) x.is_old)
@@ -222,14 +223,14 @@ after-sound old (Restart number kept) (Records count) new h s w d =
       whole = subst WholeField (sym h.4) (whole-again old s w number h.0 h.1 h.2 kept due);
       peaceful = tt;
     }
-after-sound old (Show number) (Views views) new h s w d = record { flush = subst FlushField (sym h.4) s; whole = subst WholeField (sym h.4) w; peaceful = tt }
-after-sound old (Frame number from bytes now) (Views views) new h s w d = absurd h
-after-sound old (Tick number now) (Views views) new h s w d = absurd h
-after-sound old (Take number delta) (Views views) new h s w d = absurd h
-after-sound old (Asks number peer) (Views views) new h s w d = absurd h
+after-sound old (Show number) (Views views topics) new h s w d = record { flush = subst FlushField (sym h.4) s; whole = subst WholeField (sym h.4) w; peaceful = tt }
+after-sound old (Frame number from bytes now) (Views views topics) new h s w d = absurd h
+after-sound old (Tick number now) (Views views topics) new h s w d = absurd h
+after-sound old (Take number delta) (Views views topics) new h s w d = absurd h
+after-sound old (Asks number peer) (Views views topics) new h s w d = absurd h
 after-sound old (Show number) (Node answer) new h s w d = absurd h
-after-sound old (Compact number) (Views views) new h s w d = absurd h
-after-sound old (Restart number kept) (Views views) new h s w d = absurd h
+after-sound old (Compact number) (Views views topics) new h s w d = absurd h
+after-sound old (Restart number kept) (Views views topics) new h s w d = absurd h
 after-sound old (Restart number kept) (Node answer) new h s w d = absurd h
 after-sound old (Frame number from bytes now) (Records count) new h s w d = absurd h
 after-sound old (Tick number now) (Records count) new h s w d = absurd h
@@ -238,7 +239,7 @@ after-sound old (Asks number peer) (Records count) new h s w d = absurd h
 after-sound old (Compact number) (Records count) new h s w d = absurd h
 after-sound old (Show number) (Records count) new h s w d = absurd h
 after-sound old (WriteFails number bytes sync) (Node answer) new h s w d = absurd h
-after-sound old (WriteFails number bytes sync) (Views views) new h s w d = absurd h
+after-sound old (WriteFails number bytes sync) (Views views topics) new h s w d = absurd h
 after-sound old (WriteFails number bytes sync) (Records count) new h s w d = absurd h
 after-sound old (Frame number from bytes now) Nothing new h s w d = absurd h
 after-sound old (Tick number now) Nothing new h s w d = absurd h
@@ -300,6 +301,7 @@ module _ (field : Field) (w : WholeField field) where
   at-home (OfSession c s k o) h = (h.0, h.1, (first-place_of s.gateway h.0 field.gateways h.2, h.3), h.4)
   at-home (OfPut c p) h = (h.0, h.1, (first-place_of p.origin h.0 field.gateways h.2, h.3), h.4)
   at-home (Ack c origin first last) h = tt
+  at-home (OfRetain t k) h = (h.0, h.1, (first-place_of k.gateway h.0 field.gateways h.2, h.3), h.4)
 
   taken-held : (gateway : Gateway) → Contains field.gateways gateway → AllByRecursion (IsHeld field.gateways) gateway.taken
   taken-held gateway there = All-contains (λ (g : Gateway). AllByRecursion (IsHeld field.gateways) g.taken) field.gateways gateway
@@ -332,7 +334,7 @@ field-agrees configs events answers field gateway delta h in_field in_list =
     let agrees = delta-agrees field (field-whole configs events answers field h) gateway delta in_field in_list in
     (agrees, all-weaken (Agrees gateway.taken) (Agrees (keep gateway.taken)) (agrees_with_kept gateway.taken) delta agrees)
 
-pub field-no_conflict : (configs : List Config) (events : List Event) (answers : List Answer) (field : Field) (number i k : ℕ) (gateway : Gateway) (delta : List Op) (client : List ℕ) (new : Gateway) (made : List (List Op)) → Run (new_field configs) events answers field → IsAt field number i gateway → IsDeltaAt field k delta → TakeStep gateway delta (Err (refusals.Conflict client)) new made → ⊥
+pub field-no_conflict : (configs : List Config) (events : List Event) (answers : List Answer) (field : Field) (number i k : ℕ) (gateway : Gateway) (delta : List Op) (client : Subject) (new : Gateway) (made : List (List Op)) → Run (new_field configs) events answers field → IsAt field number i gateway → IsDeltaAt field k delta → TakeStep gateway delta (Err (refusals.Conflict client)) new made → ⊥
 field-no_conflict configs events answers field number i k gateway delta client new made h at there step =
     let w = field-whole configs events answers field h in
     let alike = λ (old new : Op) (is_old : Contains gateway.taken old) (is_new : Contains delta new) (named : HaveName old new).
@@ -342,7 +344,7 @@ field-no_conflict configs events answers field number i k gateway delta client n
     named in
     step.0.differs (alike step.0.old step.0.new step.0.is_old step.0.is_new step.0.named)
 
-pub field-never : (configs : List Config) (events : List Event) (answers : List Answer) (field : Field) (client : List ℕ) → Run (new_field configs) events answers field → Contains answers (Node (Err (faults.Conflict client))) → ⊥
+pub field-never : (configs : List Config) (events : List Event) (answers : List Answer) (field : Field) (client : Subject) → Run (new_field configs) events answers field → Contains answers (Node (Err (faults.Conflict client))) → ⊥
 field-never configs events answers field client h there =
     All-contains IsPeaceful answers (Node (Err (faults.Conflict client))) (All-from_recursion IsPeaceful answers (field-sound configs events answers field h).peaceful) there
 

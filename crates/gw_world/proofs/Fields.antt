@@ -8,8 +8,10 @@ use Rattle.std.specs.declared.alloc.Global.{Global}
 use Rattle.rep_op.specs.declared.op.Op.{Op}
 use Rattle.rep_model.specs.Views.{view}
 use Rattle.rep_model.specs.Taking.{AllAgree}
+use Rattle.rep_model.specs.Topics.{all_retained}
 use Rattle.rep_model.proofs.Joins.{view-counts}
 use Rattle.rep_model.proofs.Named.{clients-counts}
+use Rattle.rep_model.proofs.Topics.{all_retained-counts}
 use Rattle.sn_local.specs.declared.config.Config.{Config}
 use Rattle.jr_disk.specs.declared.disk.Disk.{Ghosts}
 use Rattle.gw_answer.specs.declared.out.Out.{Out}
@@ -186,24 +188,24 @@ module _ {D : Type 0} {G : Ghosts D} (field : Field) (r : IsReached field) (ks :
           shown = moved i _ news m (restarted left at.gateway) went.0;
           listed = unlisted next is_next;
         }
-    event_reaches (Show n) news next (Views views) (i, place, ((kept, there, is_views), same, is_next)) =
+    event_reaches (Show n) news next (Views views topics) (i, place, ((kept, there, is_views, is_topics), same, is_next)) =
         let at = shown_at field.gateways ks i kept s there in
         let counts = at.shown.stands.keeps.counts in
         let known : shown kept.kept ≡ shown at.gateway.taken =
         λ j. map (λ c. (c, view-counts c at.gateway.taken kept.kept counts j)) (clients-counts at.gateway.taken kept.kept counts j) in
         record {
           new = field;
-          after = (i, at.gateway, (place_there n i place, at.place), is_views ∙ known, refl);
+          after = (i, at.gateway, (place_there n i place, at.place), is_views ∙ known, refl, is_topics ∙ all_retained-counts at.gateway.taken kept.kept counts);
           shown = subst (λ xs. AreShown field.gateways xs) (sym same) s;
           listed = listed ∙ sym is_next;
         }
-    event_reaches (Frame n from bytes now) news next (Views views) (i, place, h) = absurd h
-    event_reaches (Tick n now) news next (Views views) (i, place, h) = absurd h
-    event_reaches (Take n delta) news next (Views views) (i, place, (ops, there, h, is_next)) = absurd h
-    event_reaches (Asks n m) news next (Views views) (i, place, ((j, other, h), same)) = absurd h
+    event_reaches (Frame n from bytes now) news next (Views views topics) (i, place, h) = absurd h
+    event_reaches (Tick n now) news next (Views views topics) (i, place, h) = absurd h
+    event_reaches (Take n delta) news next (Views views topics) (i, place, (ops, there, h, is_next)) = absurd h
+    event_reaches (Asks n m) news next (Views views topics) (i, place, ((j, other, h), same)) = absurd h
     event_reaches (Show n) news next (Node answer) (i, place, (h, same, is_next)) = absurd h
-    event_reaches (Compact n) news next (Views views) (i, place, (h, is_next)) = absurd h
-    event_reaches (Restart n left) news next (Views views) (i, place, (h, is_next)) = absurd h
+    event_reaches (Compact n) news next (Views views topics) (i, place, (h, is_next)) = absurd h
+    event_reaches (Restart n left) news next (Views views topics) (i, place, (h, is_next)) = absurd h
     event_reaches (Restart n left) news next (Node answer) (i, place, (h, is_next)) = absurd h
     event_reaches (Frame n from bytes now) news next (Records count) (i, place, h) = absurd h
     event_reaches (Tick n now) news next (Records count) (i, place, h) = absurd h
@@ -212,7 +214,7 @@ module _ {D : Type 0} {G : Ghosts D} (field : Field) (r : IsReached field) (ks :
     event_reaches (Compact n) news next (Records count) (i, place, (h, is_next)) = absurd h
     event_reaches (Show n) news next (Records count) (i, place, (h, same, is_next)) = absurd h
     event_reaches (WriteFails n bytes sync) news next (Node answer) (i, place, (h, is_next)) = absurd h
-    event_reaches (WriteFails n bytes sync) news next (Views views) (i, place, (h, is_next)) = absurd h
+    event_reaches (WriteFails n bytes sync) news next (Views views topics) (i, place, (h, is_next)) = absurd h
     event_reaches (WriteFails n bytes sync) news next (Records count) (i, place, (h, is_next)) = absurd h
     event_reaches (Frame n from bytes now) news next Nothing (i, place, h) = absurd h
     event_reaches (Tick n now) news next Nothing (i, place, h) = absurd h
@@ -283,6 +285,17 @@ module _ {D : Type 0} {G : Ghosts D} where
       ap (λ x. view c (held x).kept) (sym is_node) ∙ (view-counts c g.taken (held n).kept s.0.stands.keeps.counts ∙ ap (λ (x : Gateway). view c x.taken) is_gateway)
   views_shown held (g ∷ gs) (n ∷ nodes) s (suc i) gateway node e f c = views_shown held gs nodes s.1 i gateway node e f c
 
+  retained_shown : {N : Type 0} (held : N → State G) (gs : List Gateway) (nodes : List N) → AreShown gs (map held nodes)
+      → (i : ℕ) (gateway : Gateway) (node : N) → slice_get gs i ≡ Some gateway → slice_get nodes i ≡ Some node
+      → all_retained (held node).kept ≡ all_retained gateway.taken
+  retained_shown held [] nodes s i gateway node e f = absurd (cc)
+  retained_shown held (g ∷ gs) [] s i gateway node e f = absurd s
+  retained_shown held (g ∷ gs) (n ∷ nodes) s zero gateway node e f =
+      let is_gateway : g ≡ gateway = cc in
+      let is_node : n ≡ node = cc in
+      ap (λ x. all_retained (held x).kept) (sym is_node) ∙ (all_retained-counts g.taken (held n).kept s.0.stands.keeps.counts ∙ ap (λ (x : Gateway). all_retained x.taken) is_gateway)
+  retained_shown held (g ∷ gs) (n ∷ nodes) s (suc i) gateway node e f = retained_shown held gs nodes s.1 i gateway node e f
+
   shown_push : (gs : List Gateway) (ks : List (State G)) (g : Gateway) (k : State G) → AreShown gs ks → IsShown g k → AreShown (gs ++ g ∷ []) (ks ++ k ∷ [])
   shown_push [] [] g k s one = (one, tt)
   shown_push (x ∷ gs) (y ∷ ks) g k s one = (s.0, shown_push gs ks g k s.1 one)
@@ -328,4 +341,5 @@ module _ {D : Type 0} {G : Ghosts D} where
         listed = sym end.3;
         shown = end.2;
         views = λ i gateway node e f c. views_shown held end.0.gateways nodes end.2 i gateway node e f c;
+        retained = λ i gateway node e f. retained_shown held end.0.gateways nodes end.2 i gateway node e f;
       }

@@ -44,7 +44,7 @@ unfolding slot_content
 no_fault gateway = refl
 
 nothing_within : Within [] []
-nothing_within = record { operations_in = λ c name x e. e; puts_in = λ c name x e. e; acknowledgements_in = λ c name e. e }
+nothing_within = record { operations_in = λ c name x e. e; puts_in = λ c name x e. e; acknowledgements_in = λ c name e. e; retains_in = λ t name last e. e }
 
 none_roomy : (k : ℕ) → first_passed (all_of (take k [])) ≡ None
 none_roomy zero = refl

@@ -3,9 +3,11 @@ use Rattle.std.proofs.Common.{◌≡◌, Bool, false, append-nil, ℕ, ◌⊎◌
 use Rattle.std.specs.List.{AllByRecursion}
 use Rattle.std.specs.Option.{option_to_list}
 use Rattle.std.proofs.lemmas.Option.{none-some, same_Some, slice_get-map}
+use Rattle.rep_op.specs.declared.op.Subject.{Subject}
 use Rattle.rep_op.specs.declared.op.Op.{Op}
-use Rattle.rep_op.specs.declared.op.Op.TheVariants.{Session as OfSession, Put as OfPut}
-use Rattle.rep_op.specs.Sets.{operation_at, put_at, Same}
+use Rattle.rep_op.specs.declared.op.Op.TheVariants.{Session as OfSession, Put as OfPut, Retain as OfRetain}
+use Rattle.rep_op.specs.Orders.{clock_of}
+use Rattle.rep_op.specs.Sets.{operation_at, put_at, Same, retain_at}
 use Rattle.rep_ops.specs.Deltas.{IsDelta}
 use Rattle.rep_ops.specs.Making.{IsDeltaOf}
 use Rattle.rep_model.specs.Taking.{AllAgree}
@@ -15,7 +17,7 @@ use Rattle.sn_local.specs.Seen.{seen_of}
 use Rattle.sn_plan.specs.Own.{IsOfDraft}
 use Rattle.sn_plan.specs.Flush.{IsFlush, AreFlush}
 use Rattle.step_laws.proofs.Drafting.{step-drafted, tick-drafted}
-use Rattle.row_laws.proofs.Stepping.{step-fits, step-flush, step-new_operation, step-new_put}
+use Rattle.row_laws.proofs.Stepping.{step-fits, step-flush, step-new_operation, step-new_put, step-new_retain}
 use Rattle.row_laws.proofs.Flushness.{flush-start, flush-taken}
 use Rattle.gw_answer.specs.declared.out.Out.{Out}
 use Rattle.gw_answer.specs.declared.refusal.Refusal.{Refusal}
@@ -231,6 +233,10 @@ module _ (gateway : Gateway) (plan : Plan) (p : IsOfDraft gateway.config.gateway
       some_none (put_at d gateway.taken (y.seq, y.origin))
       (subst (λ k. is_some (put_at d gateway.taken (k, y.origin)) ≡ true) named.2 (subst (λ k. is_some (put_at d gateway.taken (x.seq, k)) ≡ true) named.1 (subst (λ e. is_some (put_at e gateway.taken (x.seq, x.origin)) ≡ true) named.0 (is_there gateway.taken (OfPut c x) before))))
       (step-new_put gateway.config.gateway gateway.taken plan p delta same flush d (y.seq, y.origin) (is_there delta (OfPut d y) after))
+  names-apart (OfRetain t x) (OfRetain u y) before after named =
+      some_none (retain_at u gateway.taken (clock_of y))
+      (subst (λ k. is_some (retain_at u gateway.taken (y.clock, k)) ≡ true) named.2 (subst (λ k. is_some (retain_at u gateway.taken (k, x.gateway)) ≡ true) named.1 (subst (λ e. is_some (retain_at e gateway.taken (clock_of x)) ≡ true) named.0 (is_there gateway.taken (OfRetain t x) before))))
+      (step-new_retain gateway.config.gateway gateway.taken plan p delta same flush u (clock_of y) (is_there delta (OfRetain u y) after))
   names-apart old new before after named = absurd named
 
 pub plan-agrees : (field : Field) (number i : ℕ) (gateway : Gateway) (occasion : Occasion) (now : ℕ) (plan : Plan) (delta : List Op) → IsSteady field → IsAt field number i gateway → IsPlan gateway occasion now (Some plan) → IsDeltaOf plan.ops delta → AllAgree gateway.taken delta
@@ -239,8 +245,8 @@ plan-agrees field number i gateway occasion now plan delta s at h d =
     (step-fits gateway.config.gateway gateway.taken plan (plan-drafted gateway occasion now plan h) delta d.same
     (λ c. subst (λ k. IsFlush k c gateway.taken) (sym own) (s.flush number i gateway at c))).0
 
-pub no-conflict : (field : Field) (number i : ℕ) (gateway : Gateway) (occasion : Occasion) (now : ℕ) (client : List ℕ) (new : Gateway) (made : List (List Op)) → IsSteady field → IsAt field number i gateway → OwnStep gateway occasion now (Err (refusals.Conflict client)) new made → ⊥
-no-conflict field number i gateway occasion now client new made s at h =
+pub no-conflict : (field : Field) (number i : ℕ) (gateway : Gateway) (occasion : Occasion) (now : ℕ) (of : Subject) (new : Gateway) (made : List (List Op)) → IsSteady field → IsAt field number i gateway → OwnStep gateway occasion now (Err (refusals.Conflict of)) new made → ⊥
+no-conflict field number i gateway occasion now of new made s at h =
     let own : gateway.config.gateway ≡ number = first-number number i field.gateways gateway (place_of-first number i field.gateways at.0) at.1 in
     let conflict = h.2.2 in
     names-apart gateway h.0 (plan-drafted gateway occasion now h.0 h.1) h.2.0 h.2.1.same (λ c. subst (λ k. IsFlush k c gateway.taken) (sym own) (s.flush number i gateway at c))

@@ -6,7 +6,7 @@ use Rattle.std.proofs.lemmas.List.Concat.{flat_map-append}
 use Rattle.std.proofs.lemmas.List.Elements.{All-from_recursion, All-contains, Contains-append_left, Contains-append_right}
 use Rattle.std.proofs.lemmas.Option.{none-some, same_Some}
 use Rattle.rep_op.specs.declared.op.Op.{Op}
-use Rattle.rep_op.specs.declared.op.Op.TheVariants.{Session as OfSession, Put as OfPut, Ack}
+use Rattle.rep_op.specs.declared.op.Op.TheVariants.{Session as OfSession, Put as OfPut, Ack, Retain as OfRetain}
 use Rattle.rep_ops.specs.Deltas.{IsDelta}
 use Rattle.rep_ops.specs.Splitting.{all_of}
 use Rattle.rep_model.proofs.Joins.{all-moved}
@@ -49,11 +49,13 @@ if_some : (op : Op) (P Q : Op → Type 0) → (P op → Q op) → IfSome (number
 if_some (OfSession c s k o) P Q f h = f h
 if_some (OfPut c p) P Q f h = f h
 if_some (Ack c origin first last) P Q f h = tt
+if_some (OfRetain topic kept) P Q f h = f h
 
 always : (op : Op) (P : Op → Type 0) → P op → IfSome (number_of op) (λ number. P op)
 always (OfSession c s k o) P h = h
 always (OfPut c p) P h = h
 always (Ack c origin first last) P h = tt
+always (OfRetain topic kept) P h = h
 
 told-before : (ts made : List (List Op)) (op : Op) → IsTold ts op → IsTold (ts ++ made) op
 told-before ts made op h = if_some op (Contains (all_of ts)) (Contains (all_of (ts ++ made)))
@@ -165,14 +167,14 @@ after-telling W old (Compact number) (Node answer) new ts h s well t =
     (telling-still W old ts t h.0 h.1 h.2 [] h.3.1 (compact-still h.1 h.2 (said answer) h.4)))
 after-telling W old (Restart number kept) (Records count) new ts h s well t =
     subst (λ (x : Field). Telling W x (ts ++ [])) (sym h.4) (telling-back W old ts t h.0 h.1 (restarted kept h.1) [] h.2.1 (λ q. (well q h.0 h.1 h.2.1).0) (restart-moves kept h.1))
-after-telling W old (Show number) (Views views) new ts h s well t = quiet W new ts [] refl (subst (λ (x : Field). Telling W x ts) (sym h.4) t)
-after-telling W old (Frame number from bytes now) (Views views) new ts h s well t = absurd h
-after-telling W old (Tick number now) (Views views) new ts h s well t = absurd h
-after-telling W old (Take number delta) (Views views) new ts h s well t = absurd h
-after-telling W old (Asks number peer) (Views views) new ts h s well t = absurd h
+after-telling W old (Show number) (Views views topics) new ts h s well t = quiet W new ts [] refl (subst (λ (x : Field). Telling W x ts) (sym h.4) t)
+after-telling W old (Frame number from bytes now) (Views views topics) new ts h s well t = absurd h
+after-telling W old (Tick number now) (Views views topics) new ts h s well t = absurd h
+after-telling W old (Take number delta) (Views views topics) new ts h s well t = absurd h
+after-telling W old (Asks number peer) (Views views topics) new ts h s well t = absurd h
 after-telling W old (Show number) (Node answer) new ts h s well t = absurd h
-after-telling W old (Compact number) (Views views) new ts h s well t = absurd h
-after-telling W old (Restart number kept) (Views views) new ts h s well t = absurd h
+after-telling W old (Compact number) (Views views topics) new ts h s well t = absurd h
+after-telling W old (Restart number kept) (Views views topics) new ts h s well t = absurd h
 after-telling W old (Restart number kept) (Node answer) new ts h s well t = absurd h
 after-telling W old (Frame number from bytes now) (Records count) new ts h s well t = absurd h
 after-telling W old (Tick number now) (Records count) new ts h s well t = absurd h
@@ -181,7 +183,7 @@ after-telling W old (Asks number peer) (Records count) new ts h s well t = absur
 after-telling W old (Compact number) (Records count) new ts h s well t = absurd h
 after-telling W old (Show number) (Records count) new ts h s well t = absurd h
 after-telling W old (WriteFails number bytes sync) (Node answer) new ts h s well t = absurd h
-after-telling W old (WriteFails number bytes sync) (Views views) new ts h s well t = absurd h
+after-telling W old (WriteFails number bytes sync) (Views views topics) new ts h s well t = absurd h
 after-telling W old (WriteFails number bytes sync) (Records count) new ts h s well t = absurd h
 after-telling W old (Frame number from bytes now) Nothing new ts h s well t = absurd h
 after-telling W old (Tick number now) Nothing new ts h s well t = absurd h
@@ -203,14 +205,14 @@ after-makes old new (Asks number peer) (Node answer) delta h there = none-there 
 after-makes old new (WriteFails number bytes sync) Nothing delta h there = none-there [] delta refl there
 after-makes old new (Compact number) (Node answer) delta h there = none-there (made_of (said answer)) delta (compact-told h.1 h.2 (said answer) h.4).0 there
 after-makes old new (Restart number kept) (Records count) delta h there = none-there [] delta refl there
-after-makes old new (Show number) (Views views) delta h there = none-there [] delta refl there
-after-makes old new (Frame number from bytes now) (Views views) delta h there = tt
-after-makes old new (Tick number now) (Views views) delta h there = tt
-after-makes old new (Take number at) (Views views) delta h there = absurd h
-after-makes old new (Asks number peer) (Views views) delta h there = absurd h
+after-makes old new (Show number) (Views views topics) delta h there = none-there [] delta refl there
+after-makes old new (Frame number from bytes now) (Views views topics) delta h there = tt
+after-makes old new (Tick number now) (Views views topics) delta h there = tt
+after-makes old new (Take number at) (Views views topics) delta h there = absurd h
+after-makes old new (Asks number peer) (Views views topics) delta h there = absurd h
 after-makes old new (Show number) (Node answer) delta h there = absurd h
-after-makes old new (Compact number) (Views views) delta h there = absurd h
-after-makes old new (Restart number kept) (Views views) delta h there = absurd h
+after-makes old new (Compact number) (Views views topics) delta h there = absurd h
+after-makes old new (Restart number kept) (Views views topics) delta h there = absurd h
 after-makes old new (Restart number kept) (Node answer) delta h there = absurd h
 after-makes old new (Frame number from bytes now) (Records count) delta h there = tt
 after-makes old new (Tick number now) (Records count) delta h there = tt
@@ -219,7 +221,7 @@ after-makes old new (Asks number peer) (Records count) delta h there = absurd h
 after-makes old new (Compact number) (Records count) delta h there = absurd h
 after-makes old new (Show number) (Records count) delta h there = absurd h
 after-makes old new (WriteFails number bytes sync) (Node answer) delta h there = absurd h
-after-makes old new (WriteFails number bytes sync) (Views views) delta h there = absurd h
+after-makes old new (WriteFails number bytes sync) (Views views topics) delta h there = absurd h
 after-makes old new (WriteFails number bytes sync) (Records count) delta h there = absurd h
 after-makes old new (Frame number from bytes now) Nothing delta h there = tt
 after-makes old new (Tick number now) Nothing delta h there = tt
@@ -253,14 +255,14 @@ after-brought old (Compact number) (Node answer) new h =
     let none = compact-told h.1 h.2 (said answer) h.4 in
     ap (λ (x : Field). x.deltas) h.5 ∙ ap (λ m. old.deltas ++ m) (only (made_of (said answer)) [] (answered_of (said answer)) (sym none.0) none.1)
 after-brought old (Restart number kept) (Records count) new h = ap (λ (x : Field). x.deltas) h.4
-after-brought old (Show number) (Views views) new h = ap (λ (x : Field). x.deltas) h.4 ∙ sym (append-nil old.deltas)
-after-brought old (Frame number from bytes now) (Views views) new h = absurd h
-after-brought old (Tick number now) (Views views) new h = absurd h
-after-brought old (Take number delta) (Views views) new h = absurd h
-after-brought old (Asks number peer) (Views views) new h = absurd h
+after-brought old (Show number) (Views views topics) new h = ap (λ (x : Field). x.deltas) h.4 ∙ sym (append-nil old.deltas)
+after-brought old (Frame number from bytes now) (Views views topics) new h = absurd h
+after-brought old (Tick number now) (Views views topics) new h = absurd h
+after-brought old (Take number delta) (Views views topics) new h = absurd h
+after-brought old (Asks number peer) (Views views topics) new h = absurd h
 after-brought old (Show number) (Node answer) new h = absurd h
-after-brought old (Compact number) (Views views) new h = absurd h
-after-brought old (Restart number kept) (Views views) new h = absurd h
+after-brought old (Compact number) (Views views topics) new h = absurd h
+after-brought old (Restart number kept) (Views views topics) new h = absurd h
 after-brought old (Restart number kept) (Node answer) new h = absurd h
 after-brought old (Frame number from bytes now) (Records count) new h = absurd h
 after-brought old (Tick number now) (Records count) new h = absurd h
@@ -269,7 +271,7 @@ after-brought old (Asks number peer) (Records count) new h = absurd h
 after-brought old (Compact number) (Records count) new h = absurd h
 after-brought old (Show number) (Records count) new h = absurd h
 after-brought old (WriteFails number bytes sync) (Node answer) new h = absurd h
-after-brought old (WriteFails number bytes sync) (Views views) new h = absurd h
+after-brought old (WriteFails number bytes sync) (Views views topics) new h = absurd h
 after-brought old (WriteFails number bytes sync) (Records count) new h = absurd h
 after-brought old (Frame number from bytes now) Nothing new h = absurd h
 after-brought old (Tick number now) Nothing new h = absurd h
@@ -288,14 +290,14 @@ after-unasked old (Asks number peer) (Node answer) new h e = absurd (none-some p
 after-unasked old (WriteFails number bytes sync) Nothing new h e = refl
 after-unasked old (Compact number) (Node answer) new h e = ap (λ m. made_of (said answer) ++ m) (compact-told h.1 h.2 (said answer) h.4).1 ∙ append-nil (made_of (said answer))
 after-unasked old (Restart number kept) (Records count) new h e = refl
-after-unasked old (Show number) (Views views) new h e = refl
-after-unasked old (Frame number from bytes now) (Views views) new h e = absurd h
-after-unasked old (Tick number now) (Views views) new h e = absurd h
-after-unasked old (Take number delta) (Views views) new h e = absurd h
-after-unasked old (Asks number peer) (Views views) new h e = absurd h
+after-unasked old (Show number) (Views views topics) new h e = refl
+after-unasked old (Frame number from bytes now) (Views views topics) new h e = absurd h
+after-unasked old (Tick number now) (Views views topics) new h e = absurd h
+after-unasked old (Take number delta) (Views views topics) new h e = absurd h
+after-unasked old (Asks number peer) (Views views topics) new h e = absurd h
 after-unasked old (Show number) (Node answer) new h e = absurd h
-after-unasked old (Compact number) (Views views) new h e = absurd h
-after-unasked old (Restart number kept) (Views views) new h e = absurd h
+after-unasked old (Compact number) (Views views topics) new h e = absurd h
+after-unasked old (Restart number kept) (Views views topics) new h e = absurd h
 after-unasked old (Restart number kept) (Node answer) new h e = absurd h
 after-unasked old (Frame number from bytes now) (Records count) new h e = absurd h
 after-unasked old (Tick number now) (Records count) new h e = absurd h
@@ -304,7 +306,7 @@ after-unasked old (Asks number peer) (Records count) new h e = absurd h
 after-unasked old (Compact number) (Records count) new h e = absurd h
 after-unasked old (Show number) (Records count) new h e = absurd h
 after-unasked old (WriteFails number bytes sync) (Node answer) new h e = absurd h
-after-unasked old (WriteFails number bytes sync) (Views views) new h e = absurd h
+after-unasked old (WriteFails number bytes sync) (Views views topics) new h e = absurd h
 after-unasked old (WriteFails number bytes sync) (Records count) new h e = absurd h
 after-unasked old (Frame number from bytes now) Nothing new h e = absurd h
 after-unasked old (Tick number now) Nothing new h e = absurd h

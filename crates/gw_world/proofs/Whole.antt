@@ -1,12 +1,13 @@
--- A field whose session operations and messages stand at the gateways of their names.
+-- A field whose operations, but for acknowledgements, stand at the gateways of their names.
 use Rattle.std.proofs.Common.{◌≡◌, ℕ, zero, suc, ◌⊎◌, List, [], ◌∷◌, ◌++◌, set, length, slice_get, Some, is_some, IfSome, Contains, refl, sym, ap, ◌∙◌, subst, append-nil, inl, inr}
 use Rattle.std.specs.List.{AllByRecursion}
 use Rattle.std.proofs.lemmas.List.Elements.{All-from_recursion, All-contains}
 use Rattle.std.proofs.lemmas.Option.{none-some, same_Some}
 use Rattle.rep_op.specs.declared.op.Op.{Op}
-use Rattle.rep_op.specs.declared.op.Op.TheVariants.{Session as OfSession, Put as OfPut, Ack}
+use Rattle.rep_op.specs.declared.op.Op.TheVariants.{Session as OfSession, Put as OfPut, Ack, Retain as OfRetain}
 use Rattle.rep_ops.specs.Deltas.{IsDelta}
-use Rattle.rep_op.specs.Sets.{operation_at, put_at, Stands}
+use Rattle.rep_op.specs.Orders.{clock_of}
+use Rattle.rep_op.specs.Sets.{operation_at, put_at, retain_at, Stands}
 use Rattle.rep_model.proofs.Joins.{all-moved}
 use Rattle.sn_plan.specs.declared.plan.Plan.{Plan}
 use Rattle.sn_local.specs.Seen.{seen_of}
@@ -14,7 +15,7 @@ use Rattle.sn_plan.specs.Own.{IsOwn, IsFresh, IsOfDraft}
 use Rattle.sn_plan.specs.Flush.{AreFlush, stamp_of}
 use Rattle.sn_plan.proofs.Lists.{all-append, all-weaken}
 use Rattle.row_laws.proofs.Names.{plan-own}
-use Rattle.row_laws.proofs.Stepping.{step-new_operation, step-new_put}
+use Rattle.row_laws.proofs.Stepping.{step-new_operation, step-new_put, step-new_retain}
 use Rattle.gw_event.specs.Gateways.{Gateway}
 use Rattle.gw_event.specs.Event.{HaveName, IsWritable}
 use Rattle.gw_world.specs.Steady.{IsKnown}
@@ -22,7 +23,7 @@ use Rattle.gw_world.specs.Whole.{number_of}
 use Rattle.gw_world.proofs.Alone.{turned, some-is, delta-stands, stands-left, stands-right, stands-contains}
 use Rattle.gw_world.proofs.Each.{all-at, AllOf, EachOf, each-weaken, each-grown}
 use Rattle.gw_world.proofs.Numbers.{First, first-one, first-kept, set-there}
-use Rattle.gw_node.proofs.Occurring.{is_there, operation_occurs, put_occurs}
+use Rattle.gw_node.proofs.Occurring.{is_there, operation_occurs, put_occurs, retain_occurs}
 use Rattle.gw_world.proofs.Steadiness.{Still, Stepped, names-apart}
 
 -- the operation stands in the set of the first gateway of this number
@@ -66,6 +67,11 @@ held-alike gs (OfPut c p) (OfPut d q) h k named =
     let found : put_at c h.1.taken (p.seq, p.origin) ≡ put_at d k.1.taken (q.seq, q.origin) = λ i. put_at (named.0 i) (one i).taken (named.2 i, named.1 i) in
     let content : p ≡ q = same_Some p q (sym h.4 ∙ found ∙ k.4) in
     λ i. OfPut (named.0 i) (content i)
+held-alike gs (OfRetain t x) (OfRetain u y) h k named =
+    let one : h.1 ≡ k.1 = first-same gs x.gateway y.gateway (OfRetain t x) (OfRetain u y) h k named.2 in
+    let found : retain_at t h.1.taken (clock_of x) ≡ retain_at u k.1.taken (clock_of y) = λ i. retain_at (named.0 i) (one i).taken (named.1 i, named.2 i) in
+    let content : x ≡ y = same_Some x y (sym h.4 ∙ found ∙ k.4) in
+    λ i. OfRetain (named.0 i) (content i)
 held-alike gs a b h k named = absurd named
 
 -- ---- a gateway takes more
@@ -83,6 +89,7 @@ module _ (gs : List Gateway) (i : ℕ) (old next : Gateway) (more : List Op) (is
   held-more (OfSession c s k o) h = at-more (OfSession c s k o) s.gateway h
   held-more (OfPut c p) h = at-more (OfPut c p) p.origin h
   held-more (Ack c origin first last) h = tt
+  held-more (OfRetain t k) h = at-more (OfRetain t k) k.gateway h
 
   pub whole-grown : (deltas made : List (List Op)) → AllByRecursion (IsHeld (set gs i next)) more → AllOf (IsHeld (set gs i next)) made → AllByRecursion IsDelta made → AllByRecursion IsWritable made → Whole gs deltas → Whole (set gs i next) (deltas ++ made)
   whole-grown deltas made news listed proper writable w = record {
@@ -141,6 +148,10 @@ own-number old next made u (OfPut c p) h =
     let there = put_occurs c u.plan.ops (p.seq, p.origin) r.0 r.1 in
     sym (ap (λ (n : ℕ × ℕ). n.1) there.1) ∙ planned-own old.config.gateway old.taken u.plan u.drafted (OfPut c r.0) there.0
 own-number old next made u (Ack c origin first last) h = tt
+own-number old next made u (OfRetain t k) h =
+    let r = some-is (retain_at t u.plan.ops (clock_of k)) (ap is_some (sym (u.same.retains_same t (clock_of k))) ∙ is_there u.delta (OfRetain t k) h) in
+    let there = retain_occurs t u.plan.ops (clock_of k) r.0 r.1 in
+    sym (ap (λ (n : ℕ × ℕ). n.1) there.1) ∙ planned-own old.config.gateway old.taken u.plan u.drafted (OfRetain t r.0) there.0
 
 pushed-cases : (ds : List (List Op)) (d a : List Op) (i : ℕ) → slice_get (ds ++ d ∷ []) i ≡ Some a → (slice_get ds i ≡ Some a) ⊎ ((i ≡ length ds) × (a ≡ d))
 pushed-cases [] d a zero e = inr (refl, sym (same_Some d a e))
@@ -152,6 +163,7 @@ pushed-cases (x ∷ ds) d a (suc i) e = elim (pushed-cases ds d a i e) [ inl bef
 same-number : (a b : Op) (n : ℕ) → HaveName a b → IfSome (number_of b) (λ m. m ≡ n) → IfSome (number_of a) (λ m. m ≡ n)
 same-number (OfSession c s k o) (OfSession d t j p) n h e = (λ i. (h.1 i).gateway) ∙ e
 same-number (OfPut c p) (OfPut d q) n h e = h.1 ∙ e
+same-number (OfRetain t k) (OfRetain u l) n h e = h.2 ∙ e
 same-number a b n h e = absurd h
 
 module _ (gs : List Gateway) (i : ℕ) (old next : Gateway) (made : List (List Op)) (is : slice_get gs i ≡ Some old) (f : First old.config.gateway gs i) (flush : AreFlush old.config.gateway old.taken) (u : Stepped old next made) where
@@ -159,6 +171,7 @@ module _ (gs : List Gateway) (i : ℕ) (old next : Gateway) (made : List (List O
   new-fresh (OfSession c s k o) h = step-new_operation old.config.gateway old.taken u.plan u.drafted u.delta u.same flush c (s, k) (is_there u.delta (OfSession c s k o) h)
   new-fresh (OfPut c p) h = step-new_put old.config.gateway old.taken u.plan u.drafted u.delta u.same flush c (p.seq, p.origin) (is_there u.delta (OfPut c p) h)
   new-fresh (Ack c origin first last) h = tt
+  new-fresh (OfRetain t k) h = step-new_retain old.config.gateway old.taken u.plan u.drafted u.delta u.same flush t (clock_of k) (is_there u.delta (OfRetain t k) h)
 
   -- what is written stands at the gateway that wrote it
   new-first : (op : Op) → Contains u.delta op → (n : ℕ) → n ≡ old.config.gateway → AtFirst (set gs i next) op n
@@ -170,6 +183,7 @@ module _ (gs : List Gateway) (i : ℕ) (old next : Gateway) (made : List (List O
   new-held (OfSession c s k o) h = new-first (OfSession c s k o) h s.gateway (own-number old next made u (OfSession c s k o) h)
   new-held (OfPut c p) h = new-first (OfPut c p) h p.origin (own-number old next made u (OfPut c p) h)
   new-held (Ack c origin first last) h = tt
+  new-held (OfRetain t k) h = new-first (OfRetain t k) h k.gateway (own-number old next made u (OfRetain t k) h)
 
   -- what stands at the gateway has another name
   first-apart : (a b : Op) → AtFirst gs a old.config.gateway → Contains u.delta b → HaveName a b → ⊥
@@ -181,9 +195,11 @@ module _ (gs : List Gateway) (i : ℕ) (old next : Gateway) (made : List (List O
   held-apart : (a b : Op) → IsHeld gs a → Contains u.delta b → HaveName a b → IfSome (number_of a) (λ n. n ≡ old.config.gateway) → ⊥
   held-apart (OfSession c s k o) b h there named e = first-apart (OfSession c s k o) b (subst (λ n. AtFirst gs (OfSession c s k o) n) e h) there named
   held-apart (OfPut c p) b h there named e = first-apart (OfPut c p) b (subst (λ n. AtFirst gs (OfPut c p) n) e h) there named
+  held-apart (OfRetain t k) b h there named e = first-apart (OfRetain t k) b (subst (λ n. AtFirst gs (OfRetain t k) n) e h) there named
   held-apart (Ack c origin first last) (OfSession d s k o) h there named e = named
   held-apart (Ack c origin first last) (OfPut d p) h there named e = named
   held-apart (Ack c origin first last) (Ack d from start end) h there named e = named
+  held-apart (Ack c origin first last) (OfRetain t k) h there named e = named
 
   news : AllByRecursion (IsHeld (set gs i next)) u.delta
   news = all-moved (IsHeld (set gs i next)) u.delta new-held

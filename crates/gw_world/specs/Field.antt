@@ -2,6 +2,7 @@
 use Rattle.std.specs.Prelude.{Bool, ◌≡◌, ◌⊎◌, ℕ, ◌-◌, ◌≤◌, List, [], ◌∷◌, ◌++◌, map, Option, Some, None, Result, slice_get, slice_set}
 use Rattle.rep_op.specs.declared.op.Op.{Op}
 use Rattle.rep_model.specs.declared.view.ClientView.{ClientView}
+use Rattle.rep_model.specs.Topics.{all_retained}
 use Rattle.rep_model.specs.Views.{view, clients}
 use Rattle.sn_local.specs.declared.config.Config.{Config}
 use Rattle.gw_world.specs.declared.event.Event.{Event}
@@ -83,15 +84,15 @@ After old (Compact number) (Node answer) new =
 After old (Restart number kept) (Records count) new =
     (i : ℕ) × (gateway : Gateway) × IsAt old number i gateway × (count ≡ records_left kept gateway)
     × (new ≡ changed old i (restarted kept gateway) [])
-After old (Show number) (Views views) new =
+After old (Show number) (Views views topics) new =
     (i : ℕ) × (gateway : Gateway) × IsAt old number i gateway × (views ≡ shown gateway.taken)
-    × (new ≡ old)
-After old (Frame number from bytes now) (Views views) new = ⊥
-After old (Tick number now) (Views views) new = ⊥
-After old (Take number delta) (Views views) new = ⊥
-After old (Asks number peer) (Views views) new = ⊥
-After old (Compact number) (Views views) new = ⊥
-After old (Restart number kept) (Views views) new = ⊥
+    × (new ≡ old) × (topics ≡ all_retained gateway.taken)
+After old (Frame number from bytes now) (Views views topics) new = ⊥
+After old (Tick number now) (Views views topics) new = ⊥
+After old (Take number delta) (Views views topics) new = ⊥
+After old (Asks number peer) (Views views topics) new = ⊥
+After old (Compact number) (Views views topics) new = ⊥
+After old (Restart number kept) (Views views topics) new = ⊥
 After old (Restart number kept) (Node answer) new = ⊥
 After old (Show number) (Node answer) new = ⊥
 After old (Frame number from bytes now) (Records count) new = ⊥
@@ -101,7 +102,7 @@ After old (Asks number peer) (Records count) new = ⊥
 After old (Compact number) (Records count) new = ⊥
 After old (Show number) (Records count) new = ⊥
 After old (WriteFails number bytes sync) (Node answer) new = ⊥
-After old (WriteFails number bytes sync) (Views views) new = ⊥
+After old (WriteFails number bytes sync) (Views views topics) new = ⊥
 After old (WriteFails number bytes sync) (Records count) new = ⊥
 After old (Frame number from bytes now) Nothing new = ⊥
 After old (Tick number now) Nothing new = ⊥

@@ -15,8 +15,7 @@ use Rattle.gw_event.specs.Gateways.{Gateway, reopened}
 use Rattle.gw_answer.specs.Answers.{only_sends}
 use Rattle.gw_event.specs.Event.{IsWritable}
 
--- how many records an opening reads if the gateway stops, and so many unsynced bytes of each slot
--- are left
+-- how many records an opening reads if a stop leaves so many unsynced bytes of each slot
 abbrev pub records_left : ℕ → Gateway → ℕ
 records_left kept old = length (records old.config.gateway (left_by kept old.drive))
 

@@ -2,7 +2,7 @@
 -- made.
 use Rattle.std.specs.Prelude.{◌≡◌, ℕ, List, [], ◌++◌, flat_map, Option, Some, None, IfSome, slice_get, Contains}
 use Rattle.rep_op.specs.declared.op.Op.{Op}
-use Rattle.rep_op.specs.declared.op.Op.TheVariants.{Session as OfSession, Put as OfPut, Ack}
+use Rattle.rep_op.specs.declared.op.Op.TheVariants.{Session as OfSession, Put as OfPut, Ack, Retain as OfRetain}
 use Rattle.rep_op.specs.Sets.{Stands, Within}
 use Rattle.gw_answer.specs.Answers.{said}
 use Rattle.gw_world.specs.declared.event.Event.{Event}
@@ -23,22 +23,24 @@ abbrev pub everything : Field → List Op
 everything field = flat_map (λ (gateway : Gateway). gateway.taken) field.gateways ++ listed field
 
 -- The number of the gateway in the operation's name: that of the stamp, or the origin of the
--- message. An acknowledgement has none: it contradicts nothing, whoever writes it.
+-- message, or who retained it. An acknowledgement has none: it contradicts nothing, whoever writes
+-- it.
 abbrev pub number_of : Op → Option ℕ
 number_of (OfSession c stamp counter change) = Some stamp.gateway
 number_of (OfPut c put) = Some put.origin
 number_of (Ack c origin first last) = None
+number_of (OfRetain topic kept) = Some kept.gateway
 
 -- the set of the gateway of this number has the operation
 abbrev pub StandsAt : Field → Op → ℕ → Type 0
 StandsAt field op number =
     (i : ℕ) × (gateway : Gateway) × IsAt field number i gateway × Stands gateway.taken op
 
--- a session operation or message is in the set of the gateway whose number is in its name
+-- an operation that is no acknowledgement is in the set of the gateway whose number is in its name
 abbrev pub IsHome : Field → Op → Type 0
 IsHome field op = IfSome (number_of op) (λ number. StandsAt field op number)
 
--- the name of a session operation or message occurs at one place of one delta
+-- a name, but of acknowledgements, occurs at one place of one delta
 abbrev pub AreMadeOnce : List (List Op) → Type 0
 AreMadeOnce deltas =
     (i j k l : ℕ) (one other : List Op) (a b : Op) → slice_get deltas i ≡ Some one
@@ -48,7 +50,7 @@ AreMadeOnce deltas =
 -- the delta that an answer reports as made
 abbrev pub made_by : Answer → List (List Op)
 made_by (Node answer) = made_of (said answer)
-made_by (Views views) = []
+made_by (Views views topics) = []
 made_by (Records count) = []
 made_by Nothing = []
 
@@ -86,7 +88,7 @@ told answers = flat_map made_by answers
 -- digest
 abbrev pub brought_by : Answer → List (List Op)
 brought_by (Node answer) = made_of (said answer) ++ answered_of (said answer)
-brought_by (Views views) = []
+brought_by (Views views topics) = []
 brought_by (Records count) = []
 brought_by Nothing = []
 

@@ -1,6 +1,7 @@
 -- The result of a run.
 use Rattle.std.specs.Prelude.{◌≡◌, ℕ, ◌+◌, List, map, take, Some, slice_get}
 use Rattle.rep_op.specs.declared.op.Op.{Op}
+use Rattle.rep_model.specs.Topics.{all_retained}
 use Rattle.rep_model.specs.Views.{view}
 use Rattle.sn_local.specs.declared.config.Config.{Config}
 use Rattle.gw_world.specs.declared.event.Event.{Event}
@@ -17,7 +18,7 @@ use Rattle.gw_world.specs.Field.{Field, new_field, Run, NamesNoGateway, NamesNoD
 -- its gateways, in the order of the configs. `held` is what a node is: it has the config, the local
 -- state and the disk of its gateway. What its replica keeps counts as what that has made and taken,
 -- and so do the records that a crash now leaves of the disk. So each node shows of every client the
--- view of its gateway's set.
+-- view of its gateway's set, and of topics what that retains.
 pub record IsWorld {N D : Type 0} {G : Ghosts D} (held : N → State G) (configs : List Config)
     (events : List Event) (answers : List Answer) (deltas : List (List Op))
     (nodes : List N) : Type 0 where
@@ -28,6 +29,9 @@ pub record IsWorld {N D : Type 0} {G : Ghosts D} (held : N → State G) (configs
   pub views : (i : ℕ) (gateway : Gateway) (node : N) → slice_get field.gateways i ≡ Some gateway
       → slice_get nodes i ≡ Some node
       → (c : List ℕ) → view c (held node).kept ≡ view c gateway.taken
+  pub retained : (i : ℕ) (gateway : Gateway) (node : N)
+      → slice_get field.gateways i ≡ Some gateway → slice_get nodes i ≡ Some node
+      → all_retained (held node).kept ≡ all_retained gateway.taken
 
 -- the events before the k-th, counted from 0, led the field to this
 pub record Before (configs : List Config) (events : List Event) (k : ℕ) (field : Field)

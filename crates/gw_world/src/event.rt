@@ -3,8 +3,9 @@
 use gw_node::{NodeFault, Out};
 use octets::{Octets, Sequence};
 use rep_model::ClientView;
-use rep_ops::ClientId;
+use rep_ops::{ClientId, Retained};
 use sn_local::Addr;
+use sn_topic::TopicName;
 use std::sync::Arc;
 
 /// What can happen in a field. Gateways go by their numbers.
@@ -95,8 +96,9 @@ pub enum Answer {
     /// A gateway's answer to a frame, a tick, a delta or a compaction; a peer's answer to a digest,
     /// or why there is no digest.
     Node(Result<Arc<Out>, NodeFault>),
-    /// The clients that a gateway knows, in ascending order, with their views.
-    Views(Sequence<(ClientId, ClientView)>),
+    /// The clients that a gateway knows, in ascending order, with their views; and the topics of
+    /// which something was ever retained, in ascending order, with what is.
+    Views(Sequence<(ClientId, ClientView)>, Sequence<(TopicName, Retained)>),
     /// How many records a gateway read when it was opened again.
     Records(u64),
     /// Nothing was to be said: a failure was arranged.

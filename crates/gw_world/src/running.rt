@@ -227,7 +227,10 @@ fn play_show<R: Replica>(
     ensures { IfOk result (ShowAnswered (map (λ node. state_of R.kept node)
         nodes.now.items) place) }
 {
-    Ok(Answer::Views(show_at(alloc, &nodes[place])?))
+    let node = &nodes[place];
+    let topics = node.retained(alloc)?;
+    let views = show_at(alloc, node)?;
+    Ok(Answer::Views(views, Sequence::new(topics)))
 }
 
 /// The delta of this number; the first has number 1.

@@ -8,7 +8,7 @@ use Rattle.rep_op.specs.declared.op.Op.{Op}
 use Rattle.rep_op.specs.declared.fault.OpsFault.{OpsFault}
 use Rattle.rep_op.specs.declared.fault.OpsFault.TheVariants as faults
 use Rattle.rep_ops.specs.Reading.{reading}
-use Rattle.rep_octets.specs.Reading.{Fails}
+use Rattle.rep_read.specs.Reading.{Fails}
 use Rattle.rep_ops.specs.Spelling.{max_octets}
 use Rattle.jr_journal.specs.declared.piece.Piece.TheVariants.{Whole, Seal, Torn, Bad}
 use Rattle.jr_journal.specs.Records.{whole_if, delta_piece, body_at, record_at, piece_at, ended, joined, one_record, one_seal, found}

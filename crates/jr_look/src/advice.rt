@@ -5,6 +5,7 @@ use crate::shown::Name;
 use jr_journal::{JournalFault, Slot};
 use jr_read::Misfit;
 use rep_model::{Limit, TakeFault};
+use rep_ops::Subject;
 use std::alloc::{AllocError, Global};
 
 /// What a record is told as that is none, at whatever place.
@@ -72,9 +73,17 @@ pub(crate) fn words(alloc: Global, fault: &Fault) -> Result<String, AllocError> 
 fn misfit_words(alloc: Global, misfit: &Misfit) -> Result<String, AllocError> {
     let before = misfit.before;
     match &misfit.fault {
-        TakeFault::Conflict { client } => {
+        TakeFault::Conflict {
+            of: Subject::Client(client),
+        } => {
             let client = Name(client.bytes());
             format!(in alloc; "record {before} contradicts one in front of it, of client {client}")
+        }
+        TakeFault::Conflict {
+            of: Subject::Topic(topic),
+        } => {
+            let topic = Name(topic.bytes());
+            format!(in alloc; "record {before} contradicts one in front of it, of topic {topic}")
         }
         TakeFault::Full { limit } => {
             let limit = limit_words(*limit);
@@ -91,5 +100,6 @@ fn limit_words(limit: Limit) -> &'static str {
         Limit::Pending => "messages that wait for one client",
         Limit::Parked => "session operations that wait for earlier ones",
         Limit::Exceptions => "acknowledgements above one that is missing",
+        Limit::Retained => "topics with something retained",
     }
 }

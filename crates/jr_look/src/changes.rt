@@ -2,19 +2,21 @@
 
 use crate::clients::{exchange, session, will};
 use crate::shown::{Body, Name};
-use rep_ops::{Op, Put};
+use rep_ops::{Op, Put, Retained};
 use sn_session::{Message, Outbound, Presence, SessionOp, WillTopic};
 use sn_tables::QosLevel;
 use std::alloc::AllocError;
 
 /// The lines of an operation.
 pub(crate) fn operation(text: &mut String, op: &Op) -> Result<(), AllocError> {
-    let client = Name(op.client().bytes());
-    write!(text, "  client {client} ")?;
+    if op.is_of_client() {
+        let client = Name(op.client().bytes());
+        write!(text, "  client {client} ")?;
+    }
     operation_of(text, op)
 }
 
-/// The lines of an operation after its client.
+/// The lines of an operation after its client, if it has one.
 fn operation_of(text: &mut String, op: &Op) -> Result<(), AllocError> {
     match op {
         Op::Session {
@@ -39,7 +41,28 @@ fn operation_of(text: &mut String, op: &Op) -> Result<(), AllocError> {
             let (origin, first, last) = (*origin, *first, *last);
             writeln!(text, "has messages {first} to {last} of gateway {origin}")
         }
+        Op::Retain { topic, retained } => {
+            text.push_str("  ")?;
+            retains(text, topic.bytes(), retained)
+        }
     }
+}
+
+/// The line of what is retained of a topic.
+pub(crate) fn retains(
+    text: &mut String,
+    topic: &[u8],
+    retained: &Retained,
+) -> Result<(), AllocError> {
+    let topic = Name(topic);
+    let clock = retained.clock;
+    let gateway = retained.gateway;
+    let qos = retained.qos.number();
+    let body = Body(retained.body.as_slice());
+    writeln!(
+        text,
+        "topic {topic} retained under clock {clock}.{gateway}: qos {qos}, {body}"
+    )
 }
 
 /// The rest of the line of a message that waits.
@@ -49,10 +72,16 @@ pub(crate) fn waiting(text: &mut String, put: &Put) -> Result<(), AllocError> {
     let qos = put.qos.number();
     let topic = Name(put.topic.bytes());
     let body = Body(put.body.as_slice());
+    let later = later_words(put.retain);
     writeln!(
         text,
-        "waits for message {seq} of gateway {origin}: {topic} qos {qos}, {body}"
+        "waits for message {seq} of gateway {origin}: {topic} qos {qos}, {body}{later}"
     )
+}
+
+/// What stands after the body of a message.
+fn later_words(retain: bool) -> &'static str {
+    if retain { ", retained" } else { "" }
 }
 
 /// The rest of the line of a session's change.

@@ -1,8 +1,8 @@
-//! What the records come to for each client, in words.
+//! What the records come to for each client and each topic, in words.
 
-use crate::changes::{presence_word, registered, subscribed, waiting};
+use crate::changes::{presence_word, registered, retains, subscribed, waiting};
 use crate::shown::{Body, Name};
-use rep_model::{ClientView, Replica};
+use rep_model::{ClientView, MOST_RETAINED, Replica};
 use rep_ops::ClientId;
 use rep_state::Folded;
 use sn_session::{Outbound, Phase, Session, Will};
@@ -27,6 +27,19 @@ fn each(text: &mut String, replica: &Folded, clients: &[ClientId]) -> Result<(),
         if let Some(view) = replica.view_of(client) {
             one(text, client, view)?;
         }
+    }
+    Ok(())
+}
+
+/// The lines of all topics of which something was retained.
+pub(crate) fn retained(text: &mut String, replica: &Folded) -> Result<(), AllocError> {
+    let mut place = 0;
+    for _ in 0..MOST_RETAINED {
+        let Some((behind, topic, found)) = replica.topic_at(place) else {
+            return Ok(());
+        };
+        retains(text, topic.bytes(), found)?;
+        place = behind;
     }
     Ok(())
 }

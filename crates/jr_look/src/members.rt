@@ -3,7 +3,7 @@
 use crate::changes::presence_word;
 use crate::clients::phase_word;
 use crate::shown::Quoted;
-use rep_ops::{ClientId, Op, Put};
+use rep_ops::{ClientId, Op, Put, Retained};
 use sn_session::{Message, Outbound, Presence, Session, SessionOp, Will, WillTopic};
 use sn_tables::QosLevel;
 use sn_topic::{Filter, TopicName};
@@ -20,8 +20,12 @@ pub(crate) fn comma(text: &mut String, index: usize) -> Result<(), AllocError> {
 
 /// An operation.
 pub(crate) fn operation(text: &mut String, op: &Op) -> Result<(), AllocError> {
-    begin(text, op.client())?;
-    text.push_str(",")?;
+    if op.is_of_client() {
+        begin(text, op.client())?;
+        text.push_str(",")?;
+    } else {
+        text.push_str("{")?;
+    }
     members(text, op)?;
     text.push_str("}")
 }
@@ -32,7 +36,7 @@ pub(crate) fn begin(text: &mut String, client: &ClientId) -> Result<(), AllocErr
     write!(text, "{{\"client\":{client}")
 }
 
-/// The members of an operation after its client.
+/// The members of an operation after its client, if it has one.
 fn members(text: &mut String, op: &Op) -> Result<(), AllocError> {
     match op {
         Op::Session {
@@ -66,7 +70,27 @@ fn members(text: &mut String, op: &Op) -> Result<(), AllocError> {
                 "\"change\":\"ack\",\"origin\":{origin},\"first\":{first},\"last\":{last}"
             )
         }
+        Op::Retain { topic, retained } => retains(text, topic, retained),
     }
+}
+
+/// The members of an operation on a topic.
+fn retains(text: &mut String, topic: &TopicName, retained: &Retained) -> Result<(), AllocError> {
+    let topic = Quoted(topic.bytes());
+    write!(text, "\"topic\":{topic},\"change\":\"retain\",")?;
+    kept(text, retained)
+}
+
+/// The members of what is retained of a topic.
+pub(crate) fn kept(text: &mut String, retained: &Retained) -> Result<(), AllocError> {
+    let clock = retained.clock;
+    let gateway = retained.gateway;
+    let qos = retained.qos.number();
+    let body = Quoted(retained.body.as_slice());
+    write!(
+        text,
+        "\"clock\":{clock},\"gateway\":{gateway},\"qos\":{qos},\"body\":{body}"
+    )
 }
 
 /// The members of a message that waits.
@@ -76,10 +100,16 @@ pub(crate) fn waiting(text: &mut String, put: &Put) -> Result<(), AllocError> {
     let qos = put.qos.number();
     let topic = Quoted(put.topic.bytes());
     let body = Quoted(put.body.as_slice());
+    let later = later_members(put.retain);
     write!(
         text,
-        "\"origin\":{origin},\"seq\":{seq},\"topic\":{topic},\"qos\":{qos},\"body\":{body}"
+        "\"origin\":{origin},\"seq\":{seq},\"topic\":{topic},\"qos\":{qos},\"body\":{body}{later}"
     )
+}
+
+/// A further member of a message that the client gets since it was retained.
+fn later_members(retain: bool) -> &'static str {
+    if retain { ",\"retain\":true" } else { "" }
 }
 
 /// A session's change, and its members.

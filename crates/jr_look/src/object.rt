@@ -2,13 +2,14 @@
 
 use crate::advice::{advice, number, slot_number};
 use crate::looking::{Fault, Findings, Torn};
-use crate::members::{begin, comma, operation, session_of, waiting};
+use crate::members::{begin, comma, kept, operation, session_of, waiting};
 use crate::shown::Quoted;
 use jr_journal::JournalFault;
 use jr_read::{Misfit, Place, Reading};
-use rep_model::{ClientView, Replica, TakeFault};
-use rep_ops::{ClientId, Delta, Put};
+use rep_model::{ClientView, MOST_RETAINED, Replica, TakeFault};
+use rep_ops::{ClientId, Delta, Put, Retained, Subject};
 use rep_state::Folded;
+use sn_topic::TopicName;
 use std::alloc::{AllocError, Global};
 
 /// The report as a JSON object.
@@ -28,6 +29,7 @@ pub(crate) fn report(alloc: Global, text: &mut String, seen: &Findings) -> Resul
     }
     if let Some(replica) = &seen.replica {
         clients(alloc, text, replica)?;
+        topics(text, replica)?;
     }
     text.push_str("}\n")
 }
@@ -140,15 +142,23 @@ fn bad_record(text: &mut String, misfit: &Misfit) -> Result<(), AllocError> {
     let before = misfit.before;
     write!(text, ",\"record\":{before}")?;
     match &misfit.fault {
-        TakeFault::Conflict { client } => {
+        TakeFault::Conflict {
+            of: Subject::Client(client),
+        } => {
             let client = Quoted(client.bytes());
             write!(text, ",\"client\":{client}")
+        }
+        TakeFault::Conflict {
+            of: Subject::Topic(topic),
+        } => {
+            let topic = Quoted(topic.bytes());
+            write!(text, ",\"topic\":{topic}")
         }
         _ => Ok(()),
     }
 }
 
-/// What the records come to.
+/// What the records come to for each client.
 fn clients(alloc: Global, text: &mut String, replica: &Folded) -> Result<(), AllocError> {
     let Ok(all) = replica.clients(alloc) else {
         return Err(AllocError);
@@ -203,4 +213,27 @@ fn waits(text: &mut String, puts: &[Put]) -> Result<(), AllocError> {
         text.push_str("}")?;
     }
     text.push_str("]}")
+}
+
+/// What the records come to for each topic of which something was retained.
+fn topics(text: &mut String, replica: &Folded) -> Result<(), AllocError> {
+    text.push_str(",\"topics\":[")?;
+    let mut place = 0;
+    for index in 0..MOST_RETAINED {
+        let Some((behind, topic, retained)) = replica.topic_at(place) else {
+            return text.push_str("]");
+        };
+        comma(text, index)?;
+        one_topic(text, topic, retained)?;
+        place = behind;
+    }
+    text.push_str("]")
+}
+
+/// A topic.
+fn one_topic(text: &mut String, topic: &TopicName, retained: &Retained) -> Result<(), AllocError> {
+    let topic = Quoted(topic.bytes());
+    write!(text, "{{\"topic\":{topic},")?;
+    kept(text, retained)?;
+    text.push_str("}")
 }

@@ -2,7 +2,7 @@
 
 use crate::advice::{advice, number, slot_number, words};
 use crate::changes::operation;
-use crate::clients::clients;
+use crate::clients::{clients, retained};
 use crate::looking::{Fault, Findings, Torn};
 use jr_read::{Place, Reading};
 use rep_ops::Delta;
@@ -25,6 +25,7 @@ pub(crate) fn report(alloc: Global, text: &mut String, seen: &Findings) -> Resul
     }
     if let Some(replica) = &seen.replica {
         clients(alloc, text, replica)?;
+        retained(text, replica)?;
     }
     Ok(())
 }

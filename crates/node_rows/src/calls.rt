@@ -89,7 +89,11 @@ fn print_called(text: &mut String, answer: &Answer, is_starved: bool) -> Result<
 }
 
 /// The call of the method that a call as a value stands for.
-fn call<R: Replica>(alloc: Global, node: &mut Node<R, MemoryDisk>, step: &Step) -> Answer {
+pub(crate) fn call<R: Replica>(
+    alloc: Global,
+    node: &mut Node<R, MemoryDisk>,
+    step: &Step,
+) -> Answer {
     match step {
         Step::Frame { from, bytes, now } => node.frame(alloc, *from, bytes.as_slice(), *now),
         Step::Take { delta } => node.take(alloc, delta),

@@ -3,12 +3,12 @@
 use crate::calls::delta;
 use crate::fields::{gateway, number};
 use crate::names::{Names, octets};
-use crate::printing::{print_fault, print_message, print_octets};
+use crate::printing::{print_fault, print_message, print_octets, print_topic};
 use crate::stop::Stop;
 use gw_net::{Fed, LinkFault, LinkIn, LinkMessage, LinkOutFault, link_out};
-use rep_digest::Digest;
+use rep_digest::{Digest, RetainedEntry};
 use rep_ops::OpsFault;
-use std::alloc::Global;
+use std::alloc::{AllocError, Global};
 use std::fmt::Display;
 use std::io::{self, Write};
 
@@ -33,7 +33,7 @@ impl Write for Full {
     }
 }
 
-/// `digest OCTETS ..`: of how many clients they spell a digest.
+/// `digest OCTETS ..`: of how many clients they spell a digest, and of what topics.
 pub(crate) fn digest(
     alloc: Global,
     text: &mut String,
@@ -67,7 +67,7 @@ fn read_beginnings(alloc: Global, text: &mut String, bytes: &[u8]) -> Result<(),
 /// The digest that octets spell.
 fn read_digest(alloc: Global, text: &mut String, bytes: &[u8]) -> Result<(), Stop> {
     match decoded(alloc, bytes) {
-        Ok(digest) => print_count(text, &digest),
+        Ok(digest) => print_known(text, &digest),
         Err(OpsFault::Memory) => Err(Stop::Memory),
         Err(fault) => print_refused(text, &fault),
     }
@@ -78,10 +78,19 @@ fn decoded(alloc: Global, bytes: &[u8]) -> Result<Digest, OpsFault> {
     Digest::decode(alloc, bytes)
 }
 
-/// Of how many clients a digest is.
-fn print_count(text: &mut String, digest: &Digest) -> Result<(), Stop> {
-    let count = digest.entries().len();
-    Ok(writeln!(text, "digest of {count}")?)
+/// Of how many clients a digest is, and of what topics.
+pub(crate) fn print_known(text: &mut String, digest: &Digest) -> Result<(), Stop> {
+    let count = digest.clients().len();
+    writeln!(text, "digest of {count}")?;
+    Ok(print_topics(text, digest.topics())?)
+}
+
+/// What a digest has of topics.
+fn print_topics(text: &mut String, entries: &[RetainedEntry]) -> Result<(), AllocError> {
+    for entry in entries {
+        print_topic(text, entry)?;
+    }
+    Ok(())
 }
 
 /// Why something is refused.
@@ -100,7 +109,7 @@ fn message(alloc: Global, names: &Names, fields: &[&str]) -> Result<LinkMessage,
 }
 
 /// The digest that fields say.
-fn said_digest(alloc: Global, names: &Names, fields: &[&str]) -> Result<Digest, Stop> {
+pub(crate) fn said_digest(alloc: Global, names: &Names, fields: &[&str]) -> Result<Digest, Stop> {
     let bytes = octets(alloc, names, fields)?;
     match decoded(alloc, &bytes) {
         Ok(digest) => Ok(digest),

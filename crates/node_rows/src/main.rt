@@ -18,7 +18,7 @@
 //!
 //! - `name NAME OCTETS ..`: after this line, which may stand anywhere, the name is these octets.
 //! - `repeat COUNT OCTETS ..`: these stand after the octets of the latest name so many times; `%`
-//!   is the number of the time, from 0 on, in two octets.
+//!   is the number of the time, from 0 on, in two octets, and `%%` in four hexadecimal digits.
 //!
 //! A gateway on the row's disk; the first three lines close the one that is open:
 //!
@@ -43,6 +43,12 @@
 //! stamp, the duration of the session and how many messages wait. A refusal is printed by its
 //! number, as `N3`, with the answer that it brings.
 //!
+//! What the gateway says and changes nothing:
+//!
+//! - `ask retained`: what it retains of each topic.
+//! - `ask digest`: the octets of its digest, and of what it is.
+//! - `ask answer OCTETS ..`: the deltas of its answer to the digest that they spell.
+//!
 //! Deliveries to a client, of which the gateway has a session, at port 7 of host 0 and moment 3;
 //! what is drafted is not carried out:
 //!
@@ -56,7 +62,7 @@
 //!
 //! Digests, and a link:
 //!
-//! - `digest OCTETS ..`: of how many clients they spell a digest.
+//! - `digest OCTETS ..`: of how many clients they spell a digest, and of what topics.
 //! - `beginnings OCTETS ..`: the same of each beginning of them but the whole.
 //! - `say hello GATEWAY`, `say digest OCTETS ..`, `say delta OCTETS ..`: a message goes out: all
 //!   that went out in this row.
@@ -96,13 +102,14 @@
 //!
 //! - `row`: what the lines of a row have brought about (`Row`), and the play of one more.
 //! - `fields`, `names`: lines that are read.
-//! - `gateways`, `calls`, `deliveries`, `links`: lines that are played on both replicas.
+//! - `gateways`, `calls`, `asking`, `deliveries`, `links`: lines that are played on both replicas.
 //! - `once`, `shifts`, `works`: those that are played once.
 //! - `seats`: passes in their seats, and calls by threads.
 //! - `printing`, `passing`: what is printed.
 //! - `stop`: why a line is not played.
 #![tactic(auto)]
 
+mod asking;
 mod calls;
 mod deliveries;
 mod fields;

@@ -92,10 +92,17 @@ fn add_all(
         match *field {
             "-" => {}
             "%" => octets.extend_from_slice(&[(time / 256) as u8, (time % 256) as u8])?,
+            "%%" => add_digits(alloc, octets, time)?,
             other => add_field(alloc, names, octets, other)?,
         }
     }
     Ok(())
+}
+
+/// Puts a number in four hexadecimal digits after the octets that are there.
+fn add_digits(alloc: Global, octets: &mut Vec<u8>, time: u16) -> Result<(), Stop> {
+    let digits = format!(in alloc; "{time:04x}")?;
+    Ok(octets.extend_from_slice(digits.as_bytes())?)
 }
 
 /// Puts the octets of a name or of digits after those that are there.

@@ -4,11 +4,12 @@ use crate::stop::Stop;
 use gw_net::{LinkFault, LinkMessage};
 use gw_node::{Answer, NodeFault, Out};
 use jr_journal::{Disk, MemoryDisk, Slot};
-use rep_digest::Digest;
+use rep_digest::{Digest, RetainedEntry};
 use rep_model::ClientView;
-use rep_ops::Delta;
+use rep_ops::{Delta, Retained};
 use sn_local::Send as Sending;
 use sn_plan::{Draft, plan_without};
+use sn_topic::TopicName;
 use std::alloc::{AllocError, Global};
 use std::fmt;
 
@@ -122,6 +123,25 @@ fn print_view(text: &mut String, view: &ClientView) -> Result<(), AllocError> {
     write!(text, ", waiting {count}")
 }
 
+/// The line of what is retained of a topic.
+pub(crate) fn print_retained(
+    text: &mut String,
+    topic: &TopicName,
+    retained: &Retained,
+) -> Result<(), AllocError> {
+    let (clock, gateway, qos) = (retained.clock, retained.gateway, retained.qos.number());
+    let topic = Digits(topic.bytes());
+    let body = Digits(retained.body.as_slice());
+    writeln!(text, "retain {clock}.{gateway} {qos} {topic} {body}")
+}
+
+/// The line of what a digest has of a topic.
+pub(crate) fn print_topic(text: &mut String, entry: &RetainedEntry) -> Result<(), AllocError> {
+    let topic = Digits(entry.topic.bytes());
+    let (clock, gateway) = (entry.clock, entry.gateway);
+    writeln!(text, "topic {topic} {clock}.{gateway}")
+}
+
 /// What is drafted.
 pub(crate) fn print_draft(
     alloc: Global,
@@ -163,7 +183,7 @@ fn print_hello(text: &mut String, gateway: u8) -> Result<(), Stop> {
 }
 
 /// The octets of a digest.
-fn print_digest(alloc: Global, text: &mut String, digest: &Digest) -> Result<(), Stop> {
+pub(crate) fn print_digest(alloc: Global, text: &mut String, digest: &Digest) -> Result<(), Stop> {
     let mut bytes = Vec::new(alloc);
     match digest.encode(alloc, &mut bytes) {
         Ok(()) => Ok(print_octets(text, "digest", &bytes)?),
@@ -172,7 +192,7 @@ fn print_digest(alloc: Global, text: &mut String, digest: &Digest) -> Result<(),
 }
 
 /// The octets of a delta.
-fn print_delta(alloc: Global, text: &mut String, delta: &Delta) -> Result<(), Stop> {
+pub(crate) fn print_delta(alloc: Global, text: &mut String, delta: &Delta) -> Result<(), Stop> {
     let mut bytes = Vec::new(alloc);
     match delta.encode(alloc, &mut bytes) {
         Ok(()) => Ok(print_octets(text, "delta", &bytes)?),

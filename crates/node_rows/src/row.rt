@@ -1,5 +1,6 @@
 //! A row: what its lines have brought about so far, and the play of one more.
 
+use crate::asking::ask;
 use crate::calls::{call_once, call_thrice};
 use crate::deliveries;
 use crate::gateways::{Store, empty, fail, open, opened, slots, state};
@@ -79,6 +80,7 @@ fn play_opened<R: Replica>(
     };
     match *first {
         "state" => state(alloc, text, node),
+        "ask" => ask(alloc, text, names, node, rest),
         "deliver" | "resend" | "hear" | "meaning" => {
             deliveries::play(alloc, text, node, names, first, rest)
         }

@@ -33,7 +33,7 @@ use Rattle.sn_plan.specs.Bound.{session_of}
 use Rattle.sn_plan.specs.Drafts.{Drafted, nothing, moved}
 use Rattle.sn_plan.specs.Flush.{stamp_of, IsFlush, AreFlush, session_with}
 use Rattle.sn_local.specs.Locals.{Local, after_all, owned}
-use Rattle.sn_plan.specs.Numbering.{planned, plan_with, rest_of, with_puts, written, start_of, ack_of}
+use Rattle.sn_plan.specs.Numbering.{planned, plan_with, rest_of, numbered, written, start_of, ack_of}
 use Rattle.sn_plan.specs.Others.{is_up, can_wake}
 use Rattle.sn_plan.specs.Own.{AddsNone}
 use Rattle.sn_local.specs.Seen.{Seen, seen_of}
@@ -42,6 +42,7 @@ use Rattle.sn_plan.specs.Rows.{row_of, plan_for}
 use Rattle.sn_local.proofs.Entries.{same_client-itself, visible-there}
 use Rattle.row_laws.proofs.Known.{same-behind}
 use Rattle.sn_plan.proofs.Lists.{and_then-some, map-some, all-append, all-weaken}
+use Rattle.sn_plan.proofs.Made.{for_nobody}
 use Rattle.row_laws.proofs.Outcomes.{written-shown, session-shown, unchanged-shown, others-shown}
 use Rattle.row_laws.proofs.Reached.{history-own}
 use Rattle.sn_tick.specs.declared.due.Due.{Due}
@@ -221,8 +222,8 @@ module _ (g : ℕ) (c : List ℕ) (S : List Op) (d : Drafted) (plan : Plan) (pla
   unfolding planned
   plan-local =
       let seen : Seen = seen_of S in
-      let m = and_then-some (rest_of g c (λ e. seen.seq e g) d) (written c g d.changes (start_of g (seen.of c) (seen.epoch c))) plan planned_so in
-      let n = map-some (plan_with d) (with_puts g (λ e. seen.seq e g) d.puts (m.0.ops ++ map (ack_of c) d.acks)) plan m.2 in
+      let m = and_then-some (rest_of g c (λ e. seen.seq e g) seen.clock d) (written c g d.changes (start_of g (seen.of c) (seen.epoch c))) plan planned_so in
+      let n = map-some (plan_with d) (numbered g c (λ e. seen.seq e g) seen.clock d (m.0.ops ++ map (ack_of c) d.acks)) plan m.2 in
       ap (λ (p : Plan). p.local) (sym n.2)
 
   draft-up : (local : Local) → IsUp g S local → Fits g c (view c S) d → IsUp g (S ++ delta) (after_all local plan.local)
@@ -238,13 +239,13 @@ module _ (g : ℕ) (S : List Op) (flush : AreFlush g S) (local : Local) (up : Is
   puts-up : (d : Drafted) → AllByRecursion IsNoBind d.local → plan_of_puts g (seen_of S) d ≡ Some plan → IsUpBehind
   unfolding planned
   puts-up d none e =
-      draft-up g [] S (record { changes = []; acks = []; puts = d.puts; sends = d.sends; local = d.local }) plan e (flush []) delta same local up
+      draft-up g [] S (for_nobody d) plan e (flush []) delta same local up
       (record { is = inl (tt, none) })
 
   without-up : (d : Drafted) → AllByRecursion IsNoBind d.local → Some (plan_without d) ≡ Some plan → IsUpBehind
   unfolding planned
   without-up d none e =
-      draft-up g [] S (record { changes = []; acks = []; puts = []; sends = d.sends; local = d.local }) plan e (flush []) delta same local up
+      draft-up g [] S (record { changes = []; acks = []; handed = []; retain = None; puts = []; sends = d.sends; local = d.local }) plan e (flush []) delta same local up
       (record { is = inl (tt, none) })
 
   for-up : (d : Drafted) (client : Option (List ℕ)) → FitsFor g S client d → plan_for g (seen_of S) d client ≡ Some plan → IsUpBehind

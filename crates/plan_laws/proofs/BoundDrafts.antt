@@ -19,12 +19,13 @@ use Rattle.rep_op.specs.Orders.{name_of}
 use Rattle.rep_model.specs.declared.view.ClientView.{ClientView}
 use Rattle.sn_local.specs.declared.config.Addr.{Addr}
 use Rattle.sn_plan.specs.declared.draft.NewPut.{NewPut}
+use Rattle.sn_plan.specs.declared.draft.Posted.{Posted}
 use Rattle.sn_local.specs.declared.local.LocalChange.{LocalChange}
 use Rattle.sn_local.specs.declared.local.LocalChange.TheVariants.{Bind, Unbind, Sent, Resent}
 use Rattle.sn_plan.specs.declared.row.Follow.{Follow}
 use Rattle.sn_plan.specs.declared.row.Follow.TheVariants as follows
 use Rattle.sn_local.specs.Bindings.{is_stamp_of}
-use Rattle.sn_plan.specs.Drafts.{Drafted, nothing, changed, changed_if, acked, put_all, sent, moved, session_after}
+use Rattle.sn_plan.specs.Drafts.{Drafted, nothing, changed, changed_if, acked, hand_all, retain_if, put_all, sent, moved, session_after}
 use Rattle.sn_plan.specs.Others.{is_up, can_wake}
 use Rattle.sn_plan.proofs.Lists.{all-append}
 use Rattle.sn_exchange.specs.declared.form.Form.{Form}
@@ -121,6 +122,12 @@ module _ {g : ℕ} {c : List ℕ} {v : ClientView} where
 
   pub fits-acked : (name : ℕ × ℕ) (d : Drafted) → Fits g c v d → Fits g c v (acked name d)
   fits-acked name d h = record { is = h.is }
+
+  pub fits-hand_all : (handed : List Posted) (d : Drafted) → Fits g c v d → Fits g c v (hand_all handed d)
+  fits-hand_all handed d h = record { is = h.is }
+
+  pub fits-retain_if : (posted : Option Posted) (d : Drafted) → Fits g c v d → Fits g c v (retain_if posted d)
+  fits-retain_if posted d h = record { is = h.is }
 
   pub fits-put_all : (puts : List NewPut) (d : Drafted) → Fits g c v d → Fits g c v (put_all puts d)
   fits-put_all puts d h = record { is = h.is }

@@ -42,7 +42,7 @@ use Rattle.sn_local.specs.declared.local.WillDialog.{WillDialog}
 use Rattle.sn_subscribe.specs.declared.registration.NamedId.{NamedId}
 use Rattle.sn_plan.specs.declared.row.Row.{Row}
 use Rattle.sn_flow.specs.Accept.{accept, has_no_room}
-use Rattle.sn_plan.specs.Asking.{qos_asked, topics_asked}
+use Rattle.sn_plan.specs.Asking.{qos_asked, retain_asked, topics_asked}
 use Rattle.sn_local.specs.Bindings.{client_at, is_stamp_of}
 use Rattle.sn_plan.specs.Bound.{bound_to, session_of}
 use Rattle.sn_flow.specs.Connection.{has_bit, request_of, refusal_of, ask_topic, connect_row, connect, leave, disconnect_draft, disconnect_of}
@@ -53,6 +53,7 @@ use Rattle.sn_local.specs.Seen.{Seen, seen_of}
 use Rattle.sn_subscribe.specs.Registration.{entry_or_free, id_for, registered, register_name}
 use Rattle.sn_plan.specs.Rows.{heard_row, stray}
 use Rattle.sn_subscribe.specs.Subscription.{suback, refused, id_in_full, id_asked, subscribe_change, subscribed, subscribe_asked, subscribe_at, unsubscribe_asked, unsubscribe as unsubscribe_draft}
+use Rattle.sn_subscribe.specs.Handing.{waiting_for, handed_for}
 use Rattle.sn_subscribe.specs.TopicRows.{register_of, subscribe_of, unsubscribe_of}
 use Rattle.sn_local.specs.WillDialogs.{dialog_at}
 use Rattle.sn_flow.specs.Wills.{congestion, not_supported, dismissed, concluded, topic_given, topic_row, topic_in, topic_at, will_of, message_row, message_in, message_at, topic_update_of, message_update_of}
@@ -63,13 +64,14 @@ use Rattle.sn_exchange.specs.declared.peer.Peer.{Peer}
 use Rattle.sn_deliver.specs.Acknowledging.{awaiting, put_awaiting, over, done, told, entry_published, forgotten, puback_of, pubrel_sent, released, awaiting_pubrec, pubrec_again, pubrec_of, pubcomp_of, registered as registered_by, regack_of, acknowledge}
 use Rattle.sn_exchange.specs.Exchanges.{message_of}
 use Rattle.sn_exchange.specs.Following.{peer_at}
-use Rattle.sn_publish.specs.Publishing.{publication_meant, spread, publish_at, publish_meant, spread_meant, release}
+use Rattle.sn_publish.specs.Publishing.{publication_meant, posted, publish_at, publish_meant, spread_meant, release}
 use Rattle.sn_publish.specs.Recipients.{puts_for}
+use Rattle.sn_publish.specs.Retaining.{retained_of}
 use Rattle.sn_deliver.specs.Serving.{publish_of, publish_in_at, pubrel_of, ack_of}
 use Rattle.sn_deliver.specs.Waking.{claimed, has_nothing, woken_by, woken_if, woken, wake_of, wake}
 use Rattle.sn_plan.proofs.Lists.{all-append}
 use Rattle.sn_deliver.specs.Steps.{row_for}
-use Rattle.plan_laws.proofs.BoundDrafts.{KeepsUp, IsNoBind, Fits, fits-nothing, fits-changed, fits-changed_if, fits-acked, fits-put_all, fits-sent, fits-moved, choose-fits}
+use Rattle.plan_laws.proofs.BoundDrafts.{KeepsUp, IsNoBind, Fits, fits-nothing, fits-changed, fits-changed_if, fits-acked, fits-hand_all, fits-retain_if, fits-put_all, fits-sent, fits-moved, choose-fits}
 
 -- a row for a client has a draft that fits; a row for nobody binds nobody
 abbrev pub FitsFor : ℕ → List Op → Option (List ℕ) → Drafted → Type 0
@@ -222,22 +224,24 @@ module _ (g : ℕ) (c : List ℕ) (v : ClientView) where
   refused-fits : (a : Addr) (bits msg_id code : ℕ) → Fits g c v (refused a bits msg_id code)
   refused-fits a bits msg_id code = fits-sent a (suback bits 0 msg_id code) nothing fits-nothing
 
-  subscribed-fits : (a : Addr) (s : Session) (bits msg_id : ℕ) (filter : List ℕ) (qos : ℕ) (named : Option NamedId) → IfSome named (λ (n : NamedId). IfSome n.change KeepsUp) → Fits g c v (subscribed a s bits msg_id filter qos named)
-  subscribed-fits a s bits msg_id filter qos None h = refused-fits a bits msg_id 1
-  subscribed-fits a s bits msg_id filter qos (Some named) h =
-      fits-sent a (suback bits named.id msg_id 0) _
-      (fits-changed_if (subscribe_change filter qos (subscribed_at filter s.subscriptions)) _ (subscribe_change-keeps filter qos (subscribed_at filter s.subscriptions))
-      (fits-changed_if named.change nothing h fits-nothing))
+  module _ (seen : Seen) (waiting : ℕ) (a : Addr) (s : Session) (bits msg_id : ℕ) where
+    subscribed-fits : (filter : List ℕ) (qos : ℕ) (named : Option NamedId) → IfSome named (λ (n : NamedId). IfSome n.change KeepsUp) → Fits g c v (subscribed seen waiting a s bits msg_id filter qos named)
+    subscribed-fits filter qos None h = refused-fits a bits msg_id 1
+    subscribed-fits filter qos (Some named) h =
+        fits-hand_all (handed_for seen filter qos waiting) _
+        (fits-sent a (suback bits named.id msg_id 0) _
+        (fits-changed_if (subscribe_change filter qos (subscribed_at filter s.subscriptions)) _ (subscribe_change-keeps filter qos (subscribed_at filter s.subscriptions))
+        (fits-changed_if named.change nothing h fits-nothing)))
 
-  asked_for-fits : (a : Addr) (s : Session) (bits msg_id : ℕ) (field : List ℕ) (asked : Asked) (qos : ℕ) → Fits g c v (subscribe_asked a s bits msg_id field asked qos)
-  asked_for-fits a s bits msg_id field (Refused code) qos = refused-fits a bits msg_id code
-  asked_for-fits a s bits msg_id field (Topics filter) qos =
-      choose-fits (filter_has_no_room filter s.subscriptions) _ _ (refused-fits a bits msg_id 1)
-      (subscribed-fits a s bits msg_id filter qos (id_asked s (kind_of bits) field filter) (id_asked-keeps s (kind_of bits) field filter))
+    asked_for-fits : (field : List ℕ) (asked : Asked) (qos : ℕ) → Fits g c v (subscribe_asked seen waiting a s bits msg_id field asked qos)
+    asked_for-fits field (Refused code) qos = refused-fits a bits msg_id code
+    asked_for-fits field (Topics filter) qos =
+        choose-fits (filter_has_no_room filter s.subscriptions) _ _ (refused-fits a bits msg_id 1)
+        (subscribed-fits filter qos (id_asked s (kind_of bits) field filter) (id_asked-keeps s (kind_of bits) field filter))
 
-  subscribe_at-fits : (p : Entries) (a : Addr) (s : Session) (bits msg_id : ℕ) (field : List ℕ) (qos : Option ℕ) → Fits g c v (subscribe_at p a s bits msg_id field qos)
-  subscribe_at-fits p a s bits msg_id field None = refused-fits a bits msg_id 3
-  subscribe_at-fits p a s bits msg_id field (Some qos) = asked_for-fits a s bits msg_id field (topics_asked p (kind_of bits) field) qos
+    subscribe_at-fits : (p : Entries) (field : List ℕ) (qos : Option ℕ) → Fits g c v (subscribe_at p seen waiting a s bits msg_id field qos)
+    subscribe_at-fits p field None = refused-fits a bits msg_id 3
+    subscribe_at-fits p field (Some qos) = asked_for-fits field (topics_asked p (kind_of bits) field) qos
 
   present-keeps : (b : Bool) (filter : List ℕ) → IfSome (if b then Some (Unsubscribe filter) else None) KeepsUp
   present-keeps true filter = tt
@@ -269,7 +273,7 @@ module _ (g : ℕ) (S : List Op) where
   pub subscribe_of-fits : (p : Entries) (a : Addr) (bound : Option (List ℕ)) (bits msg_id : ℕ) (field : List ℕ) (now : ℕ) → FitsRow g S (subscribe_of p (seen_of S) a bound bits msg_id field now)
   subscribe_of-fits p a None bits msg_id field now = tt
   subscribe_of-fits p a (Some c) bits msg_id field now =
-      fits-moved (Heard c now) _ tt (subscribe_at-fits g c (view c S) p a (session_of (seen_of S) c) bits msg_id field (qos_asked (qos_of bits)))
+      fits-moved (Heard c now) _ tt (subscribe_at-fits g c (view c S) (seen_of S) (waiting_for (seen_of S) c) a (session_of (seen_of S) c) bits msg_id p field (qos_asked (qos_of bits)))
 
   pub unsubscribe_of-fits : (p : Entries) (a : Addr) (bound : Option (List ℕ)) (bits msg_id : ℕ) (field : List ℕ) (now : ℕ) → FitsRow g S (unsubscribe_of p (seen_of S) a bound bits msg_id field now)
   unsubscribe_of-fits p a None bits msg_id field now = tt
@@ -279,26 +283,25 @@ module _ (g : ℕ) (S : List Op) where
 -- ---- publications
 
 module _ (g : ℕ) (c : List ℕ) (v : ClientView) (seen : Seen) where
-  spread-fits : (name : List ℕ) (body : List ℕ) → Fits g c v (spread seen name body)
-  spread-fits name body = fits-put_all (puts_for seen name 0 body) nothing fits-nothing
+  posted-fits : (asked : Bool) (name : List ℕ) (qos : ℕ) (body : List ℕ) → Fits g c v (posted seen asked name qos body)
+  posted-fits asked name qos body = fits-retain_if (retained_of seen asked name qos body) _ (fits-put_all (puts_for seen name qos body) nothing fits-nothing)
 
-  publish_at-fits : (a : Addr) (s : Session) (topic msg_id : ℕ) (body name : List ℕ) (qos : Qos) → Fits g c v (publish_at seen a s topic msg_id body name qos)
-  publish_at-fits a s topic msg_id body name levels.Zero = spread-fits name body
-  publish_at-fits a s topic msg_id body name levels.One =
-      fits-sent a (frames.PubAck topic msg_id 0) _ (fits-put_all (puts_for seen name 1 body) nothing fits-nothing)
-  publish_at-fits a s topic msg_id body name levels.Two =
+  publish_at-fits : (asked : Bool) (a : Addr) (s : Session) (topic msg_id : ℕ) (body name : List ℕ) (qos : Qos) → Fits g c v (publish_at seen asked a s topic msg_id body name qos)
+  publish_at-fits asked a s topic msg_id body name levels.Zero = posted-fits asked name 0 body
+  publish_at-fits asked a s topic msg_id body name levels.One = fits-sent a (frames.PubAck topic msg_id 0) _ (posted-fits asked name 1 body)
+  publish_at-fits asked a s topic msg_id body name levels.Two =
       choose-fits (is_received msg_id s.received) _ _ (fits-sent a (frames.PubRec msg_id) nothing fits-nothing)
       (choose-fits (id_has_no_room msg_id s.received) _ _ (fits-sent a (frames.PubAck topic msg_id 1) nothing fits-nothing)
-      (fits-sent a (frames.PubRec msg_id) _ (fits-changed (Received msg_id) _ tt (fits-put_all (puts_for seen name 2 body) nothing fits-nothing))))
-  publish_at-fits a s topic msg_id body name levels.MinusOne = spread-fits name body
+      (fits-sent a (frames.PubRec msg_id) _ (fits-changed (Received msg_id) _ tt (posted-fits asked name 2 body))))
+  publish_at-fits asked a s topic msg_id body name levels.MinusOne = posted-fits asked name 0 body
 
-  publish_meant-fits : (a : Addr) (s : Session) (topic msg_id : ℕ) (body : List ℕ) (qos : Qos) (meant : Meant) → Fits g c v (publish_meant seen a s topic msg_id body qos meant)
-  publish_meant-fits a s topic msg_id body qos (meanings.Refused code) = fits-sent a (frames.PubAck topic msg_id code) nothing fits-nothing
-  publish_meant-fits a s topic msg_id body qos (meanings.Topic name) = publish_at-fits a s topic msg_id body name qos
+  publish_meant-fits : (asked : Bool) (a : Addr) (s : Session) (topic msg_id : ℕ) (body : List ℕ) (qos : Qos) (meant : Meant) → Fits g c v (publish_meant seen asked a s topic msg_id body qos meant)
+  publish_meant-fits asked a s topic msg_id body qos (meanings.Refused code) = fits-sent a (frames.PubAck topic msg_id code) nothing fits-nothing
+  publish_meant-fits asked a s topic msg_id body qos (meanings.Topic name) = publish_at-fits asked a s topic msg_id body name qos
 
-spread_meant-binds_none : (seen : Seen) (body : List ℕ) (meant : Meant) → AllByRecursion IsNoBind (spread_meant seen body meant).local
-spread_meant-binds_none seen body (meanings.Refused code) = tt
-spread_meant-binds_none seen body (meanings.Topic name) = tt
+spread_meant-binds_none : (seen : Seen) (asked : Bool) (body : List ℕ) (meant : Meant) → AllByRecursion IsNoBind (spread_meant seen asked body meant).local
+spread_meant-binds_none seen asked body (meanings.Refused code) = tt
+spread_meant-binds_none seen asked body (meanings.Topic name) = tt
 
 release-keeps : (b : Bool) (msg_id : ℕ) → IfSome (if b then Some (Release msg_id) else None) KeepsUp
 release-keeps true msg_id = tt
@@ -309,10 +312,10 @@ module _ (g : ℕ) (S : List Op) where
   publish_of-fits p a None bits topic msg_id body now = tt
   publish_of-fits p a (Some c) bits topic msg_id body now =
       fits-moved (Heard c now) _ tt
-      (publish_meant-fits g c (view c S) (seen_of S) a (session_of (seen_of S) c) topic msg_id body (qos_of bits) (publication_meant p (session_of (seen_of S) c) bits topic body))
+      (publish_meant-fits g c (view c S) (seen_of S) (retain_asked bits) a (session_of (seen_of S) c) topic msg_id body (qos_of bits) (publication_meant p (session_of (seen_of S) c) bits topic body))
 
   pub publish_in-fits : (p : Entries) (local : Local) (a : Addr) (bits topic msg_id : ℕ) (body : List ℕ) (now : ℕ) (qos : Qos) → FitsRow g S (publish_in_at p (seen_of S) local a bits topic msg_id body now qos)
-  publish_in-fits p local a bits topic msg_id body now levels.MinusOne = spread_meant-binds_none (seen_of S) body (publication_meant p empty_session bits topic body)
+  publish_in-fits p local a bits topic msg_id body now levels.MinusOne = spread_meant-binds_none (seen_of S) (retain_asked bits) body (publication_meant p empty_session bits topic body)
   publish_in-fits p local a bits topic msg_id body now levels.Zero = publish_of-fits p a (client_at a local.bindings) bits topic msg_id body now
   publish_in-fits p local a bits topic msg_id body now levels.One = publish_of-fits p a (client_at a local.bindings) bits topic msg_id body now
   publish_in-fits p local a bits topic msg_id body now levels.Two = publish_of-fits p a (client_at a local.bindings) bits topic msg_id body now

@@ -13,7 +13,7 @@ use Rattle.sn_session.specs.Session.{applied, empty_session}
 use Rattle.rep_op.specs.declared.op.Stamp.{Stamp}
 use Rattle.rep_op.specs.declared.op.Put.{Put}
 use Rattle.rep_op.specs.declared.op.Op.{Op}
-use Rattle.rep_op.specs.declared.op.Op.TheVariants.{Session as OfSession, Put as OfPut, Ack}
+use Rattle.rep_op.specs.declared.op.Op.TheVariants.{Session as OfSession, Put as OfPut, Ack, Retain as OfRetain}
 use Rattle.rep_ops.specs.Making.{AreWellMade}
 use Rattle.rep_op.specs.Orders.{operation_cmp, name_of, put_cmp}
 use Rattle.rep_op.specs.Ranges.{is_change, is_session}
@@ -46,6 +46,7 @@ entry_of c (OfSession d stamp counter change) made =
     ]
 entry_of c (OfPut d put) made = tt
 entry_of c (Ack d origin first last) made = tt
+entry_of c (OfRetain topic kept) made = tt
 
 entry_at : (c : List ℕ) (S : List Op) → AreWellMade S → (name : Stamp × ℕ) → IfSome (operation_at c S name) (λ change. IsEntry name change)
 entry_at c S made name =
@@ -144,6 +145,7 @@ puts_well c (OfPut d p ∷ S) made =
       | false ↦ puts_well c S made.1
     ]
 puts_well c (Ack d origin first last ∷ S) made = puts_well c S made.1
+puts_well c (OfRetain t k ∷ S) made = puts_well c S made.1
 
 values_well : (es : List ((ℕ × ℕ) × Put)) → AreWell es → AllByRecursion IsWell (map (λ e. e.1) es)
 values_well [] all = tt

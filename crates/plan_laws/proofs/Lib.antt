@@ -2,6 +2,7 @@ mod Examples
 pub mod Sessions
 pub mod Kept
 pub mod Sound
+pub mod Retained
 pub mod Written
 pub mod Following
 pub mod Rows

@@ -62,6 +62,7 @@ use Rattle.sn_local.specs.Seen.{Seen, seen_of}
 use Rattle.sn_subscribe.specs.Registration.{entry_id, new_id, entry_or_free, id_for, registered, register_name, register as register_draft}
 use Rattle.sn_plan.specs.Rows.{row_of, row_of_none, heard_row, turned_away, stray}
 use Rattle.sn_subscribe.specs.Subscription.{suback, refused, fixed_id, id_in_full, id_asked, subscribe_change, subscribed, subscribe_to, subscribe_asked, subscribe_at, subscribe as subscribe_draft, unsubscribe_change, unsubscribe_asked, unsubscribe as unsubscribe_draft}
+use Rattle.sn_subscribe.specs.Handing.{waiting_for, handed_for}
 use Rattle.sn_subscribe.specs.TopicRows.{register_of, register, subscribe_of, subscribe, unsubscribe_of, unsubscribe}
 use Rattle.sn_local.specs.Timers.{started}
 use Rattle.sn_local.specs.WillDialogs.{dialog_at}
@@ -82,7 +83,8 @@ use Rattle.sn_deliver.specs.Waking.{claimed, has_nothing, from_sleep, from_wake,
 use Rattle.plan_laws.specs.KeepsWell.{is_asked, AreAsked}
 use Rattle.plan_laws.proofs.Sessions.{Fine, IsChange, fine-to, all-found, unknown-fine, empty-fine}
 use Rattle.plan_laws.proofs.Kept.{IsWell, view-fine, seen-fine, pending-well, pending-apart}
-use Rattle.plan_laws.proofs.Sound.{IsNamed, AreOnce, IsMessage, Sound, well-named, all-named, all-once, choose-sound, sound-nothing, sound-changed, sound-changed_if, sound-acked, sound-put_all, sound-sent, sound-moved}
+use Rattle.plan_laws.proofs.Sound.{IsNamed, AreOnce, IsMessage, Sound, well-named, all-named, all-once, choose-sound, sound-nothing, sound-changed, sound-changed_if, sound-acked, sound-hand_all, sound-put_all, sound-sent, sound-moved}
+use Rattle.plan_laws.proofs.Retained.{handed-fine}
 use Rattle.plan_laws.proofs.Following.{free-fine}
 
 abbrev pub IsSoundRow : Row → Type 0
@@ -142,6 +144,8 @@ acked_all-sound true waiting d none well apart h = record {
   changes = h.changes;
   acks = subst (λ (xs : List (ℕ × ℕ)). AllByRecursion IsNamed (xs ++ map name_of waiting)) (sym none) (all-named waiting well);
   once = subst (λ (xs : List (ℕ × ℕ)). AreOnce (xs ++ map name_of waiting)) (sym none) (all-once waiting apart);
+  handed = h.handed;
+  retain = h.retain;
   puts = h.puts;
   local = h.local;
 }
@@ -149,6 +153,8 @@ acked_all-sound false waiting d none well apart h = record {
   changes = h.changes;
   acks = subst (λ (xs : List (ℕ × ℕ)). AllByRecursion IsNamed (xs ++ [])) (sym none) tt;
   once = subst (λ (xs : List (ℕ × ℕ)). AreOnce (xs ++ [])) (sym none) tt;
+  handed = h.handed;
+  retain = h.retain;
   puts = h.puts;
   local = h.local;
 }
@@ -331,22 +337,24 @@ subscribe_change-fine : (filter : List ℕ) (qos : ℕ) (before : Option ℕ) �
 subscribe_change-fine filter qos None h = h
 subscribe_change-fine filter qos (Some before) h = differs-fine (before == qos) filter qos h
 
-subscribed-sound : (a : Addr) (s : Session) (bits msg_id : ℕ) (filter : List ℕ) (qos : ℕ) (named : Option NamedId) → is_qos qos ≡ true → IfSome named (λ (n : NamedId). IfSome n.change IsChange) → Sound (subscribed a s bits msg_id filter qos named)
-subscribed-sound a s bits msg_id filter qos None q h = sent-nothing a (suback bits 0 msg_id 1)
-subscribed-sound a s bits msg_id filter qos (Some named) q h =
-    sound-sent a (suback bits named.id msg_id 0) _
-    (sound-changed_if (subscribe_change filter qos (subscribed_at filter s.subscriptions)) _ (subscribe_change-fine filter qos (subscribed_at filter s.subscriptions) q)
-    (sound-changed_if named.change nothing h sound-nothing))
+module _ (S : List Op) (made : AreWellMade S) (waiting : ℕ) (a : Addr) (s : Session) (bits msg_id : ℕ) where
+  subscribed-sound : (filter : List ℕ) (qos : ℕ) (named : Option NamedId) → is_qos qos ≡ true → IfSome named (λ (n : NamedId). IfSome n.change IsChange) → Sound (subscribed (seen_of S) waiting a s bits msg_id filter qos named)
+  subscribed-sound filter qos None q h = sent-nothing a (suback bits 0 msg_id 1)
+  subscribed-sound filter qos (Some named) q h =
+      sound-hand_all (handed_for (seen_of S) filter qos waiting) _ (handed-fine S made filter qos waiting)
+      (sound-sent a (suback bits named.id msg_id 0) _
+      (sound-changed_if (subscribe_change filter qos (subscribed_at filter s.subscriptions)) _ (subscribe_change-fine filter qos (subscribed_at filter s.subscriptions) q)
+      (sound-changed_if named.change nothing h sound-nothing)))
 
-asked-sound : (a : Addr) (s : Session) (bits msg_id : ℕ) (field : List ℕ) (asked : Asked) (qos : ℕ) → Fine s → is_qos qos ≡ true → Sound (subscribe_asked a s bits msg_id field asked qos)
-asked-sound a s bits msg_id field (Refused code) qos f q = sent-nothing a (suback bits 0 msg_id code)
-asked-sound a s bits msg_id field (Topics filter) qos f q =
-    choose-sound (filter_has_no_room filter s.subscriptions) _ _ (sent-nothing a (suback bits 0 msg_id 1))
-    (subscribed-sound a s bits msg_id filter qos (id_asked s (kind_of bits) field filter) q (id_asked-fine s (kind_of bits) field filter f))
+  asked-sound : (field : List ℕ) (asked : Asked) (qos : ℕ) → Fine s → is_qos qos ≡ true → Sound (subscribe_asked (seen_of S) waiting a s bits msg_id field asked qos)
+  asked-sound field (Refused code) qos f q = sent-nothing a (suback bits 0 msg_id code)
+  asked-sound field (Topics filter) qos f q =
+      choose-sound (filter_has_no_room filter s.subscriptions) _ _ (sent-nothing a (suback bits 0 msg_id 1))
+      (subscribed-sound filter qos (id_asked s (kind_of bits) field filter) q (id_asked-fine s (kind_of bits) field filter f))
 
-subscribe_at-sound : (p : Entries) (a : Addr) (s : Session) (bits msg_id : ℕ) (field : List ℕ) (qos : Option ℕ) → Fine s → IfSome qos (λ n. is_qos n ≡ true) → Sound (subscribe_at p a s bits msg_id field qos)
-subscribe_at-sound p a s bits msg_id field None f q = sent-nothing a (suback bits 0 msg_id 3)
-subscribe_at-sound p a s bits msg_id field (Some qos) f q = asked-sound a s bits msg_id field (topics_asked p (kind_of bits) field) qos f q
+  subscribe_at-sound : (p : Entries) (field : List ℕ) (qos : Option ℕ) → Fine s → IfSome qos (λ n. is_qos n ≡ true) → Sound (subscribe_at p (seen_of S) waiting a s bits msg_id field qos)
+  subscribe_at-sound p field None f q = sent-nothing a (suback bits 0 msg_id 3)
+  subscribe_at-sound p field (Some qos) f q = asked-sound field (topics_asked p (kind_of bits) field) qos f q
 
 present-fine : (b : Bool) (filter : List ℕ) → IfSome (if b then Some (Unsubscribe filter) else None) IsChange
 present-fine true filter = refl
@@ -364,7 +372,7 @@ module _ (S : List Op) (made : AreWellMade S) where
   pub subscribe_of-sound : (p : Entries) (a : Addr) (bound : Option (List ℕ)) (bits msg_id : ℕ) (field : List ℕ) (now : ℕ) → IsSoundRow (subscribe_of p (seen_of S) a bound bits msg_id field now)
   subscribe_of-sound p a None bits msg_id field now = sent-nothing a (frames.Disconnect None)
   subscribe_of-sound p a (Some c) bits msg_id field now =
-      sound-moved (Heard c now) _ tt (subscribe_at-sound p a (session_of (seen_of S) c) bits msg_id field (qos_asked (qos_of bits)) (seen-fine c S made) (asked-fine (qos_of bits)))
+      sound-moved (Heard c now) _ tt (subscribe_at-sound S made (waiting_for (seen_of S) c) a (session_of (seen_of S) c) bits msg_id p field (qos_asked (qos_of bits)) (seen-fine c S made) (asked-fine (qos_of bits)))
 
   pub unsubscribe_of-sound : (p : Entries) (a : Addr) (bound : Option (List ℕ)) (bits msg_id : ℕ) (field : List ℕ) (now : ℕ) → IsSoundRow (unsubscribe_of p (seen_of S) a bound bits msg_id field now)
   unsubscribe_of-sound p a None bits msg_id field now = sent-nothing a (frames.Disconnect None)

@@ -42,6 +42,7 @@ use Rattle.sn_flow.specs.declared.accept.GivenWill.TheVariants.{AsItIs, Deleted,
 use Rattle.sn_plan.specs.declared.asking.Asked.{Asked}
 use Rattle.sn_plan.specs.declared.asking.Asked.TheVariants.{Topics, Refused}
 use Rattle.sn_plan.specs.declared.draft.NewPut.{NewPut}
+use Rattle.sn_plan.specs.declared.draft.Posted.{Posted}
 use Rattle.sn_local.specs.declared.local.Awaited.{Awaited}
 use Rattle.sn_local.specs.declared.local.Awaited.TheVariants.{Topic, Message}
 use Rattle.sn_local.specs.declared.local.LocalChange.TheVariants.{Bind, Unbind, Time, Heard, Resent, Ask, EndDialog}
@@ -50,7 +51,7 @@ use Rattle.sn_local.specs.declared.local.WillDialog.{WillDialog}
 use Rattle.sn_subscribe.specs.declared.registration.NamedId.{NamedId}
 use Rattle.sn_plan.specs.declared.row.Row.{Row}
 use Rattle.sn_flow.specs.Accept.{will_after, unknowing, going_on, as_asked, accepted, cleared, accept, has_no_room}
-use Rattle.sn_plan.specs.Asking.{qos_asked, topics_asked, id_in}
+use Rattle.sn_plan.specs.Asking.{qos_asked, retain_asked, topics_asked, id_in}
 use Rattle.sn_local.specs.Bindings.{client_at, same_address, is_stamp_of}
 use Rattle.sn_plan.specs.Bound.{bound_to, heard_of, session_of}
 use Rattle.sn_flow.specs.Connection.{has_bit, request_of, refusal_of, ask_topic, connect_row, connect, leave, fall_asleep, disconnect_draft, disconnect_of, disconnect}
@@ -75,21 +76,19 @@ use Rattle.sn_exchange.specs.Exchanges.{same_name, put_named, put_left, message_
 use Rattle.sn_exchange.specs.Following.{peer_at}
 use Rattle.sn_exchange.specs.Forms.{form_again}
 use Rattle.step_laws.specs.Laws.{AreApart}
-use Rattle.sn_publish.specs.Publishing.{topic_meant, within_limit, publication_meant, spread, spread_once, spread_twice, publish_at, publish_meant, publish, spread_meant, publish_unconnected, release, pubrel}
+use Rattle.sn_publish.specs.Publishing.{topic_meant, within_limit, publication_meant, posted, spread, spread_once, spread_twice, publish_at, publish_meant, publish, spread_meant, publish_unconnected, release, pubrel}
 use Rattle.sn_publish.specs.Recipients.{admitted, qos_at, qos_in, qos_for, message_for, put_for, puts_among, puts_for, is_another, puts_of_will}
+use Rattle.sn_publish.specs.Retaining.{has_place, retained_of}
 use Rattle.sn_deliver.specs.Serving.{publish_of, publish_in_at, publish_in, pubrel_of, ack_of, ack_in}
 use Rattle.sn_deliver.specs.Waking.{claimed, has_nothing, from_sleep, from_wake, woken_by, woken_if, woken, wake_of, wake}
 use Rattle.plan_laws.specs.KeepsWell.{is_asked, AreAsked}
 use Rattle.plan_laws.proofs.Sessions.{Fine, IsChange, fine-to, all-found, unknown-fine, empty-fine}
 use Rattle.plan_laws.proofs.Kept.{IsWell, view-fine, seen-fine, pending-well, pending-apart}
-use Rattle.plan_laws.proofs.Sound.{IsNamed, AreOnce, IsMessage, Sound, well-named, all-named, all-once, choose-sound, sound-nothing, sound-changed, sound-changed_if, sound-acked, sound-put_all, sound-sent, sound-moved}
+use Rattle.plan_laws.proofs.Sound.{IsNamed, AreOnce, IsMessage, IsPosted, Sound, least-two, well-named, all-named, all-once, choose-sound, sound-nothing, sound-changed, sound-changed_if, sound-acked, sound-retain_if, sound-put_all, sound-sent, sound-moved}
 use Rattle.plan_laws.proofs.Following.{free-fine}
 use Rattle.plan_laws.proofs.Rows.{IsSoundRow, sent-nothing, heard-sound, stray-sound, choose-row, not-above, bound-sound}
 
 -- ---- who gets a publication
-
-least-two : (a b : ℕ) → nat_le a 2 ≡ true → nat_le (min a b) 2 ≡ true
-least-two a b h = let le = leb-true a 2 h in le-leb (min a b) 2 (omega (arith, le))
 
 admitted-fine : (b : Bool) (qos : ℕ) → nat_le qos 2 ≡ true → IfSome (if b then Some qos else None) (λ q. nat_le q 2 ≡ true)
 admitted-fine true qos h = h
@@ -114,6 +113,11 @@ module _ (seen : Seen) (topic : List ℕ) (qos : ℕ) (body : List ℕ) (q : nat
 
 -- ---- publications
 
+pub kept-fine : (b : Bool) (topic : List ℕ) (qos : ℕ) (body : List ℕ) → nat_le qos 2 ≡ true → nat_le (length body) 4096 ≡ true
+    → IfSome {T = Posted} (if b then Some (record { topic = topic; qos = qos; body = body }) else None) IsPosted
+kept-fine true topic qos body q short = (q, short)
+kept-fine false topic qos body q short = tt
+
 abbrev IsMeant : List ℕ → Meant → Type 0
 IsMeant body (meanings.Refused code) = Unit {0}
 IsMeant body (meanings.Topic name) = nat_le (length body) 4096 ≡ true
@@ -127,38 +131,38 @@ limit-fine body (meanings.Topic name) =
     ] refl
 
 module _ (seen : Seen) where
-  spread-sound : (name : List ℕ) (body : List ℕ) → nat_le (length body) 4096 ≡ true → Sound (spread seen name body)
-  spread-sound name body short = sound-put_all (puts_for seen name 0 body) nothing (among-fine seen name 0 body refl short seen.all) sound-nothing
+  posted-sound : (asked : Bool) (name : List ℕ) (qos : ℕ) (body : List ℕ) → nat_le qos 2 ≡ true → nat_le (length body) 4096 ≡ true → Sound (posted seen asked name qos body)
+  posted-sound asked name qos body q short =
+      sound-retain_if (retained_of seen asked name qos body) _ (kept-fine (asked && has_place seen name) name qos body q short)
+      (sound-put_all (puts_for seen name qos body) nothing (among-fine seen name qos body q short seen.all) sound-nothing)
 
-  publish_at-sound : (a : Addr) (s : Session) (topic msg_id : ℕ) (body name : List ℕ) (qos : Qos) → nat_le (length body) 4096 ≡ true → Sound (publish_at seen a s topic msg_id body name qos)
-  publish_at-sound a s topic msg_id body name levels.Zero short = spread-sound name body short
-  publish_at-sound a s topic msg_id body name levels.One short =
-      sound-sent a (frames.PubAck topic msg_id 0) _ (sound-put_all (puts_for seen name 1 body) nothing (among-fine seen name 1 body refl short seen.all) sound-nothing)
-  publish_at-sound a s topic msg_id body name levels.Two short =
+  publish_at-sound : (asked : Bool) (a : Addr) (s : Session) (topic msg_id : ℕ) (body name : List ℕ) (qos : Qos) → nat_le (length body) 4096 ≡ true → Sound (publish_at seen asked a s topic msg_id body name qos)
+  publish_at-sound asked a s topic msg_id body name levels.Zero short = posted-sound asked name 0 body refl short
+  publish_at-sound asked a s topic msg_id body name levels.One short = sound-sent a (frames.PubAck topic msg_id 0) _ (posted-sound asked name 1 body refl short)
+  publish_at-sound asked a s topic msg_id body name levels.Two short =
       choose-sound (is_received msg_id s.received) _ _ (sent-nothing a (frames.PubRec msg_id))
       (choose-sound (id_has_no_room msg_id s.received) _ _ (sent-nothing a (frames.PubAck topic msg_id 1))
-      (sound-sent a (frames.PubRec msg_id) _ (sound-changed (Received msg_id) _ refl
-      (sound-put_all (puts_for seen name 2 body) nothing (among-fine seen name 2 body refl short seen.all) sound-nothing))))
-  publish_at-sound a s topic msg_id body name levels.MinusOne short = spread-sound name body short
+      (sound-sent a (frames.PubRec msg_id) _ (sound-changed (Received msg_id) _ refl (posted-sound asked name 2 body refl short))))
+  publish_at-sound asked a s topic msg_id body name levels.MinusOne short = posted-sound asked name 0 body refl short
 
-  publish_meant-sound : (a : Addr) (s : Session) (topic msg_id : ℕ) (body : List ℕ) (qos : Qos) (meant : Meant) → IsMeant body meant → Sound (publish_meant seen a s topic msg_id body qos meant)
-  publish_meant-sound a s topic msg_id body qos (meanings.Refused code) h = sent-nothing a (frames.PubAck topic msg_id code)
-  publish_meant-sound a s topic msg_id body qos (meanings.Topic name) h = publish_at-sound a s topic msg_id body name qos h
+  publish_meant-sound : (asked : Bool) (a : Addr) (s : Session) (topic msg_id : ℕ) (body : List ℕ) (qos : Qos) (meant : Meant) → IsMeant body meant → Sound (publish_meant seen asked a s topic msg_id body qos meant)
+  publish_meant-sound asked a s topic msg_id body qos (meanings.Refused code) h = sent-nothing a (frames.PubAck topic msg_id code)
+  publish_meant-sound asked a s topic msg_id body qos (meanings.Topic name) h = publish_at-sound asked a s topic msg_id body name qos h
 
-  spread_meant-sound : (body : List ℕ) (meant : Meant) → IsMeant body meant → Sound (spread_meant seen body meant)
-  spread_meant-sound body (meanings.Refused code) h = sound-nothing
-  spread_meant-sound body (meanings.Topic name) h = spread-sound name body h
+  spread_meant-sound : (asked : Bool) (body : List ℕ) (meant : Meant) → IsMeant body meant → Sound (spread_meant seen asked body meant)
+  spread_meant-sound asked body (meanings.Refused code) h = sound-nothing
+  spread_meant-sound asked body (meanings.Topic name) h = posted-sound asked name 0 body refl h
 
   publish_of-sound : (p : Entries) (a : Addr) (bound : Option (List ℕ)) (bits topic msg_id : ℕ) (body : List ℕ) (now : ℕ) → IsSoundRow (publish_of p seen a bound bits topic msg_id body now)
   publish_of-sound p a None bits topic msg_id body now = sent-nothing a (frames.Disconnect None)
   publish_of-sound p a (Some c) bits topic msg_id body now =
       sound-moved (Heard c now) _ tt
-      (publish_meant-sound a (session_of seen c) topic msg_id body (qos_of bits) (publication_meant p (session_of seen c) bits topic body)
+      (publish_meant-sound (retain_asked bits) a (session_of seen c) topic msg_id body (qos_of bits) (publication_meant p (session_of seen c) bits topic body)
       (limit-fine body (topic_meant p (session_of seen c) (kind_of bits) topic)))
 
   pub publish_in-sound : (p : Entries) (local : Local) (a : Addr) (bits topic msg_id : ℕ) (body : List ℕ) (now : ℕ) (qos : Qos) → IsSoundRow (publish_in_at p seen local a bits topic msg_id body now qos)
   publish_in-sound p local a bits topic msg_id body now levels.MinusOne =
-      spread_meant-sound body (publication_meant p empty_session bits topic body) (limit-fine body (topic_meant p empty_session (kind_of bits) topic))
+      spread_meant-sound (retain_asked bits) body (publication_meant p empty_session bits topic body) (limit-fine body (topic_meant p empty_session (kind_of bits) topic))
   publish_in-sound p local a bits topic msg_id body now levels.Zero = publish_of-sound p a (client_at a local.bindings) bits topic msg_id body now
   publish_in-sound p local a bits topic msg_id body now levels.One = publish_of-sound p a (client_at a local.bindings) bits topic msg_id body now
   publish_in-sound p local a bits topic msg_id body now levels.Two = publish_of-sound p a (client_at a local.bindings) bits topic msg_id body now

@@ -1,5 +1,5 @@
 -- Drafts that can be written: changes, messages and topics of wills in range, acknowledgements of messages that can be, each once.
-use Rattle.std.proofs.Common.{◌≡◌, ℕ, Bool, true, false, ◌&&◌, ◌||◌, not, nat_le, cond, if◌then◌else◌, List, [], ◌∷◌, ◌++◌, map, filter, length, Option, Some, None, IfSome, refl, sym, ap, ◌∙◌, subst, true≢false}
+use Rattle.std.proofs.Common.{◌≡◌, ℕ, Bool, true, false, ◌&&◌, ◌||◌, not, nat_le, cond, if◌then◌else◌, min, List, [], ◌∷◌, ◌++◌, map, filter, length, Option, Some, None, IfSome, refl, sym, ap, ◌∙◌, subst, true≢false, arith, le-leb, leb-true}
 use Rattle.std.specs.List.{AllByRecursion}
 use Rattle.std.proofs.lemmas.Bool.{and_parts, or_parts}
 use Rattle.std.proofs.lemmas.List.Folds.{list_any-append}
@@ -10,9 +10,10 @@ use Rattle.rep_op.specs.WellMade.{is_put}
 use Rattle.rep_op.specs.Orders.{name_of}
 use Rattle.sn_local.specs.declared.config.Addr.{Addr}
 use Rattle.sn_plan.specs.declared.draft.NewPut.{NewPut}
+use Rattle.sn_plan.specs.declared.draft.Posted.{Posted}
 use Rattle.sn_local.specs.declared.local.LocalChange.{LocalChange}
 use Rattle.sn_local.specs.declared.local.LocalChange.TheVariants.{Ask}
-use Rattle.sn_plan.specs.Drafts.{Drafted, nothing, changed, changed_if, acked, acked_all, put_all, sent, moved}
+use Rattle.sn_plan.specs.Drafts.{Drafted, nothing, changed, changed_if, acked, acked_all, hand_all, retain_if, put_all, sent, moved}
 use Rattle.sn_plan.proofs.Lists.{all-append, all-both, all-given}
 use Rattle.sn_exchange.specs.Exchanges.{same_name, is_done, is_left, left}
 use Rattle.step_laws.specs.Laws.{AreApart}
@@ -33,6 +34,10 @@ AreOnce (name ∷ rest) = AllByRecursion (λ (other : ℕ × ℕ). same_name nam
 abbrev pub IsMessage : NewPut → Type 0
 IsMessage p = (nat_le p.qos 2 ≡ true) × (nat_le (length p.body) 4096 ≡ true)
 
+-- and so what is handed, or retained
+abbrev pub IsPosted : Posted → Type 0
+IsPosted m = (nat_le m.qos 2 ≡ true) × (nat_le (length m.body) 4096 ≡ true)
+
 -- a dialog is in range
 abbrev pub IsMove : LocalChange → Type 0
 IsMove (Ask dialog) = is_asked dialog.awaited ≡ true
@@ -42,27 +47,39 @@ pub record Sound (d : Drafted) : Type 0 where
   pub changes : AllByRecursion IsChange d.changes
   pub acks : AllByRecursion IsNamed d.acks
   pub once : AreOnce d.acks
+  pub handed : AllByRecursion IsPosted d.handed
+  pub retain : IfSome d.retain IsPosted
   pub puts : AllByRecursion IsMessage d.puts
   pub local : AllByRecursion IsMove d.local
 
 pub sound-nothing : Sound nothing
-sound-nothing = record { changes = tt; acks = tt; once = tt; puts = tt; local = tt }
+sound-nothing = record { changes = tt; acks = tt; once = tt; handed = tt; retain = tt; puts = tt; local = tt }
 
 pub sound-changed : (change : SessionOp) (d : Drafted) → IsChange change → Sound d → Sound (changed change d)
-sound-changed change d h s = record { changes = all-append IsChange d.changes (change ∷ []) s.changes (h, tt); acks = s.acks; once = s.once; puts = s.puts; local = s.local }
+sound-changed change d h s = record { changes = all-append IsChange d.changes (change ∷ []) s.changes (h, tt); acks = s.acks; once = s.once; handed = s.handed; retain = s.retain; puts = s.puts; local = s.local }
 
 pub sound-changed_if : (change : Option SessionOp) (d : Drafted) → IfSome change IsChange → Sound d → Sound (changed_if change d)
 sound-changed_if None d h s = s
 sound-changed_if (Some change) d h s = sound-changed change d h s
 
 pub sound-put_all : (puts : List NewPut) (d : Drafted) → AllByRecursion IsMessage puts → Sound d → Sound (put_all puts d)
-sound-put_all puts d h s = record { changes = s.changes; acks = s.acks; once = s.once; puts = all-append IsMessage d.puts puts s.puts h; local = s.local }
+sound-put_all puts d h s = record { changes = s.changes; acks = s.acks; once = s.once; handed = s.handed; retain = s.retain; puts = all-append IsMessage d.puts puts s.puts h; local = s.local }
+
+pub sound-hand_all : (handed : List Posted) (d : Drafted) → AllByRecursion IsPosted handed → Sound d → Sound (hand_all handed d)
+sound-hand_all handed d h s = record { changes = s.changes; acks = s.acks; once = s.once; handed = all-append IsPosted d.handed handed s.handed h; retain = s.retain; puts = s.puts; local = s.local }
+
+pub sound-retain_if : (posted : Option Posted) (d : Drafted) → IfSome posted IsPosted → Sound d → Sound (retain_if posted d)
+sound-retain_if posted d h s = record { changes = s.changes; acks = s.acks; once = s.once; handed = s.handed; retain = h; puts = s.puts; local = s.local }
 
 pub sound-sent : (to : Addr) (frame : Frame) (d : Drafted) → Sound d → Sound (sent to frame d)
-sound-sent to frame d s = record { changes = s.changes; acks = s.acks; once = s.once; puts = s.puts; local = s.local }
+sound-sent to frame d s = record { changes = s.changes; acks = s.acks; once = s.once; handed = s.handed; retain = s.retain; puts = s.puts; local = s.local }
 
 pub sound-moved : (change : LocalChange) (d : Drafted) → IsMove change → Sound d → Sound (moved change d)
-sound-moved change d h s = record { changes = s.changes; acks = s.acks; once = s.once; puts = s.puts; local = all-append IsMove d.local (change ∷ []) s.local (h, tt) }
+sound-moved change d h s = record { changes = s.changes; acks = s.acks; once = s.once; handed = s.handed; retain = s.retain; puts = s.puts; local = all-append IsMove d.local (change ∷ []) s.local (h, tt) }
+
+-- of two qualities of service the smaller is in range where the first is
+pub least-two : (a b : ℕ) → nat_le a 2 ≡ true → nat_le (min a b) 2 ≡ true
+least-two a b h = let le = leb-true a 2 h in le-leb (min a b) 2 (omega (arith, le))
 
 pub choose-sound : (b : Bool) (x y : Drafted) → Sound x → Sound y → Sound (if b then x else y)
 choose-sound true x y s t = s
@@ -96,7 +113,7 @@ not-done-more acks name p h k =
 
 pub sound-acked : (name : ℕ × ℕ) (d : Drafted) → IsNamed name → is_done d.acks name ≡ false → Sound d → Sound (acked name d)
 sound-acked name d h e s =
-    record { changes = s.changes; acks = all-append IsNamed d.acks (name ∷ []) s.acks (h, tt); once = once-more d.acks name s.once e; puts = s.puts; local = s.local }
+    record { changes = s.changes; acks = all-append IsNamed d.acks (name ∷ []) s.acks (h, tt); once = once-more d.acks name s.once e; handed = s.handed; retain = s.retain; puts = s.puts; local = s.local }
 
 -- after one more acknowledgement the others are not done
 pub others-left : (acks : List (ℕ × ℕ)) (put : Put) (rest : List Put) → AllByRecursion (λ (other : Put). same_name (name_of put) (name_of other) ≡ false) rest
@@ -108,7 +125,8 @@ others-left acks put rest apart all =
 -- a message that can be has a name that can be
 pub well-named : (p : Put) → IsWell p → IsNamed (name_of p)
 well-named p h =
-    let a = and_parts (nat_le 1 p.origin && nat_le 1 p.seq && nat_le p.qos 2) (nat_le (length p.body) 4096) h in
+    let m = and_parts _ _ h in
+    let a = and_parts (nat_le 1 p.origin && nat_le 1 p.seq && nat_le p.qos 2) (nat_le (length p.body) 4096) m.0 in
     let b = and_parts (nat_le 1 p.origin && nat_le 1 p.seq) (nat_le p.qos 2) a.0 in
     let c = and_parts (nat_le 1 p.origin) (nat_le 1 p.seq) b.0 in
     (c.1, c.0)

@@ -34,7 +34,7 @@ use Rattle.sn_plan.specs.Bound.{session_of}
 use Rattle.sn_plan.specs.Drafts.{Drafted, nothing, changed, put_all, sent, moved}
 use Rattle.sn_plan.specs.Flush.{AreFlush}
 use Rattle.sn_local.specs.Locals.{Local, no_local, after_all, owned}
-use Rattle.sn_plan.specs.Numbering.{planned, plan_with, rest_of, with_puts, written, start_of, ack_of}
+use Rattle.sn_plan.specs.Numbering.{planned, plan_with, rest_of, numbered as numbered_all, written, start_of, ack_of}
 use Rattle.sn_plan.specs.Others.{other}
 use Rattle.sn_plan.specs.Own.{IsOfDraft, AreFresh, AddsNone}
 use Rattle.sn_local.specs.Seen.{Seen, seen_of}
@@ -44,23 +44,25 @@ use Rattle.sn_local.specs.WillDialogs.{is_elsewhere, dialogs_elsewhere, dialog_c
 use Rattle.row_laws.proofs.Flushness.{flush-start, flush-taken}
 use Rattle.row_laws.proofs.Freshness.{plan-fresh}
 use Rattle.sn_plan.proofs.Lists.{and_then-some, map-some, all-append}
+use Rattle.sn_plan.proofs.Made.{for_nobody}
 use Rattle.row_laws.proofs.Stepping.{step-flush}
 use Rattle.sn_tick.specs.declared.due.Due.{Due}
 use Rattle.sn_tick.specs.declared.due.Due.TheVariants as dues
 use Rattle.sn_tick.specs.Due.{elapsed, first_due}
 use Rattle.sn_exchange.specs.Following.{peer_at, followed_for, followed, deliver_next}
 use Rattle.sn_publish.specs.Recipients.{is_another}
+use Rattle.sn_publish.specs.Retaining.{has_place}
 use Rattle.sn_deliver.specs.Steps.{row_for, step}
-use Rattle.sn_tick.specs.Ticking.{dialog_ended, dialogs_ended, needs_timer, timer_begun, cleaned, may_advertise, advertised_to, advertised, will_puts, lost, retried, plan_due, plan_if_due, tick}
+use Rattle.sn_tick.specs.Ticking.{dialog_ended, dialogs_ended, needs_timer, timer_begun, cleaned, may_advertise, advertised_to, advertised, will_puts, will_retained, lost, retried, plan_due, plan_if_due, tick}
 use Rattle.step_laws.proofs.Drafting.{step-drafted, tick-drafted}
 use Rattle.plan_laws.specs.KeepsWell.{is_asked, AreAsked, KeepsWell}
 use Rattle.plan_laws.proofs.Sessions.{Fine}
 use Rattle.plan_laws.proofs.Kept.{seen-fine, pending-well, pending-apart}
-use Rattle.plan_laws.proofs.Sound.{IsMessage, IsMove, Sound, choose-sound, sound-nothing, sound-changed, sound-put_all, sound-sent, sound-moved}
+use Rattle.plan_laws.proofs.Sound.{IsMessage, IsPosted, IsMove, Sound, choose-sound, sound-nothing, sound-changed, sound-retain_if, sound-put_all, sound-sent, sound-moved}
 use Rattle.plan_laws.proofs.Written.{plan-apart}
 use Rattle.plan_laws.proofs.Following.{followed-sound}
 use Rattle.plan_laws.proofs.Rows.{IsSoundRow, stray-sound, sent-nothing, connect-sound, disconnect-sound, will_topic-sound, will_msg-sound, topic_update_of-sound, message_update_of-sound, register_of-sound, subscribe_of-sound, unsubscribe_of-sound}
-use Rattle.plan_laws.proofs.Serving.{among-fine, publish_in-sound, pubrel_of-sound, ack_of-sound, wake-sound}
+use Rattle.plan_laws.proofs.Serving.{among-fine, kept-fine, publish_in-sound, pubrel_of-sound, ack_of-sound, wake-sound}
 
 -- ---- what a plan makes: operations that make a delta, and dialogs in range
 
@@ -70,14 +72,14 @@ pub record Makes (plan : Plan) : Type 0 where
 
 module _ (g : ℕ) (S : List Op) (plan : Plan) (numbered : 1 ≤ g) (flush : AreFlush g S) (made : AreWellMade S) (drafted : IsOfDraft g (seen_of S) plan) where
   fresh : AreFresh S plan.ops
-  fresh = plan-fresh g drafted.client S drafted.draft plan drafted.is (flush drafted.client) drafted.one_each
+  fresh = plan-fresh g drafted.client S drafted.draft plan drafted.is (flush drafted.client) drafted.apart
 
   plan-local : (c : List ℕ) (d : Drafted) → plan_of g c (seen_of S) d ≡ Some plan → plan.local ≡ d.local
   unfolding planned
   plan-local c d e =
       let seen : Seen = seen_of S in
-      let m = and_then-some (rest_of g c (λ e. seen.seq e g) d) (written c g d.changes (start_of g (seen.of c) (seen.epoch c))) plan e in
-      let n = map-some (plan_with d) (with_puts g (λ e. seen.seq e g) d.puts (m.0.ops ++ map (ack_of c) d.acks)) plan m.2 in
+      let m = and_then-some (rest_of g c (λ e. seen.seq e g) seen.clock d) (written c g d.changes (start_of g (seen.of c) (seen.epoch c))) plan e in
+      let n = map-some (plan_with d) (numbered_all g c (λ e. seen.seq e g) seen.clock d (m.0.ops ++ map (ack_of c) d.acks)) plan m.2 in
       ap (λ (p : Plan). p.local) (sym n.2)
 
   draft-makes : (c : List ℕ) (d : Drafted) → Sound d → plan_of g c (seen_of S) d ≡ Some plan → Makes plan
@@ -89,8 +91,8 @@ module _ (g : ℕ) (S : List Op) (plan : Plan) (numbered : 1 ≤ g) (flush : Are
   puts-makes : (d : Drafted) → Sound d → plan_of_puts g (seen_of S) d ≡ Some plan → Makes plan
   unfolding planned
   puts-makes d sound e =
-      draft-makes [] (record { changes = []; acks = []; puts = d.puts; sends = d.sends; local = d.local })
-      (record { changes = tt; acks = tt; once = tt; puts = sound.puts; local = sound.local }) e
+      draft-makes [] (for_nobody d)
+      (record { changes = tt; acks = tt; once = tt; handed = tt; retain = sound.retain; puts = sound.puts; local = sound.local }) e
 
   for-makes : (d : Drafted) (client : Option (List ℕ)) → Sound d → plan_for g (seen_of S) d client ≡ Some plan → Makes plan
   for-makes d None sound e = puts-makes d sound e
@@ -173,9 +175,16 @@ will-messages seen c (Some will) h =
     let parts = and_parts (is_qos will.qos) (is_message will.message) h in
     among-fine seen will.topic will.qos will.message parts.0 parts.1 (filter (is_another c) seen.all)
 
+will-kept : (seen : Seen) (will : Option SessionWill) → is_will will ≡ true → IfSome (will_retained seen will) IsPosted
+will-kept seen None h = tt
+will-kept seen (Some will) h =
+    let parts = and_parts (is_qos will.qos) (is_message will.message) h in
+    kept-fine (will.retain && has_place seen will.topic) will.topic will.qos will.message parts.0 parts.1
+
 lost-sound : (seen : Seen) (c : List ℕ) (s : Session) (d : Drafted) → Fine s → Sound d → Sound (lost seen c s d)
 lost-sound seen c s d f h =
-    sound-moved (Unbind c) _ tt (sound-changed (Presence Lost s.duration) _ refl (sound-put_all (will_puts seen c s.will) d (will-messages seen c s.will f.will) h))
+    sound-moved (Unbind c) _ tt (sound-changed (Presence Lost s.duration) _ refl (sound-retain_if (will_retained seen s.will) _ (will-kept seen s.will f.will)
+    (sound-put_all (will_puts seen c s.will) d (will-messages seen c s.will f.will) h)))
 
 -- ---- steps and ticks
 

@@ -14,34 +14,36 @@ use Rattle.sn_session.specs.Session.{applied, empty_session, is_take}
 use Rattle.rep_op.specs.declared.op.Stamp.{Stamp}
 use Rattle.rep_op.specs.declared.op.Put.{Put}
 use Rattle.rep_op.specs.declared.op.Op.{Op}
-use Rattle.rep_op.specs.declared.op.Op.TheVariants.{Session as OfSession, Put as OfPut, Ack}
-use Rattle.rep_op.specs.Orders.{ShareName, HasTwice, put_cmp}
+use Rattle.rep_op.specs.declared.op.Op.TheVariants.{Session as OfSession, Put as OfPut, Ack, Retain as OfRetain}
+use Rattle.rep_op.specs.Orders.{ShareName, HasTwice, put_cmp, clock_of}
 use Rattle.rep_ops.specs.Making.{AreWellMade, AreApart}
 use Rattle.rep_op.specs.Ranges.{is_change, is_session}
-use Rattle.rep_op.specs.Sets.{operation_at, put_at}
+use Rattle.rep_op.specs.Sets.{operation_at, put_at, retain_at}
 use Rattle.rep_op.specs.WellMade.{is_stamp, is_counted, is_put, is_well_made}
 use Rattle.rep_ops.proofs.Rising.{all_at}
 use Rattle.rep_model.specs.declared.view.ClientView.{ClientView}
-use Rattle.rep_model.specs.Fresh.{one_more, next_epoch, next_seq, greatest_epoch, largest, seq_of}
+use Rattle.rep_model.specs.Fresh.{one_more, next_epoch, next_seq, next_clock, greatest_epoch, largest, seq_of, clock_in}
 use Rattle.rep_model.specs.Views.{visible, history, session_of, view}
 use Rattle.rep_model.proofs.Lookup.{or_else}
-use Rattle.rep_model.proofs.Readers.{put_total, operation_at_both, put_at_both}
+use Rattle.rep_model.proofs.Readers.{put_total, operation_at_both, put_at_both, retain_at_both}
+use Rattle.sn_plan.proofs.Standing.{retain-alone}
 use Rattle.sn_plan.specs.declared.draft.NewPut.{NewPut}
+use Rattle.sn_plan.specs.declared.draft.Posted.{Posted}
 use Rattle.sn_plan.specs.declared.plan.Plan.{Plan}
 use Rattle.sn_plan.specs.Drafts.{Drafted}
 use Rattle.sn_plan.specs.Flush.{IsFlush, stamp_of}
-use Rattle.sn_plan.specs.Numbering.{Written, another, taken_at, taken, counted, write, written, own_counter, epoch_of, start_of, put_at_seq, with_puts, ack_of}
+use Rattle.sn_plan.specs.Numbering.{Written, another, taken_at, taken, counted, write, written, own_counter, epoch_of, start_of, put_at_seq, with_puts, handed_to, handed_at_seq, with_handed, retain_at_clock, with_retain, ack_of}
 use Rattle.sn_plan.specs.Own.{IsFresh, AreFresh}
 use Rattle.sn_local.specs.Seen.{seen_of}
 use Rattle.sn_plan.specs.Plans.{plan_of}
 use Rattle.sn_local.proofs.Entries.{same_client-itself, at_own}
 use Rattle.sn_plan.proofs.Lists.{and_then-some, map-some, all-append, all-weaken, all-given}
 use Rattle.row_laws.proofs.Names.{IsWritten, start-written}
-use Rattle.row_laws.proofs.Planned.{IsNumbered, puts-behind, Parts, planned-parts}
+use Rattle.row_laws.proofs.Planned.{IsNumbered, Parts, planned-parts, parts-more}
 use Rattle.sn_exchange.specs.Exchanges.{same_name}
 use Rattle.plan_laws.proofs.Sessions.{Fine, IsChange, fine-from, fine-to, applied-fine}
 use Rattle.plan_laws.proofs.Kept.{visible-made, seen-fine}
-use Rattle.plan_laws.proofs.Sound.{IsNamed, AreOnce, IsMessage, Sound}
+use Rattle.plan_laws.proofs.Sound.{IsNamed, AreOnce, IsMessage, IsPosted, Sound}
 
 -- ---- session operations
 
@@ -138,8 +140,9 @@ module _ (c : List ℕ) (g : ℕ) (numbered : nat_le 1 g ≡ true) where
 
   put-made : (p : NewPut) (n : ℕ) → IsMessage p → nat_le 1 n ≡ true → IsTrue (is_well_made (put_at_seq g p n))
   put-made p n h e =
+      and_from (nat_le 1 g && nat_le 1 n && nat_le p.qos 2 && nat_le (length p.body) 4096) true
       (and_from (nat_le 1 g && nat_le 1 n && nat_le p.qos 2) (nat_le (length p.body) 4096)
-      (and_from (nat_le 1 g && nat_le 1 n) (nat_le p.qos 2) (and_from (nat_le 1 g) (nat_le 1 n) numbered e) h.0) h.1)
+      (and_from (nat_le 1 g && nat_le 1 n) (nat_le p.qos 2) (and_from (nat_le 1 g) (nat_le 1 n) numbered e) h.0) h.1) refl
 
   puts-made : (seq : List ℕ → Option ℕ) → ((e : List ℕ) → IsNext (seq e)) → (puts : List NewPut) (before after : List Op) → AllByRecursion IsMessage puts → AreWellMade before
       → with_puts g seq puts before ≡ Some after → AreWellMade after
@@ -148,6 +151,27 @@ module _ (c : List ℕ) (g : ℕ) (numbered : nat_le 1 g ≡ true) where
       let m = and_then-some (λ n. with_puts g seq rest (before ++ put_at_seq g p n ∷ [])) (seq p.client) after e in
       puts-made seq each rest (before ++ put_at_seq g p m.0 ∷ []) after all.1
       (all-append (λ op. IsTrue (is_well_made op)) before _ made (put-made p m.0 all.0 (some-next (seq p.client) m.0 (each p.client) m.1), tt)) m.2
+
+  handed-made : (handed : List Posted) (next : Option ℕ) → IsNext next → (before after : List Op) → AllByRecursion IsPosted handed → AreWellMade before
+      → with_handed g c next handed before ≡ Some after → AreWellMade after
+  handed-made [] next n before after all made e = subst AreWellMade (same_Some before after e) made
+  handed-made (p ∷ rest) None n before after all made e = absurd (none-some after e)
+  handed-made (p ∷ rest) (Some m) n before after all made e =
+      handed-made rest (one_more m) (next-one m) (before ++ handed_at_seq g c p m ∷ []) after all.1
+      (all-append (λ op. IsTrue (is_well_made op)) before _ made (put-made (handed_to c p) m all.0 n, tt)) e
+
+  kept-made : (p : Posted) (n : ℕ) → IsPosted p → nat_le 1 n ≡ true → IsTrue (is_well_made (retain_at_clock g p n))
+  kept-made p n h e =
+      and_from (nat_le 1 n && nat_le 1 g && nat_le p.qos 2) (nat_le (length p.body) 4096)
+      (and_from (nat_le 1 n && nat_le 1 g) (nat_le p.qos 2) (and_from (nat_le 1 n) (nat_le 1 g) e numbered) h.0) h.1
+
+  retain-made : (clock : List ℕ → Option ℕ) → ((t : List ℕ) → IsNext (clock t)) → (retain : Option Posted) (before after : List Op) → IfSome retain IsPosted → AreWellMade before
+      → with_retain g clock retain before ≡ Some after → AreWellMade after
+  retain-made clock each None before after h made e = subst AreWellMade (same_Some before after e) made
+  retain-made clock each (Some p) before after h made e =
+      let m = map-some (λ n. before ++ retain_at_clock g p n ∷ []) (clock p.topic) after e in
+      subst AreWellMade m.2
+      (all-append (λ op. IsTrue (is_well_made op)) before _ made (kept-made p m.0 h (some-next (clock p.topic) m.0 (each p.topic) m.1), tt))
 
 -- ---- no two of one name
 
@@ -178,6 +202,7 @@ abbrev IsNoAck : Op → Type 0
 IsNoAck (OfSession c stamp counter change) = Unit {0}
 IsNoAck (OfPut c put) = Unit {0}
 IsNoAck (Ack c origin first last) = ⊥
+IsNoAck (OfRetain topic kept) = Unit {0}
 
 none_of : {X : Type 0} (a b : Option X) → or_else a b ≡ None → (a ≡ None) × (b ≡ None)
 none_of None b e = (refl, e)
@@ -187,6 +212,7 @@ fresh-before : (S more : List Op) (op : Op) → IsFresh (S ++ more) op → IsFre
 fresh-before S more (OfSession c s i o) h = (none_of (operation_at c S (s, i)) (operation_at c more (s, i)) (sym (operation_at_both c S more (s, i)) ∙ h)).0
 fresh-before S more (OfPut c p) h = (none_of (put_at c S (p.seq, p.origin)) (put_at c more (p.seq, p.origin)) (sym (put_at_both c S more (p.seq, p.origin)) ∙ h)).0
 fresh-before S more (Ack c origin first last) h = tt
+fresh-before S more (OfRetain t k) h = (none_of (retain_at t S (clock_of k)) (retain_at t more (clock_of k)) (sym (retain_at_both t S more (clock_of k)) ∙ h)).0
 
 fresh-all : (S ops : List Op) → AreFresh S ops → AllByRecursion (IsFresh S) ops
 fresh-all S [] h = tt
@@ -207,12 +233,21 @@ fresh-apart S (OfSession c s i o) (OfSession d t j p) h n e =
     some_none (operation_at c (OfSession c s i o ∷ []) (s, i)) o (at_own c [] s i o refl) (moved ∙ free)
 fresh-apart S (OfSession c s i o) (OfPut d q) h n e = e
 fresh-apart S (OfSession c s i o) (Ack d r f l) h n e = e
+fresh-apart S (OfSession c s i o) (OfRetain t k) h n e = e
 fresh-apart S (OfPut c p) (OfSession d t j o) h n e = e
 fresh-apart S (OfPut c p) (OfPut d q) h n e =
     let free : put_at d (OfPut c p ∷ []) (q.seq, q.origin) ≡ None = (none_of (put_at d S (q.seq, q.origin)) (put_at d (OfPut c p ∷ []) (q.seq, q.origin)) (sym (put_at_both d S (OfPut c p ∷ []) (q.seq, q.origin)) ∙ h)).1 in
     let moved : put_at c (OfPut c p ∷ []) (p.seq, p.origin) ≡ put_at d (OfPut c p ∷ []) (q.seq, q.origin) = λ k. put_at (e.0 k) (OfPut c p ∷ []) (e.2 k, e.1 k) in
     some_none (put_at c (OfPut c p ∷ []) (p.seq, p.origin)) p (put-alone c p) (moved ∙ free)
 fresh-apart S (OfPut c p) (Ack d r f l) h n e = e
+fresh-apart S (OfPut c p) (OfRetain t k) h n e = e
+fresh-apart S (OfRetain t k) (OfSession d u j o) h n e = e
+fresh-apart S (OfRetain t k) (OfPut d q) h n e = e
+fresh-apart S (OfRetain t k) (Ack d r f l) h n e = e
+fresh-apart S (OfRetain t k) (OfRetain u l) h n e =
+    let free : retain_at u (OfRetain t k ∷ []) (clock_of l) ≡ None = (none_of (retain_at u S (clock_of l)) (retain_at u (OfRetain t k ∷ []) (clock_of l)) (sym (retain_at_both u S (OfRetain t k ∷ []) (clock_of l)) ∙ h)).1 in
+    let moved : retain_at t (OfRetain t k ∷ []) (clock_of k) ≡ retain_at u (OfRetain t k ∷ []) (clock_of l) = λ i. retain_at (e.0 i) (OfRetain t k ∷ []) (e.1 i, e.2 i) in
+    some_none (retain_at t (OfRetain t k ∷ []) (clock_of k)) k (retain-alone t k) (moved ∙ free)
 fresh-apart S (Ack c r f l) b h n e = absurd n
 
 -- but for acknowledgements, which are not written under fresh names
@@ -224,6 +259,7 @@ if-fresh : (S : List Op) (a b : Op) → IsFresh (S ++ a ∷ []) b → ApartIfFre
 if-fresh S (OfSession c s i o) b h = fresh-apart S (OfSession c s i o) b h tt
 if-fresh S (OfPut c p) b h = fresh-apart S (OfPut c p) b h tt
 if-fresh S (Ack c r f l) b h = tt
+if-fresh S (OfRetain t k) b h = fresh-apart S (OfRetain t k) b h tt
 
 fresh-pairs : (S ops : List Op) → AreFresh S ops → Pairwise ApartIfFresh ops
 fresh-pairs S [] h = tt
@@ -239,12 +275,15 @@ no-ack-first : (a b : Op) → IsNoAck a → ApartIfAck a b
 no-ack-first (OfSession c s i o) b n = tt
 no-ack-first (OfPut c p) b n = tt
 no-ack-first (Ack c r f l) b n = absurd n
+no-ack-first (OfRetain t k) b n = tt
 
 no-ack-second : (a b : Op) → IsNoAck b → ApartIfAck a b
 no-ack-second (OfSession c s i o) b n = tt
 no-ack-second (OfPut c p) b n = tt
+no-ack-second (OfRetain t k) b n = tt
 no-ack-second (Ack c r f l) (OfSession d t j o) n = λ e. e
 no-ack-second (Ack c r f l) (OfPut d q) n = λ e. e
+no-ack-second (Ack c r f l) (OfRetain t k) n = λ e. e
 no-ack-second (Ack c r f l) (Ack d s g m) n = absurd n
 
 no-ack-pairs : (ops : List Op) → AllByRecursion IsNoAck ops → Pairwise ApartIfAck ops
@@ -270,6 +309,7 @@ both-apart : (a b : Op) → ApartIfFresh a b → ApartIfAck a b → Apart a b
 both-apart (OfSession c s i o) b h k = h
 both-apart (OfPut c p) b h k = h
 both-apart (Ack c r f l) b h k = k
+both-apart (OfRetain t k) b h m = h
 
 -- ---- the plan
 
@@ -277,16 +317,18 @@ written-no-ack : (g : ℕ) (c : List ℕ) (op : Op) → IsWritten g c op → IsN
 written-no-ack g c (OfSession d s i o) h = tt
 written-no-ack g c (OfPut d p) h = absurd h
 written-no-ack g c (Ack d r f l) h = absurd h
+written-no-ack g c (OfRetain topic kept) h = absurd h
 
-numbered-no-ack : (g : ℕ) (seq : List ℕ → Option ℕ) (op : Op) → IsNumbered g seq op → IsNoAck op
-numbered-no-ack g seq (OfSession d s i o) h = absurd h
-numbered-no-ack g seq (OfPut d p) h = tt
-numbered-no-ack g seq (Ack d r f l) h = absurd h
+numbered-no-ack : (g : ℕ) (seq clock : List ℕ → Option ℕ) (op : Op) → IsNumbered g seq clock op → IsNoAck op
+numbered-no-ack g seq clock (OfSession d s i o) h = absurd h
+numbered-no-ack g seq clock (OfPut d p) h = tt
+numbered-no-ack g seq clock (Ack d r f l) h = absurd h
+numbered-no-ack g seq clock (OfRetain topic kept) h = tt
 
 module _ (g : ℕ) (c : List ℕ) (S : List Op) (d : Drafted) (plan : Plan) (planned : plan_of g c (seen_of S) d ≡ Some plan)
     (numbered : 1 ≤ g) (flush : IsFlush g c S) (made : AreWellMade S) (sound : Sound d) where
-  cut : Parts g c (view c S) (next_epoch c S) (λ e. next_seq e g S) d plan.ops
-  cut = planned-parts g c (view c S) (next_epoch c S) (λ e. next_seq e g S) d plan planned
+  cut : Parts g c (view c S) (next_epoch c S) (λ e. next_seq e g S) (λ t. next_clock t S) d plan.ops
+  cut = planned-parts g c (view c S) (next_epoch c S) (λ e. next_seq e g S) (λ t. next_clock t S) d plan planned
 
   abbrev acks : List Op
   acks = map (ack_of c) d.acks
@@ -321,14 +363,16 @@ module _ (g : ℕ) (c : List ℕ) (S : List Op) (d : Drafted) (plan : Plan) (pla
 
   pub plan-made : AreWellMade plan.ops
   plan-made =
-      puts-made c g (le-leb 1 g numbered) (λ e. next_seq e g S) (λ e. next-one (largest (seq_of e g) S)) d.puts (cut.w.ops ++ acks) plan.ops sound.puts
-      (all-append (λ op. IsTrue (is_well_made op)) cut.w.ops acks ready.ops (acks-made c g (le-leb 1 g numbered) d.acks sound.acks)) cut.is_numbered
+      puts-made c g (le-leb 1 g numbered) (λ e. next_seq e g S) (λ e. next-one (largest (seq_of e g) S)) d.puts cut.kept plan.ops sound.puts
+      (retain-made c g (le-leb 1 g numbered) (λ t. next_clock t S) (λ t. next-one (largest (clock_in t) S)) d.retain cut.handed cut.kept sound.retain
+      (handed-made c g (le-leb 1 g numbered) d.handed (next_seq c g S) (next-one (largest (seq_of c g) S)) (cut.w.ops ++ acks) cut.handed sound.handed
+      (all-append (λ op. IsTrue (is_well_made op)) cut.w.ops acks ready.ops (acks-made c g (le-leb 1 g numbered) d.acks sound.acks)) cut.is_handed) cut.is_kept) cut.is_numbered
 
   ack-pairs : Pairwise ApartIfAck plan.ops
   ack-pairs =
-      let b = puts-behind g (λ e. next_seq e g S) d.puts (cut.w.ops ++ acks) plan.ops cut.is_numbered in
+      let b = parts-more g c (view c S) (next_epoch c S) (λ e. next_seq e g S) (λ t. next_clock t S) d plan.ops cut in
       let written : AllByRecursion IsNoAck cut.w.ops = all-weaken (IsWritten g c) IsNoAck (written-no-ack g c) cut.w.ops (start-written g c (view c S) (next_epoch c S) d.changes cut.w cut.is_written) in
-      let more : AllByRecursion IsNoAck b.0 = all-weaken (IsNumbered g (λ e. next_seq e g S)) IsNoAck (numbered-no-ack g (λ e. next_seq e g S)) b.0 b.2 in
+      let more : AllByRecursion IsNoAck b.0 = all-weaken (IsNumbered g (λ e. next_seq e g S) (λ t. next_clock t S)) IsNoAck (numbered-no-ack g (λ e. next_seq e g S) (λ t. next_clock t S)) b.0 b.2 in
       subst (Pairwise ApartIfAck) (sym b.1)
       (pair-append ApartIfAck (cut.w.ops ++ acks) b.0
       (pair-append ApartIfAck cut.w.ops acks (no-ack-pairs cut.w.ops written) (acks-pairs c d.acks sound.once)

@@ -269,14 +269,14 @@ module _ (c : List ℕ) (name : ℕ × ℕ) where
       in-changed old (Before old (Restart number kept) (Records count)) inl h.0 (restarted kept h.1) []
       (restart-explained old (Before old (Restart number kept) (Records count)) inl h.0 h.1 h.2.1 kept)
       (subst (λ (f : Field). IsAcknowledgedIn f c name) h.4 e)
-  after-acked old (Show number) (Views views) new h e = inl (subst (λ (f : Field). IsAcknowledgedIn f c name) h.4 e)
-  after-acked old (Frame number from bytes now) (Views views) new h e = absurd h
-  after-acked old (Tick number now) (Views views) new h e = absurd h
-  after-acked old (Take number delta) (Views views) new h e = absurd h
-  after-acked old (Asks number peer) (Views views) new h e = absurd h
-  after-acked old (Compact number) (Views views) new h e = absurd h
-  after-acked old (WriteFails number bytes sync) (Views views) new h e = absurd h
-  after-acked old (Restart number kept) (Views views) new h e = absurd h
+  after-acked old (Show number) (Views views topics) new h e = inl (subst (λ (f : Field). IsAcknowledgedIn f c name) h.4 e)
+  after-acked old (Frame number from bytes now) (Views views topics) new h e = absurd h
+  after-acked old (Tick number now) (Views views topics) new h e = absurd h
+  after-acked old (Take number delta) (Views views topics) new h e = absurd h
+  after-acked old (Asks number peer) (Views views topics) new h e = absurd h
+  after-acked old (Compact number) (Views views topics) new h e = absurd h
+  after-acked old (WriteFails number bytes sync) (Views views topics) new h e = absurd h
+  after-acked old (Restart number kept) (Views views topics) new h e = absurd h
   after-acked old (Frame number from bytes now) (Records count) new h e = absurd h
   after-acked old (Tick number now) (Records count) new h e = absurd h
   after-acked old (Take number delta) (Records count) new h e = absurd h

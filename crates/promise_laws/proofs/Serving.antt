@@ -1,9 +1,10 @@
 -- A message of a step's plan stands in the delta that the step makes, and waits.
-use Rattle.std.proofs.Common.{◌≡◌, ℕ, Bool, true, false, cond, not, ◌⊎◌, List, [], ◌∷◌, ◌++◌, Option, Some, None, Contains, refl, sym, ap, ◌∙◌, subst, inl, inr}
+use Rattle.std.proofs.Common.{◌≡◌, ℕ, Bool, true, false, cond, not, if◌then◌else◌, ◌⊎◌, List, [], ◌∷◌, ◌++◌, Option, Some, None, Contains, refl, sym, ap, ◌∙◌, subst, inl, inr}
+use Rattle.std.specs.List.{cons_option}
 use Rattle.std.proofs.lemmas.Option.{none-some}
 use Rattle.std.proofs.lemmas.List.Elements.{All-from_recursion, All-contains, Contains-append_left, Contains-append_right, Contains-append_cases, Contains-push, Contains-push_cases}
 use Rattle.rep_op.specs.declared.op.Op.{Op}
-use Rattle.rep_op.specs.declared.op.Op.TheVariants.{Session as OfSession, Put as OfPut, Ack}
+use Rattle.rep_op.specs.declared.op.Op.TheVariants.{Session as OfSession, Put as OfPut, Ack, Retain as OfRetain}
 use Rattle.rep_op.specs.declared.op.Put.{Put}
 use Rattle.rep_op.specs.Sets.{put_at, is_acknowledged, Same}
 use Rattle.rep_ops.specs.Making.{IsDeltaOf}
@@ -17,7 +18,7 @@ use Rattle.sn_local.specs.Seen.{seen_of}
 use Rattle.sn_plan.specs.declared.draft.NewPut.{NewPut}
 use Rattle.sn_plan.specs.declared.plan.Plan.{Plan}
 use Rattle.sn_plan.specs.Flush.{AreFlush}
-use Rattle.sn_plan.specs.Own.{IsOwn, IsOfDraft, messages}
+use Rattle.sn_plan.specs.Own.{IsOwn, IsOfDraft, unnamed, messages}
 use Rattle.row_laws.proofs.Known.{same-behind}
 use Rattle.row_laws.proofs.Names.{plan-own}
 use Rattle.row_laws.proofs.Stepping.{step-new_put}
@@ -59,13 +60,18 @@ has-more op ops p h = record { message = h.message; among = behind_there op (OfP
 pub message-there : (ops : List Op) (p : NewPut) → Contains (messages ops) p → HasMessage ops p
 message-there [] p h = absurd (none-there p h)
 message-there (OfSession c stamp counter change ∷ ops) p h = has-more (OfSession c stamp counter change) ops p (message-there ops p h)
+message-there (OfRetain t k ∷ ops) p h = has-more (OfRetain t k) ops p (message-there ops p h)
 message-there (Ack c origin first last ∷ ops) p h = has-more (Ack c origin first last) ops p (message-there ops p h)
 message-there (OfPut c x ∷ ops) p h =
-    let m : NewPut = record { client = c; topic = x.topic; qos = x.qos; body = x.body } in
-    elim (head_or m p (messages ops) h) [
-      | inl same ↦ subst (HasMessage (OfPut c x ∷ ops)) same (record { message = x; among = head_there (OfPut c x) ops; says = (refl, refl, refl) })
-      | inr more ↦ has-more (OfPut c x) ops p (message-there ops p more)
-    ]
+    let m : NewPut = unnamed c x in
+    elim x.retain as (λ b. Contains (cons_option (if b then None else Some m) (messages ops)) p → HasMessage (OfPut c x ∷ ops) p) [
+      | true ↦ λ there. has-more (OfPut c x) ops p (message-there ops p there)
+      | false ↦ λ there.
+          elim (head_or m p (messages ops) there) [
+            | inl same ↦ subst (HasMessage (OfPut c x ∷ ops)) same (record { message = x; among = head_there (OfPut c x) ops; says = (refl, refl, refl) })
+            | inr more ↦ has-more (OfPut c x) ops p (message-there ops p more)
+          ]
+    ] h
 
 -- ---- a message of a plan
 

@@ -25,7 +25,7 @@ use Rattle.promise_laws.proofs.Serving.{IsPut}
 -- a set stands in itself, and in itself with what was refused
 within-back : (b : Bool) (S refused : List Op) → Within S (with_refused b S refused)
 within-back true S refused = within-left S refused
-within-back false S refused = record { operations_in = λ c n x e. e; puts_in = λ c n x e. e; acknowledgements_in = λ c n e. e }
+within-back false S refused = record { operations_in = λ c n x e. e; puts_in = λ c n x e. e; acknowledgements_in = λ c n e. e; retains_in = λ t n k e. e }
 
 module _ (c : List ℕ) (m : Put) where
   abbrev name : ℕ × ℕ

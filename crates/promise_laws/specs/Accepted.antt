@@ -61,8 +61,7 @@ IsKeptFrom field i delta c put =
     → Run field more replies new → slice_get new.gateways j ≡ Some gateway
     → HasCome i j delta gateway → IsWithGateway c put gateway
 
--- In a run the event comes to a gateway, that in place i, and it answers: the field before, and
--- after.
+-- In a run the event comes to the gateway in place i, and it answers: the field before, and after.
 pub record HasAnswered (configs : List Config) (event : Event) (out : Out) (old new : Field) (i : ℕ)
     (gateway : Gateway) : Type 0 where
   pub events : List Event

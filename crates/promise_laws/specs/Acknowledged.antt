@@ -80,8 +80,7 @@ pub record Acknowledges (field : Field) (event : Event) (answer : Answer) (c : L
   pub cause : HasCause gateway occasion moment plan.sends c name
   pub ends : IsAnsweredWith answer occasion plan.sends
 
--- In a run from the field `start` the event after the first k is a step that acknowledges the
--- message.
+-- In a run from `start` the event after the first k is a step that acknowledges the message.
 pub record IsWrittenBy (start : Field) (events : List Event) (answers : List Answer) (c : List ℕ)
     (name : ℕ × ℕ) : Type 0 where
   pub k : ℕ

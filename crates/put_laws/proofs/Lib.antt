@@ -3,3 +3,5 @@ pub mod Recipients
 pub mod Putting
 pub mod Waiting
 pub mod Saying
+pub mod Retaining
+pub mod Handing

@@ -19,12 +19,15 @@ use Rattle.sn_plan.specs.declared.draft.NewPut.{NewPut}
 use Rattle.sn_plan.specs.declared.plan.Plan.{Plan}
 use Rattle.sn_plan.specs.declared.row.Follow.TheVariants as follows
 use Rattle.sn_plan.specs.declared.row.Row.{Row}
+use Rattle.sn_plan.specs.Asking.{retain_asked}
 use Rattle.sn_plan.specs.Bound.{session_of}
 use Rattle.sn_plan.specs.Drafts.{Drafted}
 use Rattle.sn_plan.specs.Numbering.{planned}
 use Rattle.sn_plan.specs.Own.{IsOneEach, IsOfDraft, messages}
+use Rattle.sn_plan.specs.Others.{other}
 use Rattle.sn_plan.specs.Plans.{plan_without}
 use Rattle.sn_plan.specs.Rows.{plan_for, row_of}
+use Rattle.sn_plan.proofs.Made.{no_puts, for_nobody}
 use Rattle.sn_publish.specs.declared.meaning.Meant.{Meant}
 use Rattle.sn_publish.specs.declared.meaning.Meant.TheVariants.{Topic, Refused}
 use Rattle.sn_publish.specs.Publishing.{publication_meant, publish_meant, spread_meant}
@@ -36,9 +39,9 @@ use Rattle.sn_tick.specs.declared.due.Due.{Due}
 use Rattle.sn_tick.specs.declared.due.Due.TheVariants.{Loss, Retry, Delivery}
 use Rattle.sn_tick.specs.Due.{first_due}
 use Rattle.sn_tick.specs.Ticking.{cleaned, may_advertise, advertised, will_puts, lost, retried, plan_due, plan_if_due, tick}
-use Rattle.row_laws.proofs.Drafting.{connect-puts, disconnect-puts, will_topic-puts, will_msg-puts, will_topic_update-puts, will_msg_update-puts, register-puts, subscribe-puts, unsubscribe-puts, other-puts}
+use Rattle.row_laws.proofs.Drafting.{connect-made, disconnect-made, will_topic-made, will_msg-made, will_topic_update-made, will_msg_update-made, register-made, subscribe-puts, unsubscribe-made, other-made}
 use Rattle.row_laws.proofs.Waiting.{plan-messages}
-use Rattle.step_laws.proofs.Drafting.{followed_for_puts, pubrel_of_puts, ack_of_puts, wake_puts, cleaned_puts, step-drafted, tick-drafted}
+use Rattle.step_laws.proofs.Drafting.{followed_for_puts, pubrel_of_made, ack_of_made, wake_made, cleaned_made, step-drafted, tick-drafted}
 use Rattle.put_laws.specs.Puts.{puts_meant, puts_at, puts_bound, puts_by_level, puts_of, puts_lost, puts_due, puts_by_tick, IsOfGateway}
 
 -- ---- the row of a PUBLISH
@@ -53,8 +56,8 @@ choose_new true b x y z puts h k l = h
 choose_new false true x y z puts h k l = k
 choose_new false false x y z puts h k l = l
 
-module _ (seen : Seen) (a : Addr) (s : Session) (topic msg_id : ℕ) (body : List ℕ) where
-  publish-puts : (qos : Qos) (meant : Meant) → (publish_meant seen a s topic msg_id body qos meant).puts ≡ puts_at seen s msg_id body qos meant
+module _ (seen : Seen) (asked : Bool) (a : Addr) (s : Session) (topic msg_id : ℕ) (body : List ℕ) where
+  publish-puts : (qos : Qos) (meant : Meant) → (publish_meant seen asked a s topic msg_id body qos meant).puts ≡ puts_at seen s msg_id body qos meant
   publish-puts levels.Zero (Refused code) = refl
   publish-puts levels.One (Refused code) = refl
   publish-puts levels.Two (Refused code) = none_either (is_received msg_id s.received || id_has_no_room msg_id s.received) []
@@ -64,17 +67,17 @@ module _ (seen : Seen) (a : Addr) (s : Session) (topic msg_id : ℕ) (body : Lis
   publish-puts levels.Two (Topic name) = choose_new (is_received msg_id s.received) (id_has_no_room msg_id s.received) _ _ _ (puts_for seen name 2 body) refl refl refl
   publish-puts levels.MinusOne (Topic name) = refl
 
-spread-puts : (seen : Seen) (body : List ℕ) (meant : Meant) → (spread_meant seen body meant).puts ≡ puts_meant seen 0 body meant
-spread-puts seen body (Refused code) = refl
-spread-puts seen body (Topic name) = refl
+spread-puts : (seen : Seen) (asked : Bool) (body : List ℕ) (meant : Meant) → (spread_meant seen asked body meant).puts ≡ puts_meant seen 0 body meant
+spread-puts seen asked body (Refused code) = refl
+spread-puts seen asked body (Topic name) = refl
 
 module _ (predefined : Entries) (seen : Seen) (local : Local) (a : Addr) (bits topic msg_id : ℕ) (body : List ℕ) (now : ℕ) where
   bound-puts : (bound : Option (List ℕ)) → (publish_of predefined seen a bound bits topic msg_id body now).draft.puts ≡ puts_bound predefined seen bound bits topic msg_id body
   bound-puts None = refl
-  bound-puts (Some c) = publish-puts seen a (session_of seen c) topic msg_id body (qos_of bits) (publication_meant predefined (session_of seen c) bits topic body)
+  bound-puts (Some c) = publish-puts seen (retain_asked bits) a (session_of seen c) topic msg_id body (qos_of bits) (publication_meant predefined (session_of seen c) bits topic body)
 
   level-puts : (qos : Qos) → (publish_in_at predefined seen local a bits topic msg_id body now qos).draft.puts ≡ puts_by_level predefined seen (client_at a local.bindings) bits topic msg_id body qos
-  level-puts levels.MinusOne = spread-puts seen body (publication_meant predefined empty_session bits topic body)
+  level-puts levels.MinusOne = spread-puts seen (retain_asked bits) body (publication_meant predefined empty_session bits topic body)
   level-puts levels.Zero = bound-puts (client_at a local.bindings)
   level-puts levels.One = bound-puts (client_at a local.bindings)
   level-puts levels.Two = bound-puts (client_at a local.bindings)
@@ -82,30 +85,30 @@ module _ (predefined : Entries) (seen : Seen) (local : Local) (a : Addr) (bits t
 -- ---- every row
 
 pub row-puts : (g : ℕ) (predefined : Entries) (seen : Seen) (local : Local) (a : Addr) (frame : Frame) (now : ℕ) → (row_for g predefined seen local a frame now).draft.puts ≡ puts_of predefined seen local a frame
-row-puts g predefined seen local a (frames.Connect flags protocol duration client) now = connect-puts seen local a flags.bits protocol duration client now
-row-puts g predefined seen local a (frames.WillTopic will) now = will_topic-puts seen a now local will
-row-puts g predefined seen local a (frames.WillMsg message) now = will_msg-puts seen a now local message
-row-puts g predefined seen local a (frames.Disconnect duration) now = disconnect-puts seen local a duration now
-row-puts g predefined seen local a (frames.Register topic_id msg_id name) now = register-puts seen a now local msg_id name
+row-puts g predefined seen local a (frames.Connect flags protocol duration client) now = no_puts (row_for g predefined seen local a (frames.Connect flags protocol duration client) now).draft (connect-made seen local a flags.bits protocol duration client now)
+row-puts g predefined seen local a (frames.WillTopic will) now = no_puts (row_for g predefined seen local a (frames.WillTopic will) now).draft (will_topic-made seen a now local will)
+row-puts g predefined seen local a (frames.WillMsg message) now = no_puts (row_for g predefined seen local a (frames.WillMsg message) now).draft (will_msg-made seen a now local message)
+row-puts g predefined seen local a (frames.Disconnect duration) now = no_puts (row_for g predefined seen local a (frames.Disconnect duration) now).draft (disconnect-made seen local a duration now)
+row-puts g predefined seen local a (frames.Register topic_id msg_id name) now = no_puts (row_for g predefined seen local a (frames.Register topic_id msg_id name) now).draft (register-made seen a now local msg_id name)
 row-puts g predefined seen local a (frames.Subscribe flags msg_id topic) now = subscribe-puts seen a now predefined local flags.bits msg_id topic
-row-puts g predefined seen local a (frames.Unsubscribe flags msg_id topic) now = unsubscribe-puts seen a now predefined local flags.bits msg_id topic
-row-puts g predefined seen local a (frames.WillTopicUpd will) now = will_topic_update-puts local a will now
-row-puts g predefined seen local a (frames.WillMsgUpd message) now = will_msg_update-puts seen a now local message
+row-puts g predefined seen local a (frames.Unsubscribe flags msg_id topic) now = no_puts (row_for g predefined seen local a (frames.Unsubscribe flags msg_id topic) now).draft (unsubscribe-made seen a now predefined local flags.bits msg_id topic)
+row-puts g predefined seen local a (frames.WillTopicUpd will) now = no_puts (row_for g predefined seen local a (frames.WillTopicUpd will) now).draft (will_topic_update-made local a will now)
+row-puts g predefined seen local a (frames.WillMsgUpd message) now = no_puts (row_for g predefined seen local a (frames.WillMsgUpd message) now).draft (will_msg_update-made seen a now local message)
 row-puts g predefined seen local a (frames.Publish flags topic msg_id body) now = level-puts predefined seen local a flags.bits topic msg_id body now (qos_of flags.bits)
-row-puts g predefined seen local a (frames.PubRel msg_id) now = pubrel_of_puts seen a (client_at a local.bindings) msg_id now
-row-puts g predefined seen local a (frames.PubAck topic_id msg_id code) now = ack_of_puts predefined seen a (client_at a local.bindings) (frames.PubAck topic_id msg_id code) now
-row-puts g predefined seen local a (frames.PubRec msg_id) now = ack_of_puts predefined seen a (client_at a local.bindings) (frames.PubRec msg_id) now
-row-puts g predefined seen local a (frames.PubComp msg_id) now = ack_of_puts predefined seen a (client_at a local.bindings) (frames.PubComp msg_id) now
-row-puts g predefined seen local a (frames.RegAck topic_id msg_id code) now = ack_of_puts predefined seen a (client_at a local.bindings) (frames.RegAck topic_id msg_id code) now
-row-puts g predefined seen local a (frames.PingReq client) now = wake_puts g seen local a client now
-row-puts g predefined seen local a frame now = other-puts g local a frame now
+row-puts g predefined seen local a (frames.PubRel msg_id) now = no_puts (row_for g predefined seen local a (frames.PubRel msg_id) now).draft (pubrel_of_made seen a (client_at a local.bindings) msg_id now)
+row-puts g predefined seen local a (frames.PubAck topic_id msg_id code) now = no_puts (row_for g predefined seen local a (frames.PubAck topic_id msg_id code) now).draft (ack_of_made predefined seen a (client_at a local.bindings) (frames.PubAck topic_id msg_id code) now)
+row-puts g predefined seen local a (frames.PubRec msg_id) now = no_puts (row_for g predefined seen local a (frames.PubRec msg_id) now).draft (ack_of_made predefined seen a (client_at a local.bindings) (frames.PubRec msg_id) now)
+row-puts g predefined seen local a (frames.PubComp msg_id) now = no_puts (row_for g predefined seen local a (frames.PubComp msg_id) now).draft (ack_of_made predefined seen a (client_at a local.bindings) (frames.PubComp msg_id) now)
+row-puts g predefined seen local a (frames.RegAck topic_id msg_id code) now = no_puts (row_for g predefined seen local a (frames.RegAck topic_id msg_id code) now).draft (ack_of_made predefined seen a (client_at a local.bindings) (frames.RegAck topic_id msg_id code) now)
+row-puts g predefined seen local a (frames.PingReq client) now = no_puts (row_for g predefined seen local a (frames.PingReq client) now).draft (wake_made g seen local a client now)
+row-puts g predefined seen local a frame now = no_puts (other g local a frame now).draft (other-made g local a frame now)
 
 -- ---- what a plan makes
 
 module _ (g : ℕ) (seen : Seen) where
   for-messages : (d : Drafted) (client : Option (List ℕ)) (plan : Plan) → plan_for g seen d client ≡ Some plan → messages plan.ops ≡ d.puts
   unfolding planned
-  for-messages d None plan is = plan-messages g [] seen (record { changes = []; acks = []; puts = d.puts; sends = d.sends; local = d.local }) plan is
+  for-messages d None plan is = plan-messages g [] seen (for_nobody d) plan is
   for-messages d (Some c) plan is = plan-messages g c seen d plan is
 
   next-messages : (predefined : Entries) (a : Addr) (now : ℕ) (row : Row) (plan : Plan) → deliver_next g predefined seen a now row ≡ Some plan → messages plan.ops ≡ row.draft.puts
@@ -143,7 +146,7 @@ pub tick-messages : (g advertise : ℕ) (field : List Addr) (predefined : Entrie
     → tick g advertise field predefined seen local now ≡ Some plan → messages plan.ops ≡ puts_by_tick g advertise field seen local now
 tick-messages g advertise field predefined seen local now plan is =
     let d : Drafted = cleaned g seen local now in
-    either-messages g predefined seen now plan d (cleaned_puts g seen local now) (may_advertise advertise field now local.advertised)
+    either-messages g predefined seen now plan d (no_puts d (cleaned_made g seen local now)) (may_advertise advertise field now local.advertised)
     (advertised g advertise field now d) (first_due g seen local now seen.all) is
 
 -- ---- every message that is made waits
@@ -155,4 +158,4 @@ of-draft g S plan (inr (advertise, field, predefined, local, now, is)) = tick-dr
 pub gateway-once : (g : ℕ) (S : List Op) (plan : Plan) → IsOfGateway g S plan → IsOneEach (messages plan.ops)
 gateway-once g S plan is =
     let h = of-draft g S plan is in
-    subst IsOneEach (sym (plan-messages g h.client (seen_of S) h.draft plan h.is)) h.one_each
+    subst IsOneEach (sym (plan-messages g h.client (seen_of S) h.draft plan h.is)) h.apart.one_each

@@ -9,13 +9,13 @@ use Rattle.sn_publish.specs.Recipients.{qos_for, message_for, puts_among, puts_f
 use Rattle.cause_laws.proofs.Acked.{none-there}
 use Rattle.put_laws.specs.Puts.{IsAmong}
 
-head_there : {X : Type 0} (x : X) (xs : List X) → Contains (x ∷ xs) x
+pub head_there : {X : Type 0} (x : X) (xs : List X) → Contains (x ∷ xs) x
 head_there x xs = Contains-append_left (x ∷ []) xs x (Contains-push [] x)
 
-behind_there : {X : Type 0} (y x : X) (xs : List X) → Contains xs x → Contains (y ∷ xs) x
+pub behind_there : {X : Type 0} (y x : X) (xs : List X) → Contains xs x → Contains (y ∷ xs) x
 behind_there y x xs h = Contains-append_right (y ∷ []) xs x h
 
-head_or : {X : Type 0} (y x : X) (xs : List X) → Contains (y ∷ xs) x → (y ≡ x) ⊎ Contains xs x
+pub head_or : {X : Type 0} (y x : X) (xs : List X) → Contains (y ∷ xs) x → (y ≡ x) ⊎ Contains xs x
 head_or y x xs h =
     elim (Contains-append_cases (y ∷ []) xs x h) [
       | inl one ↦ elim (Contains-push_cases [] y x one) [ inl none ↦ absurd (none-there x none) | inr same ↦ inl same ]

@@ -29,11 +29,13 @@ use Rattle.sn_local.specs.Bindings.{client_at}
 use Rattle.sn_local.specs.Locals.{Local}
 use Rattle.sn_local.specs.Seen.{Seen}
 use Rattle.sn_plan.specs.declared.plan.Plan.{Plan}
+use Rattle.sn_plan.specs.Asking.{retain_asked}
 use Rattle.sn_plan.specs.Bound.{session_of}
 use Rattle.sn_plan.specs.Drafts.{Drafted, nothing, changed, changed_if, acked, sent, moved, session_after}
 use Rattle.sn_plan.specs.Numbering.{planned}
 use Rattle.sn_plan.specs.Own.{messages}
 use Rattle.sn_plan.specs.Rows.{plan_for}
+use Rattle.sn_plan.proofs.Made.{for_nobody}
 use Rattle.sn_exchange.specs.declared.delivery.ToldId.{ToldId}
 use Rattle.sn_exchange.specs.declared.form.Form.{Form}
 use Rattle.sn_exchange.specs.declared.peer.Peer.{Peer}
@@ -161,14 +163,14 @@ limit-above body (Topic name) h = choose_above (is_too_long body) (Refused 3) (T
 one_sent : (x m : Send) → Contains ([] ++ x ∷ []) m → x ≡ m
 one_sent x m there = elim (Contains-push_cases [] x m there) [ inl none ↦ absurd (none-there m none) | inr same ↦ same ]
 
-module _ (seen : Seen) (a : Addr) (s : Session) (topic msg_id : ℕ) (body : List ℕ) where
+module _ (seen : Seen) (asked : Bool) (a : Addr) (s : Session) (topic msg_id : ℕ) (body : List ℕ) where
   abbrev acked_at : ℕ → ℕ → ℕ → Send
   acked_at t m code = record { to = a; bytes = spelling (frames.PubAck t m code) }
 
   abbrev received_at : ℕ → Send
   received_at m = record { to = a; bytes = spelling (frames.PubRec m) }
 
-  acked-once : (t m : ℕ) (meant : Meant) → IsAbove meant → Contains (publish_meant seen a s topic msg_id body levels.One meant).sends (acked_at t m 0) → (name : List ℕ) × (meant ≡ Topic name)
+  acked-once : (t m : ℕ) (meant : Meant) → IsAbove meant → Contains (publish_meant seen asked a s topic msg_id body levels.One meant).sends (acked_at t m 0) → (name : List ℕ) × (meant ≡ Topic name)
   acked-once t m (Refused code) above there =
       absurd (above (ap (λ (x : Send). get_or x.bytes 6 1) (one_sent (acked_at topic msg_id code) (acked_at t m 0) there)))
   acked-once t m (Topic name) above there = (name, refl)
@@ -181,7 +183,7 @@ module _ (seen : Seen) (a : Addr) (s : Session) (topic msg_id : ℕ) (body : Lis
   received-either m false true x y there = absurd (no_ack m 1 (one_sent (acked_at topic msg_id 1) (received_at m) there))
   received-either m false false x y there = inr refl
 
-  received-twice : (m : ℕ) (meant : Meant) → Contains (publish_meant seen a s topic msg_id body levels.Two meant).sends (received_at m)
+  received-twice : (m : ℕ) (meant : Meant) → Contains (publish_meant seen asked a s topic msg_id body levels.Two meant).sends (received_at m)
       → (name : List ℕ) × (meant ≡ Topic name) × ((is_received msg_id s.received ≡ true) ⊎ (id_has_no_room msg_id s.received ≡ false))
   received-twice m (Refused code) there = absurd (no_ack m code (one_sent (acked_at topic msg_id code) (received_at m) there))
   received-twice m (Topic name) there = (name, refl, received-either m (is_received msg_id s.received) (id_has_no_room msg_id s.received) _ _ there)
@@ -190,7 +192,7 @@ module _ (seen : Seen) (a : Addr) (s : Session) (topic msg_id : ℕ) (body : Lis
 
 for-sends : (g : ℕ) (seen : Seen) (d : Drafted) (client : Option (List ℕ)) (plan : Plan) → plan_for g seen d client ≡ Some plan → plan.sends ≡ d.sends
 unfolding planned
-for-sends g seen d None plan is = plan-sends g [] seen (record { changes = []; acks = []; puts = d.puts; sends = d.sends; local = d.local }) plan is
+for-sends g seen d None plan is = plan-sends g [] seen (for_nobody d) plan is
 for-sends g seen d (Some c) plan is = plan-sends g c seen d plan is
 
 module _ (g : ℕ) (predefined : Entries) (seen : Seen) (a : Addr) (bits topic msg_id : ℕ) (body : List ℕ) (now : ℕ) (plan : Plan)
@@ -239,7 +241,7 @@ module _ (g : ℕ) (predefined : Entries) (seen : Seen) (local : Local) (a : Add
       let y : Send = record { to = a; bytes = spelling (frames.PubAck t m 0) } in
       let w = from-row g predefined seen a flags.bits topic msg_id body now plan y 7 13 _ refl (λ e. omega (arith, e)) (λ e. omega (arith, e)) (λ e. omega (arith, e)) (λ e. omega (arith, e)) (λ e. omega (arith, e)) bound (by-level levels.One q) there in
       let s : Session = session_of seen w.0 in
-      let o = acked-once seen a s topic msg_id body t m (meant w.0) (limit-above body _ (topic-above predefined s (kind_of flags.bits) topic)) (subst (λ x. Contains (publish_meant seen a s topic msg_id body x (meant w.0)).sends y) q w.2) in
+      let o = acked-once seen (retain_asked flags.bits) a s topic msg_id body t m (meant w.0) (limit-above body _ (topic-above predefined s (kind_of flags.bits) topic)) (subst (λ x. Contains (publish_meant seen (retain_asked flags.bits) a s topic msg_id body x (meant w.0)).sends y) q w.2) in
       (w.0, o.0, w.1, o.1, at-level levels.One q w.0 o.0 w.1 o.1 refl)
 
   pub pubrec-put : (m : ℕ) → qos_of flags.bits ≡ levels.Two → IsAnswered a (frames.PubRec m) plan.sends → IsPublished predefined seen local a flags.bits topic 2 body (messages plan.ops) ⊎ HasReceived seen local a msg_id
@@ -247,7 +249,7 @@ module _ (g : ℕ) (predefined : Entries) (seen : Seen) (local : Local) (a : Add
       let y : Send = record { to = a; bytes = spelling (frames.PubRec m) } in
       let w = from-row g predefined seen a flags.bits topic msg_id body now plan y 4 15 _ refl (λ e. omega (arith, e)) (λ e. omega (arith, e)) (λ e. omega (arith, e)) (λ e. omega (arith, e)) (λ e. omega (arith, e)) bound (by-level levels.Two q) there in
       let s : Session = session_of seen w.0 in
-      let o = received-twice seen a s topic msg_id body m (meant w.0) (subst (λ x. Contains (publish_meant seen a s topic msg_id body x (meant w.0)).sends y) q w.2) in
+      let o = received-twice seen (retain_asked flags.bits) a s topic msg_id body m (meant w.0) (subst (λ x. Contains (publish_meant seen (retain_asked flags.bits) a s topic msg_id body x (meant w.0)).sends y) q w.2) in
       let made = at-level levels.Two q w.0 o.0 w.1 o.1 refl in
       elim (is_received msg_id s.received) as (λ b. is_received msg_id s.received ≡ b → IsPublished predefined seen local a flags.bits topic 2 body (messages plan.ops) ⊎ HasReceived seen local a msg_id) [
         | true ↦ λ r. inr (w.0, w.1, r)

@@ -2,7 +2,7 @@
 use Rattle.std.proofs.Common.{◌≡◌, ℕ, Bool, true, false, cond, not, ◌||◌, List, [], ◌∷◌, ◌++◌, Option, Some, None, is_some, Contains, refl, sym, ap, ◌∙◌, subst, true≢false, inl, inr, append_assoc, append-nil}
 use Rattle.std.specs.List.{AllByRecursion}
 use Rattle.rep_op.specs.declared.op.Op.{Op}
-use Rattle.rep_op.specs.declared.op.Op.TheVariants.{Session as OfSession, Put as OfPut, Ack}
+use Rattle.rep_op.specs.declared.op.Op.TheVariants.{Session as OfSession, Put as OfPut, Ack, Retain as OfRetain}
 use Rattle.rep_op.specs.declared.op.Put.{Put}
 use Rattle.rep_op.specs.Orders.{name_of}
 use Rattle.rep_op.specs.Sets.{put_at, is_acknowledged, Stands}
@@ -29,6 +29,7 @@ abbrev IsUnput : List Op → Op → Type 0
 IsUnput S (OfSession c stamp counter change) = Unit {0}
 IsUnput S (OfPut c put) = put_at c S (put.seq, put.origin) ≡ None
 IsUnput S (Ack c origin first last) = Unit {0}
+IsUnput S (OfRetain topic kept) = Unit {0}
 
 first_none : (a b : Option Put) → or_else a b ≡ None → a ≡ None
 first_none None b e = refl
@@ -38,6 +39,7 @@ unput-one : (S A : List Op) (op : Op) → IsFresh (S ++ A) op → IsUnput S op
 unput-one S A (OfSession c stamp counter change) h = tt
 unput-one S A (OfPut c put) h = first_none (put_at c S (put.seq, put.origin)) (put_at c A (put.seq, put.origin)) (sym (put_at_both c S A (put.seq, put.origin)) ∙ h)
 unput-one S A (Ack c origin first last) h = tt
+unput-one S A (OfRetain topic kept) h = tt
 
 unput-all : (S A ops : List Op) → AreFresh (S ++ A) ops → AllByRecursion (IsUnput S) ops
 unput-all S A [] f = tt
@@ -88,11 +90,12 @@ module _ (g : ℕ) (S : List Op) (plan : Plan) (is : IsOfGateway g S plan) where
       is_acknowledged_both c S plan.ops name ∙ (ap (λ b. b || is_acknowledged c plan.ops name) new.0 ∙ none) in
       pending_at-reads c (S ++ plan.ops) name ∙ (ap (λ b. cond (not b) (put_at c (S ++ plan.ops) name) None) open_yet ∙ stands)
   waits (Ack c origin first last) stands new = tt
+  waits (OfRetain topic kept) stands new = tt
 
   pub gateway-kept : AreFlush g S → AllByRecursion (IsKept (S ++ plan.ops)) plan.ops
   gateway-kept flush =
       let h = of-draft g S plan is in
-      let fresh : AreFresh S plan.ops = plan-fresh g h.client S h.draft plan h.is (flush h.client) h.one_each in
+      let fresh : AreFresh S plan.ops = plan-fresh g h.client S h.draft plan h.is (flush h.client) h.apart in
       all-both (Stands (S ++ plan.ops)) IsNew (IsKept (S ++ plan.ops)) waits plan.ops
       (fresh-stand S plan.ops fresh)
       (all-both (IsUnacknowledged S) (IsUnput S) IsNew (λ op a b. (a, b)) plan.ops

@@ -11,7 +11,7 @@ use Rattle.sn_frame.specs.declared.frame.Frame.TheVariants as frames
 use Rattle.sn_frame.specs.FlagBits.{qos_of}
 use Rattle.sn_frame.specs.Grammar.{spelling}
 use Rattle.rep_op.specs.declared.op.Op.{Op}
-use Rattle.rep_op.specs.declared.op.Op.TheVariants.{Session as OfSession, Put as OfPut, Ack}
+use Rattle.rep_op.specs.declared.op.Op.TheVariants.{Session as OfSession, Put as OfPut, Ack, Retain as OfRetain}
 use Rattle.rep_model.specs.Views.{pending_at}
 use Rattle.sn_local.specs.declared.config.Addr.{Addr}
 use Rattle.sn_local.specs.declared.config.Send.{Send}
@@ -141,3 +141,4 @@ abbrev pub IsKept : List Op → Op → Type 0
 IsKept S (OfSession c stamp counter change) = Unit {0}
 IsKept S (OfPut c put) = pending_at c S (put.seq, put.origin) ≡ Some put
 IsKept S (Ack c origin first last) = Unit {0}
+IsKept S (OfRetain topic kept) = Unit {0}

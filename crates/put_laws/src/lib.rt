@@ -1,11 +1,12 @@
-//! What a gateway puts, and for whom, and what its yes to a publisher means: nothing is built on
-//! this law.
+//! What a gateway puts, and for whom, what its yes to a publisher means, what it retains, and what
+//! it hands to a client that subscribes: no gateway is built on these laws.
 //!
-//! The function of `laws` does nothing; its contract is a law, proved for every frame and for every
-//! tick. The definitions are in `specs/Puts.antt`; who is a recipient,
-//! and at which quality of service, is defined in the crate `sn_publish` (`Recipients`).
+//! The functions of `laws` do nothing; their contracts are laws, proved for every frame and for
+//! every tick. The definitions are in `specs/Puts.antt` and `specs/Retained.antt`; who is a
+//! recipient, and at which quality of service, is defined in the crate `sn_publish` (`Recipients`),
+//! and what a subscriber is handed in `sn_subscribe` (`Handing`).
 #![tactic(auto)]
 
 mod laws;
 
-pub use laws::accepted_is_put;
+pub use laws::{accepted_is_put, retained_is_handed};

@@ -18,10 +18,11 @@ use Rattle.sn_local.specs.Seen.{Seen}
 use Rattle.sn_plan.specs.declared.plan.Plan.{Plan}
 use Rattle.sn_plan.specs.declared.row.Follow.TheVariants as follows
 use Rattle.sn_plan.specs.Bound.{session_of}
-use Rattle.sn_plan.specs.Drafts.{Drafted, nothing, changed, put_all, sent, moved}
+use Rattle.sn_plan.specs.Asking.{retain_asked}
+use Rattle.sn_plan.specs.Drafts.{Drafted, nothing, changed, sent, moved}
 use Rattle.sn_plan.specs.Own.{messages}
 use Rattle.sn_publish.specs.declared.meaning.Meant.{Meant}
-use Rattle.sn_publish.specs.Publishing.{publication_meant, publish_meant, publish}
+use Rattle.sn_publish.specs.Publishing.{publication_meant, posted, publish_meant, publish}
 use Rattle.sn_publish.specs.Recipients.{puts_for}
 use Rattle.sn_exchange.specs.Following.{peer_at, followed_by, deliver_next}
 use Rattle.sn_deliver.specs.Serving.{publish_of, publish_in_at}
@@ -75,11 +76,11 @@ module _ (g : ℕ) (predefined : Entries) (seen : Seen) (local : Local) (a : Add
 
   row-answers : Contains row_of_two.sends answer
   row-answers =
-      let made : Drafted = changed (Received id) (put_all (puts_for seen new.name 2 new.body) nothing) in
+      let made : Drafted = changed (Received id) (posted seen (retain_asked new.flags.bits) new.name 2 new.body) in
       let two = last-answers (is_received id s.received) (id_has_no_room id s.received) (sent a (frames.PubRec id) nothing) (sent a (frames.PubAck new.topic id 1) nothing) (sent a (frames.PubRec id) made)
       new.fresh new.room (Contains-push made.sends answer) in
-      let about = subst (λ x. Contains (publish_meant seen a s new.topic id new.body levels.Two x).sends answer) (sym new.about) two in
-      subst (λ x. Contains (publish_meant seen a s new.topic id new.body x meant).sends answer) (sym new.at_two) about
+      let about = subst (λ x. Contains (publish_meant seen (retain_asked new.flags.bits) a s new.topic id new.body levels.Two x).sends answer) (sym new.about) two in
+      subst (λ x. Contains (publish_meant seen (retain_asked new.flags.bits) a s new.topic id new.body x meant).sends answer) (sym new.at_two) about
 
   of-publish : (x : Frame) → frame ≡ x → deliver_next g predefined seen a now (row_for g predefined seen local a x now) ≡ Some plan
   unfolding step

@@ -48,20 +48,20 @@ use Rattle.sn_plan.specs.declared.asking.Asked.{Asked}
 use Rattle.sn_plan.specs.declared.asking.Asked.TheVariants.{Topics, Refused}
 use Rattle.sn_plan.specs.declared.row.Row.{Row}
 use Rattle.sn_plan.specs.declared.row.Follow.TheVariants as follows
-use Rattle.sn_plan.specs.Asking.{qos_asked, topics_asked}
+use Rattle.sn_plan.specs.Asking.{qos_asked, retain_asked, topics_asked}
 use Rattle.sn_plan.specs.Bound.{bound_to, session_of}
-use Rattle.sn_plan.specs.Drafts.{Drafted, nothing, changed, changed_if, put_all, sent, moved}
+use Rattle.sn_plan.specs.Drafts.{Drafted, nothing, changed, changed_if, sent, moved}
 use Rattle.sn_plan.specs.Others.{other}
 use Rattle.sn_plan.specs.Rows.{row_of, heard_row, stray}
 use Rattle.sn_plan.proofs.Lists.{all-append}
 use Rattle.sn_subscribe.specs.declared.registration.NamedId.{NamedId}
 use Rattle.sn_subscribe.specs.Registration.{entry_or_free, id_for, registered, register_name}
 use Rattle.sn_subscribe.specs.Subscription.{refused, id_in_full, id_asked, subscribe_change, subscribed, subscribe_asked, subscribe_at, unsubscribe_asked}
+use Rattle.sn_subscribe.specs.Handing.{waiting_for}
 use Rattle.sn_subscribe.specs.TopicRows.{register_of, subscribe_of, unsubscribe_of}
 use Rattle.sn_publish.specs.declared.meaning.Meant.{Meant}
 use Rattle.sn_publish.specs.declared.meaning.Meant.TheVariants as meanings
-use Rattle.sn_publish.specs.Publishing.{publication_meant, publish_at, publish_meant, release}
-use Rattle.sn_publish.specs.Recipients.{puts_for}
+use Rattle.sn_publish.specs.Publishing.{publication_meant, posted, publish_at, publish_meant, release}
 use Rattle.sn_exchange.specs.declared.peer.Peer.{Peer}
 use Rattle.sn_exchange.specs.Following.{peer_at}
 use Rattle.sn_deliver.specs.Acknowledging.{awaiting, put_awaiting, over, done, told, entry_published, forgotten, puback_of, awaiting_pubrec, pubrec_again, pubrec_of, pubcomp_of, registered as registered_by, regack_of, acknowledge}
@@ -257,25 +257,25 @@ module _ (seen : Seen) (A : List ℕ → ℕ → Type 0) where
   subscribe_change-carried c filter qos None = λ id b. absurd b
   subscribe_change-carried c filter qos (Some before) = none-or-carried c (before == qos) (Subscribe filter qos) (λ id b. absurd b)
 
-  subscribed-carried : (a : Addr) (c : List ℕ) (s : Session) (bits msg_id : ℕ) (filter : List ℕ) (qos : ℕ) (named : Option NamedId) → IfSome named (λ (n : NamedId). IfSome n.change (IsCarried c)) → Carried c (subscribed a s bits msg_id filter qos named)
-  subscribed-carried a c s bits msg_id filter qos None h = tt
-  subscribed-carried a c s bits msg_id filter qos (Some named) h =
+  subscribed-carried : (waiting : ℕ) (a : Addr) (c : List ℕ) (s : Session) (bits msg_id : ℕ) (filter : List ℕ) (qos : ℕ) (named : Option NamedId) → IfSome named (λ (n : NamedId). IfSome n.change (IsCarried c)) → Carried c (subscribed seen waiting a s bits msg_id filter qos named)
+  subscribed-carried waiting a c s bits msg_id filter qos None h = tt
+  subscribed-carried waiting a c s bits msg_id filter qos (Some named) h =
       carried-if c (subscribe_change filter qos (subscribed_at filter s.subscriptions)) (changed_if named.change nothing) (subscribe_change-carried c filter qos (subscribed_at filter s.subscriptions))
       (carried-if c named.change nothing h tt)
 
-  asked-carried : (a : Addr) (c : List ℕ) (s : Session) (bits msg_id : ℕ) (field : List ℕ) (asked : Asked) (qos : ℕ) → Carried c (subscribe_asked a s bits msg_id field asked qos)
-  asked-carried a c s bits msg_id field (Refused code) qos = tt
-  asked-carried a c s bits msg_id field (Topics filter) qos =
-      choose-carried c (filter_has_no_room filter s.subscriptions) (refused a bits msg_id 1) (subscribed a s bits msg_id filter qos (id_asked s (kind_of bits) field filter)) tt
-      (subscribed-carried a c s bits msg_id filter qos (id_asked s (kind_of bits) field filter) (id_asked-carried c s (kind_of bits) field filter))
+  asked-carried : (waiting : ℕ) (a : Addr) (c : List ℕ) (s : Session) (bits msg_id : ℕ) (field : List ℕ) (asked : Asked) (qos : ℕ) → Carried c (subscribe_asked seen waiting a s bits msg_id field asked qos)
+  asked-carried waiting a c s bits msg_id field (Refused code) qos = tt
+  asked-carried waiting a c s bits msg_id field (Topics filter) qos =
+      choose-carried c (filter_has_no_room filter s.subscriptions) (refused a bits msg_id 1) (subscribed seen waiting a s bits msg_id filter qos (id_asked s (kind_of bits) field filter)) tt
+      (subscribed-carried waiting a c s bits msg_id filter qos (id_asked s (kind_of bits) field filter) (id_asked-carried c s (kind_of bits) field filter))
 
-  subscribe_at-carried : (p : Entries) (a : Addr) (c : List ℕ) (s : Session) (bits msg_id : ℕ) (field : List ℕ) (qos : Option ℕ) → Carried c (subscribe_at p a s bits msg_id field qos)
-  subscribe_at-carried p a c s bits msg_id field None = tt
-  subscribe_at-carried p a c s bits msg_id field (Some qos) = asked-carried a c s bits msg_id field (topics_asked p (kind_of bits) field) qos
+  subscribe_at-carried : (p : Entries) (waiting : ℕ) (a : Addr) (c : List ℕ) (s : Session) (bits msg_id : ℕ) (field : List ℕ) (qos : Option ℕ) → Carried c (subscribe_at p seen waiting a s bits msg_id field qos)
+  subscribe_at-carried p waiting a c s bits msg_id field None = tt
+  subscribe_at-carried p waiting a c s bits msg_id field (Some qos) = asked-carried waiting a c s bits msg_id field (topics_asked p (kind_of bits) field) qos
 
   subscribe_of-carried : (p : Entries) (a : Addr) (bound : Option (List ℕ)) (bits msg_id : ℕ) (field : List ℕ) (now : ℕ) → CarriedRow (subscribe_of p seen a bound bits msg_id field now)
   subscribe_of-carried p a None bits msg_id field now = tt
-  subscribe_of-carried p a (Some c) bits msg_id field now = subscribe_at-carried p a c (session_of seen c) bits msg_id field (qos_asked (qos_of bits))
+  subscribe_of-carried p a (Some c) bits msg_id field now = subscribe_at-carried p (waiting_for seen c) a c (session_of seen c) bits msg_id field (qos_asked (qos_of bits))
 
   unsubscribe_asked-carried : (c : List ℕ) (s : Session) (asked : Asked) → IfSome (unsubscribe_asked s asked) (IsCarried c)
   unsubscribe_asked-carried c s (Refused code) = tt
@@ -289,27 +289,27 @@ module _ (seen : Seen) (A : List ℕ → ℕ → Type 0) where
 
   -- ---- publications
 
-  twice-carried : (a : Addr) (c : List ℕ) (topic msg_id : ℕ) (body name : List ℕ) (r f : Bool) → (r ≡ false → f ≡ false → A c msg_id)
+  twice-carried : (asked : Bool) (a : Addr) (c : List ℕ) (topic msg_id : ℕ) (body name : List ℕ) (r f : Bool) → (r ≡ false → f ≡ false → A c msg_id)
       → Carried c (if r then sent a (frames.PubRec msg_id) nothing else (if f then sent a (frames.PubAck topic msg_id 1) nothing
-      else sent a (frames.PubRec msg_id) (changed (Received msg_id) (put_all (puts_for seen name 2 body) nothing))))
-  twice-carried a c topic msg_id body name true f accepts = tt
-  twice-carried a c topic msg_id body name false true accepts = tt
-  twice-carried a c topic msg_id body name false false accepts = ((λ id b. inr (subst (λ x. A c x) b (accepts refl refl))), tt)
+      else sent a (frames.PubRec msg_id) (changed (Received msg_id) (posted seen asked name 2 body))))
+  twice-carried asked a c topic msg_id body name true f accepts = tt
+  twice-carried asked a c topic msg_id body name false true accepts = tt
+  twice-carried asked a c topic msg_id body name false false accepts = ((λ id b. inr (subst (λ x. A c x) b (accepts refl refl))), tt)
 
-  publish_at-carried : (a : Addr) (c : List ℕ) (topic msg_id : ℕ) (body name : List ℕ) (qos : Qos)
+  publish_at-carried : (asked : Bool) (a : Addr) (c : List ℕ) (topic msg_id : ℕ) (body name : List ℕ) (qos : Qos)
       → (qos ≡ levels.Two → is_received msg_id (session_of seen c).received ≡ false → id_has_no_room msg_id (session_of seen c).received ≡ false → A c msg_id)
-      → Carried c (publish_at seen a (session_of seen c) topic msg_id body name qos)
-  publish_at-carried a c topic msg_id body name levels.Zero accepts = tt
-  publish_at-carried a c topic msg_id body name levels.One accepts = tt
-  publish_at-carried a c topic msg_id body name levels.Two accepts =
-      twice-carried a c topic msg_id body name (is_received msg_id (session_of seen c).received) (id_has_no_room msg_id (session_of seen c).received) (accepts refl)
-  publish_at-carried a c topic msg_id body name levels.MinusOne accepts = tt
+      → Carried c (publish_at seen asked a (session_of seen c) topic msg_id body name qos)
+  publish_at-carried asked a c topic msg_id body name levels.Zero accepts = tt
+  publish_at-carried asked a c topic msg_id body name levels.One accepts = tt
+  publish_at-carried asked a c topic msg_id body name levels.Two accepts =
+      twice-carried asked a c topic msg_id body name (is_received msg_id (session_of seen c).received) (id_has_no_room msg_id (session_of seen c).received) (accepts refl)
+  publish_at-carried asked a c topic msg_id body name levels.MinusOne accepts = tt
 
-  publish_meant-carried : (a : Addr) (c : List ℕ) (topic msg_id : ℕ) (body : List ℕ) (qos : Qos) (meant : Meant)
+  publish_meant-carried : (asked : Bool) (a : Addr) (c : List ℕ) (topic msg_id : ℕ) (body : List ℕ) (qos : Qos) (meant : Meant)
       → ((name : List ℕ) → meant ≡ meanings.Topic name → qos ≡ levels.Two → is_received msg_id (session_of seen c).received ≡ false → id_has_no_room msg_id (session_of seen c).received ≡ false → A c msg_id)
-      → Carried c (publish_meant seen a (session_of seen c) topic msg_id body qos meant)
-  publish_meant-carried a c topic msg_id body qos (meanings.Refused code) accepts = tt
-  publish_meant-carried a c topic msg_id body qos (meanings.Topic name) accepts = publish_at-carried a c topic msg_id body name qos (accepts name refl)
+      → Carried c (publish_meant seen asked a (session_of seen c) topic msg_id body qos meant)
+  publish_meant-carried asked a c topic msg_id body qos (meanings.Refused code) accepts = tt
+  publish_meant-carried asked a c topic msg_id body qos (meanings.Topic name) accepts = publish_at-carried asked a c topic msg_id body name qos (accepts name refl)
 
   module _ (predefined : Entries) (a : Addr) (bits topic msg_id : ℕ) (body : List ℕ) (now : ℕ) where
     publish_of-carried : (bound : Option (List ℕ))
@@ -317,7 +317,7 @@ module _ (seen : Seen) (A : List ℕ → ℕ → Type 0) where
         → CarriedRow (publish_of predefined seen a bound bits topic msg_id body now)
     publish_of-carried None accepts = tt
     publish_of-carried (Some c) accepts =
-        publish_meant-carried a c topic msg_id body (qos_of bits) (publication_meant predefined (session_of seen c) bits topic body) (λ name. accepts c name refl)
+        publish_meant-carried (retain_asked bits) a c topic msg_id body (qos_of bits) (publication_meant predefined (session_of seen c) bits topic body) (λ name. accepts c name refl)
 
     publish_in-carried : (local : Local)
         → ((c name : List ℕ) → client_at a local.bindings ≡ Some c → publication_meant predefined (session_of seen c) bits topic body ≡ meanings.Topic name → qos_of bits ≡ levels.Two → is_received msg_id (session_of seen c).received ≡ false → id_has_no_room msg_id (session_of seen c).received ≡ false → A c msg_id)

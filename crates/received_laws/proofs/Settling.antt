@@ -11,7 +11,7 @@ use Rattle.sn_session.specs.declared.change.SessionOp.TheVariants.{Take, Presenc
 use Rattle.sn_tables.specs.Received.{is_received}
 use Rattle.sn_frame.specs.declared.frame.Frame.{Frame}
 use Rattle.rep_op.specs.declared.op.Op.{Op}
-use Rattle.rep_op.specs.declared.op.Op.TheVariants.{Session as OfSession, Put as OfPut, Ack}
+use Rattle.rep_op.specs.declared.op.Op.TheVariants.{Session as OfSession, Put as OfPut, Ack, Retain as OfRetain}
 use Rattle.sn_local.specs.declared.config.Addr.{Addr}
 use Rattle.sn_local.specs.declared.local.LocalChange.TheVariants.{Heard, EndDialog}
 use Rattle.sn_local.specs.Locals.{Local}
@@ -20,18 +20,19 @@ use Rattle.sn_plan.specs.declared.plan.Plan.{Plan}
 use Rattle.sn_plan.specs.declared.row.Row.{Row}
 use Rattle.sn_plan.specs.declared.row.Follow.TheVariants as follows
 use Rattle.sn_plan.specs.Bound.{session_of}
-use Rattle.sn_plan.specs.Drafts.{Drafted, nothing, put_all, moved}
+use Rattle.sn_plan.specs.Drafts.{Drafted, nothing, moved}
 use Rattle.sn_plan.specs.Numbering.{Written, another, taken_at, taken, counted, write, written, start_of, ack_of, planned}
 use Rattle.sn_plan.specs.Plans.{plan_of, plan_of_puts, plan_without}
 use Rattle.sn_plan.specs.Rows.{row_of, plan_for}
 use Rattle.sn_plan.proofs.Lists.{and_then-some, map-some, all-append, all-weaken, all-map}
+use Rattle.sn_plan.proofs.Made.{for_nobody}
 use Rattle.sn_exchange.specs.Following.{followed_for, deliver_next}
 use Rattle.sn_deliver.specs.Steps.{row_for, step}
 use Rattle.sn_tick.specs.declared.due.Due.{Due}
 use Rattle.sn_tick.specs.declared.due.Due.TheVariants as dues
 use Rattle.sn_tick.specs.Due.{first_due}
-use Rattle.sn_tick.specs.Ticking.{is_old, dialog_ended, dialogs_ended, needs_timer, timer_begun, cleaned, may_advertise, advertised, will_puts, lost, retried, plan_due, plan_if_due, tick}
-use Rattle.row_laws.proofs.Planned.{IsNumbered, puts-behind, planned-parts}
+use Rattle.sn_tick.specs.Ticking.{is_old, dialog_ended, dialogs_ended, needs_timer, timer_begun, cleaned, may_advertise, advertised, published, lost, retried, plan_due, plan_if_due, tick}
+use Rattle.row_laws.proofs.Planned.{IsNumbered, planned-parts, parts-more}
 use Rattle.step_laws.proofs.Keeping.{fold_keeps}
 use Rattle.received_laws.proofs.Bringing.{HasOne, applied-brings}
 use Rattle.received_laws.proofs.Carrying.{IsNewPublish, IsCarried, Carried, CarriedFor, CarriedRow, carried-more, row-carried}
@@ -43,6 +44,7 @@ module _ (seen : Seen) (A : List ℕ → ℕ → Type 0) where
   IsSettled (OfSession c stamp counter change) = IsCarried seen A c change
   IsSettled (OfPut c p) = Unit {0}
   IsSettled (Ack c origin first last) = Unit {0}
+  IsSettled (OfRetain topic kept) = Unit {0}
 
   abbrev pub AreSettled : List Op → Type 0
   AreSettled ops = AllByRecursion IsSettled ops
@@ -84,26 +86,27 @@ module _ (seen : Seen) (A : List ℕ → ℕ → Type 0) where
         let m = and_then-some (written c g rest) (write c g change w) x e in
         written-ready rest m.0 x all.1 (write-gives change w m.0 all.0 r m.1) m.2
 
-  numbered-settled : (g : ℕ) (seq : List ℕ → Option ℕ) (op : Op) → IsNumbered g seq op → IsSettled op
-  numbered-settled g seq (OfSession c stamp counter change) h = absurd h
-  numbered-settled g seq (OfPut c p) h = tt
-  numbered-settled g seq (Ack c origin first last) h = tt
+  numbered-settled : (g : ℕ) (seq clock : List ℕ → Option ℕ) (op : Op) → IsNumbered g seq clock op → IsSettled op
+  numbered-settled g seq clock (OfSession c stamp counter change) h = absurd h
+  numbered-settled g seq clock (OfPut c p) h = tt
+  numbered-settled g seq clock (Ack c origin first last) h = tt
+  numbered-settled g seq clock (OfRetain topic kept) h = tt
 
   module _ (g : ℕ) (plan : Plan) where
     of-settled : (c : List ℕ) (d : Drafted) → Carried seen A c d → plan_of g c seen d ≡ Some plan → AreSettled plan.ops
     of-settled c d h e =
-        let parts = planned-parts g c (seen.of c) (seen.epoch c) (λ e. seen.seq e g) d plan e in
+        let parts = planned-parts g c (seen.of c) (seen.epoch c) (λ e. seen.seq e g) seen.clock d plan e in
         let before : List Op = parts.w.ops ++ map (ack_of c) d.acks in
-        let b = puts-behind g (λ e. seen.seq e g) d.puts before plan.ops parts.is_numbered in
+        let b = parts-more g c (seen.of c) (seen.epoch c) (λ e. seen.seq e g) seen.clock d plan.ops parts in
         let ready = written-ready g c d.changes (start_of g (seen.of c) (seen.epoch c)) parts.w h (record { session = λ id is. inl is; ops = tt }) parts.is_written in
         subst AreSettled (sym b.1)
         (all-append IsSettled before b.0
         (all-append IsSettled parts.w.ops (map (ack_of c) d.acks) ready.ops (all-map IsSettled (ack_of c) (λ name. tt) d.acks))
-        (all-weaken (IsNumbered g (λ e. seen.seq e g)) IsSettled (numbered-settled g (λ e. seen.seq e g)) b.0 b.2))
+        (all-weaken (IsNumbered g (λ e. seen.seq e g) seen.clock) IsSettled (numbered-settled g (λ e. seen.seq e g) seen.clock) b.0 b.2))
 
     puts-settled : (d : Drafted) → plan_of_puts g seen d ≡ Some plan → AreSettled plan.ops
     unfolding planned
-    puts-settled d e = of-settled [] (record { changes = []; acks = []; puts = d.puts; sends = d.sends; local = d.local }) tt e
+    puts-settled d e = of-settled [] (for_nobody d) tt e
 
     for-settled : (d : Drafted) (client : Option (List ℕ)) → CarriedFor seen A client d → plan_for g seen d client ≡ Some plan → AreSettled plan.ops
     for-settled d None h e = puts-settled d e
@@ -149,7 +152,7 @@ module _ (g : ℕ) (predefined : Entries) (seen : Seen) (now : ℕ) (plan : Plan
   due-settled : (c : List ℕ) (due : Due) → plan_due g predefined seen now d c due ≡ Some plan → AreSettled seen Nobody plan.ops
   due-settled c dues.Loss e =
       of-settled seen Nobody g plan c (lost seen c (session_of seen c) d)
-      (carried-more seen Nobody c (Presence Lost (session_of seen c).duration) (put_all (will_puts seen c (session_of seen c).will) d) (λ id b. absurd b) (base c)) e
+      (carried-more seen Nobody c (Presence Lost (session_of seen c).duration) (published seen c (session_of seen c).will d) (λ id b. absurd b) (base c)) e
   due-settled c (dues.Retry a) e = next-settled seen Nobody g plan predefined a now (retried now d c) (base c) e
   due-settled c (dues.Delivery a) e = next-settled seen Nobody g plan predefined a now (row_of follows.Delivery c d) (base c) e
 

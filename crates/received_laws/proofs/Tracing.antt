@@ -315,14 +315,14 @@ module _ (c : List ℕ) (id : ℕ) where
       in-changed old (Before old (Restart number kept) (Records count)) inl h.0 (restarted kept h.1) []
       (restart-explained old (Before old (Restart number kept) (Records count)) inl h.0 h.1 h.2.1 kept)
       (subst (λ (f : Field). IsBroughtIn f c id) h.4 e)
-  after-brought old (Show number) (Views views) new h e = inl (subst (λ (f : Field). IsBroughtIn f c id) h.4 e)
-  after-brought old (Frame number from bytes now) (Views views) new h e = absurd h
-  after-brought old (Tick number now) (Views views) new h e = absurd h
-  after-brought old (Take number delta) (Views views) new h e = absurd h
-  after-brought old (Asks number peer) (Views views) new h e = absurd h
-  after-brought old (Compact number) (Views views) new h e = absurd h
-  after-brought old (WriteFails number bytes sync) (Views views) new h e = absurd h
-  after-brought old (Restart number kept) (Views views) new h e = absurd h
+  after-brought old (Show number) (Views views topics) new h e = inl (subst (λ (f : Field). IsBroughtIn f c id) h.4 e)
+  after-brought old (Frame number from bytes now) (Views views topics) new h e = absurd h
+  after-brought old (Tick number now) (Views views topics) new h e = absurd h
+  after-brought old (Take number delta) (Views views topics) new h e = absurd h
+  after-brought old (Asks number peer) (Views views topics) new h e = absurd h
+  after-brought old (Compact number) (Views views topics) new h e = absurd h
+  after-brought old (WriteFails number bytes sync) (Views views topics) new h e = absurd h
+  after-brought old (Restart number kept) (Views views topics) new h e = absurd h
   after-brought old (Frame number from bytes now) (Records count) new h e = absurd h
   after-brought old (Tick number now) (Records count) new h e = absurd h
   after-brought old (Take number delta) (Records count) new h e = absurd h

@@ -47,6 +47,10 @@ impl Calls for Deltas {
                 let read = Delta::decode(alloc, self.octets.as_slice());
                 given(alloc, said, read, memory)
             }
+            "Delta::decode_one" => {
+                let read = Delta::decode_one(alloc, self.octets.as_slice());
+                given(alloc, said, read, memory)
+            }
             "Delta::copy" => given(alloc, said, self.delta.copy(alloc), memory),
             "Delta::encode" => self.write(alloc, said),
             _ => Err(Stop::Row),

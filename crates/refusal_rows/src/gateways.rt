@@ -30,6 +30,9 @@ const OTHER: [&str; 2] = [
     "0102733300000000000000010200000001003c00010000000000000000",
 ];
 
+/// What gateway 1 retained of a topic.
+const RETAINED: [&str; 2] = ["0200000001", "040003742f6100000000000000010101000178"];
+
 /// A gateway on a disk in memory.
 pub(crate) type Gateway<R> = Node<R, MemoryDisk>;
 
@@ -59,6 +62,7 @@ impl<R: Replica> Calls for Gateways<R> {
             }
             "Node::step" => made(alloc, frame(alloc, SUBSCRIBE)?, NOT_SUBSCRIBED, false),
             "Node::open" => with_disk(alloc, is_second),
+            "Node::retained" => with_topic(alloc),
             _ => made(alloc, step(alloc, call)?, b"", false),
         }
     }
@@ -68,6 +72,7 @@ impl<R: Replica> Calls for Gateways<R> {
             "Node::open" => self.open(alloc, said),
             "Node::held" => given(alloc, said, self.node.held(alloc), NoMemory),
             "Node::clients" => given(alloc, said, self.node.clients(alloc), NoMemory),
+            "Node::retained" => given(alloc, said, self.node.retained(alloc), NoMemory),
             "Node::step" => {
                 let answer = called_thrice(alloc, said, &mut self.node, &self.step);
                 self.look(alloc, said, answer)
@@ -106,6 +111,26 @@ fn with_disk<R: Replica>(alloc: Global, is_second: bool) -> Result<Gateways<R>, 
         made.put_disk(alloc)?;
     }
     Ok(made)
+}
+
+/// A gateway with something that is retained.
+fn with_topic<R: Replica>(alloc: Global) -> Result<Gateways<R>, Stop> {
+    let mut made = made(alloc, Step::Digest, b"", true)?;
+    take_topic(alloc, &mut made.node)?;
+    Ok(made)
+}
+
+/// Takes what is retained beside the call.
+fn take_topic<R: Replica>(alloc: Global, node: &mut Gateway<R>) -> Result<(), Stop> {
+    let step = Step::Take {
+        delta: delta(alloc, &RETAINED)?,
+    };
+    let refused = beside(called(alloc, node, &step)).err();
+    drop(step);
+    match refused {
+        None => Ok(()),
+        Some(stop) => Err(stop),
+    }
 }
 
 impl<R: Replica> Gateways<R> {

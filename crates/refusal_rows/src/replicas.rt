@@ -4,22 +4,24 @@ use crate::calls::{Calls, Shown, asked, beside, given, stop_of};
 use crate::deltas::{FIRST, client, delta, spelled};
 use crate::said::{Said, Stop};
 use rep_model::{ClientView, Replica, TakeFault};
-use rep_ops::{ClientId, Delta, OpsFault};
+use rep_ops::{ClientId, Delta, OpsFault, Retained};
+use sn_topic::{Filter, TopicName};
 use std::alloc::Global;
 
 /// What is taken after the first connection: a subscription of client s1 and its next Take; a
 /// change of client s2, whose Take is not there; client s3, of gateway 2; a message for s1 and one
-/// for s3; and messages that s1 has.
-const NEXT: [&str; 9] = [
-    "0100000008",
+/// for s3; messages that s1 has; and what is retained of a topic.
+const NEXT: [&str; 10] = [
+    "0200000009",
     "0102733100000000000000010101030003742f2301",
     "0102733100000000000000020100000001003c00010000000000000000",
     "01027332000000000000000502010101012c",
     "0102733300000000000000010200000001003c00010000000000000000",
-    "020273310100000000000000010003742f6101000178",
-    "020273330200000000000000010003742f6101000178",
+    "020273310100000000000000010003742f6101000000000000000000000178",
+    "020273330200000000000000010003742f6101000000000000000000000178",
     "030273310200000000000000010000000000000002",
     "030273310200000000000000040000000000000004",
+    "040003742f6100000000000000010101000178",
 ];
 
 /// A replica, a delta that it takes, and the octets of what it keeps.
@@ -46,6 +48,7 @@ impl<R: Replica> Calls for Replicas<R> {
             "prepare" => self.take(alloc, said),
             "clients" => given(alloc, said, self.replica.clients(alloc), memory),
             "held" => given(alloc, said, self.replica.held(alloc), memory),
+            "retained_matching" => match_all(alloc, said, &self.replica),
             "ClientView::copy" => copy_view(alloc, said, &self.replica),
             _ => Err(Stop::Row),
         }
@@ -101,6 +104,25 @@ impl Shown for Vec<ClientId> {
         }
         Ok(())
     }
+}
+
+/// Prints topics, each with what is retained of it.
+impl Shown for Vec<(TopicName, Retained)> {
+    fn show(self, _alloc: Global, said: &mut Said) -> Result<(), Stop> {
+        for (topic, retained) in self.as_slice() {
+            said.octets(topic.bytes());
+            said.octets(retained.body.as_slice());
+        }
+        Ok(())
+    }
+}
+
+/// Asks what is retained of all topics.
+fn match_all<R: Replica>(alloc: Global, said: &mut Said, replica: &R) -> Result<(), Stop> {
+    let asked = beside(Filter::new(alloc, b"#"))?;
+    let found = replica.retained_matching(alloc, &asked);
+    drop(asked);
+    given(alloc, said, found, TakeFault::Memory)
 }
 
 /// An empty replica.

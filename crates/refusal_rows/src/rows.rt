@@ -41,16 +41,19 @@ pub(crate) const ROWS: &str = "
     rep_ops::Delta::from_ops
     rep_ops::Delta::encode
     rep_ops::Delta::decode
+    rep_ops::Delta::decode_one
     rep_ops::Delta::copy
     rep_model::ClientView::copy
     rep_plain::empty
     rep_plain::prepare
     rep_plain::clients
     rep_plain::held
+    rep_plain::retained_matching
     rep_state::empty
     rep_state::prepare
     rep_state::clients
     rep_state::held
+    rep_state::retained_matching
     rep_digest::digest_of
     rep_digest::Digest::encode
     rep_digest::Digest::decode
@@ -90,6 +93,7 @@ pub(crate) const ROWS: &str = "
     gw_node::Node::step
     gw_node::Node::held
     gw_node::Node::clients
+    gw_node::Node::retained
     gw_world::run
     gw_play::play
     gw_shift::Shift::open

@@ -3,16 +3,16 @@ use Rattle.std.proofs.Common.{◌≡◌, ℕ, Bool, true, false, cond, not, ◌&
 use Rattle.std.proofs.lemmas.Bool.{false_from_ne_true}
 use Rattle.rep_op.specs.declared.op.Stamp.{Stamp}
 use Rattle.rep_op.specs.declared.op.Op.{Op}
-use Rattle.rep_op.specs.Sets.{operation_at, put_at, is_acknowledged, Same}
+use Rattle.rep_op.specs.Sets.{operation_at, put_at, is_acknowledged, retain_at, Same}
 use Rattle.rep_model.specs.Views.{visible}
-use Rattle.rep_model.specs.Keep.{is_below, keep, CountsAs}
+use Rattle.rep_model.specs.Topics.{latest}
+use Rattle.rep_model.specs.Keep.{is_below, is_outdone, keep, CountsAs}
 use Rattle.rep_model.proofs.Lookup.{or_else}
-use Rattle.rep_model.proofs.Readers.{operation_at_both, put_at_both, is_acknowledged_both, operation_at_keep, put_at_keep, is_acknowledged_keep}
-use Rattle.rep_model.proofs.Thin.{Thin, not_below-part, same_kept, kept_some, some_second, some_left, some_right, none_left, none_right, thin-right}
-use Rattle.rep_digest.specs.declared.entry.ClientEntry.{ClientEntry}
-use Rattle.rep_digest.specs.Digests.{digest}
-use Rattle.rep_answer.specs.Answers.{covers_operation, covers_put, covers_acknowledgement, IsRest, IsAnswer}
-use Rattle.rep_answer.proofs.Covered.{covered_operation, covered_put, covered_acknowledgement}
+use Rattle.rep_model.proofs.Readers.{operation_at_both, put_at_both, is_acknowledged_both, retain_at_both, operation_at_keep, put_at_keep, is_acknowledged_keep, retain_at_keep}
+use Rattle.rep_model.proofs.Thin.{Thin, not_below-part, not_outdone-part, same_kept, kept_some, some_second, some_left, some_right, none_left, none_right, thin-right}
+use Rattle.rep_digest.specs.Digests.{Digested, digest}
+use Rattle.rep_answer.specs.Answers.{covers_operation, covers_put, covers_acknowledgement, covers_retain, IsRest, IsAnswer}
+use Rattle.rep_answer.proofs.Covered.{covered_operation, covered_put, covered_acknowledgement, covered_retain}
 
 uncovered_some : {A : Type 0} (b : Bool) (x : Option A) → is_some (if b then None else x) ≡ true → is_some x ≡ true
 uncovered_some true x e = absurd (true≢false (sym e))
@@ -58,6 +58,19 @@ module _ (S T X : List Op) (rest : IsRest (digest T) (keep S) X) where
       rest.puts_left c name ∙ ap (λ x. if x then None else put_at c (keep S) name) uncovered
       ∙ put_at_keep c S name ∙ ap (λ z. cond (not z) (put_at c S name) None) (none_right (is_acknowledged c T name) (is_acknowledged c S name) both)
 
+  retain_there : (t : List ℕ) (name : ℕ × ℕ) → is_some (retain_at t X name) ≡ true → is_some (retain_at t S name) ≡ true
+  retain_there t name h =
+      kept_some (not (is_outdone name (latest t S))) (retain_at t S name) (sym (ap is_some (retain_at_keep t S name))
+      ∙ uncovered_some (covers_retain (digest T) t name) (retain_at t (keep S) name) (sym (ap is_some (rest.retains_left t name)) ∙ h))
+
+  retain_same : (t : List ℕ) (name : ℕ × ℕ) → is_outdone name (latest t (T ++ S)) ≡ false → retain_at t T name ≡ None → retain_at t X name ≡ retain_at t S name
+  retain_same t name b none =
+      let in_asker = not_outdone-part t T (T ++ S) (λ n h. ap is_some (retain_at_both t T S n) ∙ some_left (retain_at t T n) (retain_at t S n) h) name b in
+      let in_answerer = not_outdone-part t S (T ++ S) (λ n h. ap is_some (retain_at_both t T S n) ∙ some_right (retain_at t T n) (retain_at t S n) h) name b in
+      let uncovered = false_from_ne_true (covers_retain (digest T) t name) (λ e. none_there (retain_at t T name) none (covered_retain t T name e in_asker)) in
+      rest.retains_left t name ∙ ap (λ x. if x then None else retain_at t (keep S) name) uncovered
+      ∙ retain_at_keep t S name ∙ ap (λ z. cond (not z) (retain_at t S name) None) in_answerer
+
   thin_answer : Thin (T ++ X) (T ++ S)
   thin_answer = record {
     operations_there = λ c name h. ap is_some (operation_at_both c T S name) ∙ some_second (operation_at c X name) (operation_at c S name) (operation_at c T name) (taken_there c name) (sym (ap is_some (operation_at_both c T X name)) ∙ h);
@@ -68,6 +81,8 @@ module _ (S T X : List Op) (rest : IsRest (digest T) (keep S) X) where
         ∙ ap (λ x. is_acknowledged c T name || x) (rest.acknowledgements_left c name ∙ ap (λ x. not (covers_acknowledgement (digest T) c name) && x) (is_acknowledged_keep c S name))
         ∙ covered_or (is_acknowledged c T name) (covers_acknowledgement (digest T) c name) (is_acknowledged c S name) (covered_acknowledgement c T name)
         ∙ sym (is_acknowledged_both c T S name);
+    retains_there = λ t name h. ap is_some (retain_at_both t T S name) ∙ some_second (retain_at t X name) (retain_at t S name) (retain_at t T name) (retain_there t name) (sym (ap is_some (retain_at_both t T X name)) ∙ h);
+    retains_same = λ t name b. retain_at_both t T X name ∙ second_same (retain_at t T name) (retain_at t X name) (retain_at t S name) (retain_same t name b) ∙ sym (retain_at_both t T S name);
   }
 
   pub completed : (Y : List Op) → Same (keep ((T ++ X) ++ Y)) (keep ((T ++ S) ++ Y))
@@ -76,12 +91,13 @@ module _ (S T X : List Op) (rest : IsRest (digest T) (keep S) X) where
 -- ---- the answer of what counts as a set is one of the set
 
 module _ (S K : List Op) (h : CountsAs S K) where
-  same_rest : (d : List ClientEntry) (X : List Op) → IsRest d (keep K) X → IsRest d (keep S) X
+  same_rest : (d : Digested) (X : List Op) → IsRest d (keep K) X → IsRest d (keep S) X
   same_rest d X rest = record {
     operations_left = λ c name. rest.operations_left c name ∙ ap (λ o. if covers_operation d c name then None else o) (h.operations_same c name);
     puts_left = λ c name. rest.puts_left c name ∙ ap (λ o. if covers_put d c name then None else o) (h.puts_same c name);
     acknowledgements_left = λ c name. rest.acknowledgements_left c name ∙ ap (λ b. not (covers_acknowledgement d c name) && b) (h.acknowledgements_same c name);
+    retains_left = λ t name. rest.retains_left t name ∙ ap (λ o. if covers_retain d t name then None else o) (h.retains_same t name);
   }
 
-  pub same_answer : (d : List ClientEntry) (deltas : List (List Op)) → IsAnswer d K deltas → IsAnswer d S deltas
+  pub same_answer : (d : Digested) (deltas : List (List Op)) → IsAnswer d K deltas → IsAnswer d S deltas
   same_answer d deltas (X, rest, split) = (X, same_rest d X rest, split)

@@ -10,7 +10,7 @@ use Rattle.rep_digest.proofs.Examples.{s1}
 
 -- of the messages 1 to 3 of gateway 2, 1 and 2 are acknowledged and 3 waits
 abbrev message : ℕ → Op
-message seq = OfPut s1 (record { origin = 2; seq = seq; topic = 0x74 ∷ []; qos = 1; body = [] })
+message seq = OfPut s1 (record { origin = 2; seq = seq; topic = 0x74 ∷ []; qos = 1; retain = false; expires = 0; body = [] })
 
 abbrev some_done : List Op
 some_done = message 3 ∷ Ack s1 2 1 2 ∷ []

@@ -8,9 +8,9 @@ use Rattle.std.proofs.lemmas.Bool.{and_parts, and_from}
 use Rattle.std.proofs.lemmas.List.Folds.{list_any-append}
 use Rattle.rep_op.specs.declared.op.Stamp.{Stamp}
 use Rattle.rep_op.specs.declared.op.Op.{Op}
-use Rattle.rep_op.specs.declared.op.Op.TheVariants.{Session as OfSession, Put as OfPut, Ack}
-use Rattle.rep_op.specs.Orders.{operation_cmp, put_cmp}
-use Rattle.rep_op.specs.Sets.{same_client, operation_of, operations, operation_at, put_of, puts, put_at, acknowledges, is_acknowledged, Same}
+use Rattle.rep_op.specs.declared.op.Op.TheVariants.{Session as OfSession, Put as OfPut, Ack, Retain as OfRetain}
+use Rattle.rep_op.specs.Orders.{operation_cmp, put_cmp, clock_of, clock_cmp}
+use Rattle.rep_op.specs.Sets.{same_client, same_topic, operation_of, operations, operation_at, put_of, puts, put_at, acknowledges, is_acknowledged, retain_of, retains, retain_at, Same}
 use Rattle.rep_ops.specs.Making.{AreWellMade, IsDeltaOf}
 use Rattle.rep_ops.specs.Splitting.{all_of}
 use Rattle.rep_model.specs.Keep.{keep}
@@ -18,10 +18,11 @@ use Rattle.rep_model.specs.Held.{IsHeld}
 use Rattle.rep_op.specs.WellMade.{is_well_made}
 use Rattle.rep_op.proofs.Names.{made_range}
 use Rattle.rep_model.specs.Ranges.{is_within, in_ranges, AreApart}
-use Rattle.rep_model.proofs.Readers.{operation_exact, put_exact, same_client-true}
+use Rattle.rep_model.proofs.Readers.{operation_exact, put_exact, clock_exact, same_client-true, same_topic-true}
 use Rattle.rep_digest.specs.declared.entry.OriginEntry.{OriginEntry}
 use Rattle.rep_digest.specs.declared.entry.ClientEntry.{ClientEntry}
-use Rattle.rep_answer.specs.Answers.{entry_of, ranges_of, acknowledged_in, waiting_in, sees, covers_operation, covers_put, covers_acknowledgement, IsRest}
+use Rattle.rep_digest.specs.Digests.{Digested}
+use Rattle.rep_answer.specs.Answers.{entry_of, ranges_of, acknowledged_in, waiting_in, sees, covers_operation, covers_put, covers_acknowledgement, covers_retain, IsRest}
 use Rattle.rep_digest.specs.WellMade.{IsOrigin, IsEntry, IsDigest}
 use Rattle.rep_answer.specs.inner.Steps.{outside, ack_of, left_by, IsLeft}
 use Rattle.rep_answer.proofs.Reaching.{in_outside, IsPartOf, parts}
@@ -36,9 +37,9 @@ found_entry : (test : ClientEntry → Bool) (origin : ℕ) (d : List ClientEntry
 found_entry test origin [] h = tt
 found_entry test origin (e ∷ d) h = elim (test e) as (λ b. AreApart (acknowledged_in origin (cond b (Some e) (find_first test d)))) [ true ↦ found_origin (λ o. origin == o.origin) e.origins h.0.origins | false ↦ found_entry test origin d h.1 ]
 
-module _ (d : List ClientEntry) (is : IsDigest d) where
-  pub acknowledged-apart : (c : List ℕ) (origin : ℕ) → AreApart (acknowledged_in origin (entry_of c d))
-  acknowledged-apart c origin = found_entry (λ e. same_client c e.client) origin d is.entries
+module _ (d : Digested) (is : IsDigest d) where
+  pub acknowledged-apart : (c : List ℕ) (origin : ℕ) → AreApart (acknowledged_in origin (entry_of c d.clients))
+  acknowledged-apart c origin = found_entry (λ e. same_client c e.client) origin d.clients is.clients.entries
 
   -- ---- session operations
 
@@ -56,22 +57,27 @@ module _ (d : List ClientEntry) (is : IsDigest d) where
   operations_left : (c : List ℕ) (W : List Op) → operations c (flat_map (left_by d) W) ≡ filter (λ e. unseen c e.0) (operations c W)
   operations_left c [] = refl
   operations_left c (OfPut e p ∷ W) =
-      elim (in_ranges p.seq (waiting_in p.origin (entry_of e d)) || in_ranges p.seq (acknowledged_in p.origin (entry_of e d))) as (λ b. filter_map (operation_of c) ((if b then [] else OfPut e p ∷ []) ++ flat_map (left_by d) W) ≡ filter (λ e. unseen c e.0) (operations c W)) [
+      elim (in_ranges p.seq (waiting_in p.origin (entry_of e d.clients)) || in_ranges p.seq (acknowledged_in p.origin (entry_of e d.clients))) as (λ b. filter_map (operation_of c) ((if b then [] else OfPut e p ∷ []) ++ flat_map (left_by d) W) ≡ filter (λ e. unseen c e.0) (operations c W)) [
         | true ↦ operations_left c W
         | false ↦ operations_left c W
       ]
-  operations_left c (Ack e o f l ∷ W) = no_operations c e o (outside (f, l) (acknowledged_in o (entry_of e d))) (flat_map (left_by d) W) ∙ operations_left c W
+  operations_left c (OfRetain t k ∷ W) =
+      elim (covers_retain d t (clock_of k)) as (λ b. filter_map (operation_of c) ((if b then [] else OfRetain t k ∷ []) ++ flat_map (left_by d) W) ≡ filter (λ e. unseen c e.0) (operations c W)) [
+        | true ↦ operations_left c W
+        | false ↦ operations_left c W
+      ]
+  operations_left c (Ack e o f l ∷ W) = no_operations c e o (outside (f, l) (acknowledged_in o (entry_of e d.clients))) (flat_map (left_by d) W) ∙ operations_left c W
   operations_left c (OfSession e s i change ∷ W) =
       let rest = operations_left c W in
-      elim (same_client c e) as (λ b. same_client c e ≡ b → filter_map (operation_of c) ((if sees (entry_of e d) (s, i) then [] else OfSession e s i change ∷ []) ++ flat_map (left_by d) W)
+      elim (same_client c e) as (λ b. same_client c e ≡ b → filter_map (operation_of c) ((if sees (entry_of e d.clients) (s, i) then [] else OfSession e s i change ∷ []) ++ flat_map (left_by d) W)
       ≡ filter (λ e. unseen c e.0) (cons_option (if b then Some ((s, i), change) else None) (operations c W))) [
         | true ↦ λ same.
-            ap (λ x. filter_map (operation_of c) ((if sees (entry_of x d) (s, i) then [] else OfSession e s i change ∷ []) ++ flat_map (left_by d) W)) (sym (same_client-true c e same))
-            ∙ elim (sees (entry_of c d) (s, i)) as (λ v. filter_map (operation_of c) ((if v then [] else OfSession e s i change ∷ []) ++ flat_map (left_by d) W) ≡ cond (not v) (((s, i), change) ∷ filter (λ e. unseen c e.0) (operations c W)) (filter (λ e. unseen c e.0) (operations c W))) [
+            ap (λ x. filter_map (operation_of c) ((if sees (entry_of x d.clients) (s, i) then [] else OfSession e s i change ∷ []) ++ flat_map (left_by d) W)) (sym (same_client-true c e same))
+            ∙ elim (sees (entry_of c d.clients) (s, i)) as (λ v. filter_map (operation_of c) ((if v then [] else OfSession e s i change ∷ []) ++ flat_map (left_by d) W) ≡ cond (not v) (((s, i), change) ∷ filter (λ e. unseen c e.0) (operations c W)) (filter (λ e. unseen c e.0) (operations c W))) [
               | true ↦ rest
               | false ↦ (λ k. cons_option (if same k then Some ((s, i), change) else None) (rest k))
             ]
-        | false ↦ λ other. elim (sees (entry_of e d) (s, i)) as (λ v. filter_map (operation_of c) ((if v then [] else OfSession e s i change ∷ []) ++ flat_map (left_by d) W) ≡ filter (λ e. unseen c e.0) (operations c W)) [
+        | false ↦ λ other. elim (sees (entry_of e d.clients) (s, i)) as (λ v. filter_map (operation_of c) ((if v then [] else OfSession e s i change ∷ []) ++ flat_map (left_by d) W) ≡ filter (λ e. unseen c e.0) (operations c W)) [
           | true ↦ rest
           | false ↦ (λ k. cons_option (if other k then Some ((s, i), change) else None) (rest k))
         ]
@@ -85,11 +91,16 @@ module _ (d : List ClientEntry) (is : IsDigest d) where
   puts_left : (c : List ℕ) (W : List Op) → puts c (flat_map (left_by d) W) ≡ filter (λ e. uncovered c e.0) (puts c W)
   puts_left c [] = refl
   puts_left c (OfSession e s i change ∷ W) =
-      elim (sees (entry_of e d) (s, i)) as (λ v. filter_map (put_of c) ((if v then [] else OfSession e s i change ∷ []) ++ flat_map (left_by d) W) ≡ filter (λ e. uncovered c e.0) (puts c W)) [
+      elim (sees (entry_of e d.clients) (s, i)) as (λ v. filter_map (put_of c) ((if v then [] else OfSession e s i change ∷ []) ++ flat_map (left_by d) W) ≡ filter (λ e. uncovered c e.0) (puts c W)) [
         | true ↦ puts_left c W
         | false ↦ puts_left c W
       ]
-  puts_left c (Ack e o f l ∷ W) = no_puts c e o (outside (f, l) (acknowledged_in o (entry_of e d))) (flat_map (left_by d) W) ∙ puts_left c W
+  puts_left c (OfRetain t k ∷ W) =
+      elim (covers_retain d t (clock_of k)) as (λ b. filter_map (put_of c) ((if b then [] else OfRetain t k ∷ []) ++ flat_map (left_by d) W) ≡ filter (λ e. uncovered c e.0) (puts c W)) [
+        | true ↦ puts_left c W
+        | false ↦ puts_left c W
+      ]
+  puts_left c (Ack e o f l ∷ W) = no_puts c e o (outside (f, l) (acknowledged_in o (entry_of e d.clients))) (flat_map (left_by d) W) ∙ puts_left c W
   puts_left c (OfPut e p ∷ W) =
       let rest = puts_left c W in
       elim (same_client c e) as (λ b. same_client c e ≡ b → filter_map (put_of c) ((if covers_put d e (p.seq, p.origin) then [] else OfPut e p ∷ []) ++ flat_map (left_by d) W)
@@ -125,7 +136,7 @@ module _ (d : List ClientEntry) (is : IsDigest d) where
 
   one_acknowledged : (c : List ℕ) (name : ℕ × ℕ) (op : Op) → IsTrue (is_well_made op) → list_any (acknowledges c name) (left_by d op) ≡ (not (covers_acknowledgement d c name) && acknowledges c name op)
   one_acknowledged c name (OfSession e s i change) made =
-      elim (sees (entry_of e d) (s, i)) as (λ v. list_any (acknowledges c name) (if v then [] else OfSession e s i change ∷ []) ≡ (not (covers_acknowledgement d c name) && false)) [ true ↦ falsely (not (covers_acknowledgement d c name)) | false ↦ falsely (not (covers_acknowledgement d c name)) ]
+      elim (sees (entry_of e d.clients) (s, i)) as (λ v. list_any (acknowledges c name) (if v then [] else OfSession e s i change ∷ []) ≡ (not (covers_acknowledgement d c name) && false)) [ true ↦ falsely (not (covers_acknowledgement d c name)) | false ↦ falsely (not (covers_acknowledgement d c name)) ]
     where
       falsely : (b : Bool) → false ≡ (b && false)
       falsely true = refl
@@ -136,17 +147,23 @@ module _ (d : List ClientEntry) (is : IsDigest d) where
       falsely : (b : Bool) → false ≡ (b && false)
       falsely true = refl
       falsely false = refl
+  one_acknowledged c name (OfRetain t k) made =
+      elim (covers_retain d t (clock_of k)) as (λ v. list_any (acknowledges c name) (if v then [] else OfRetain t k ∷ []) ≡ (not (covers_acknowledgement d c name) && false)) [ true ↦ falsely (not (covers_acknowledgement d c name)) | false ↦ falsely (not (covers_acknowledgement d c name)) ]
+    where
+      falsely : (b : Bool) → false ≡ (b && false)
+      falsely true = refl
+      falsely false = refl
   one_acknowledged c name (Ack e o f l) made =
-      acknowledged_pieces c name e o (outside (f, l) (acknowledged_in o (entry_of e d)))
-      ∙ ap (λ b. same_client c e && (name.1 == o) && b) (in_outside name.0 0 (f, l) (acknowledged_in o (entry_of e d)) (made_range e o f l made).forward (acknowledged-apart e o))
-      ∙ elim (same_client c e) as (λ a. same_client c e ≡ a → (a && (name.1 == o) && (is_within name.0 (f, l) && not (in_ranges name.0 (acknowledged_in o (entry_of e d)))))
+      acknowledged_pieces c name e o (outside (f, l) (acknowledged_in o (entry_of e d.clients)))
+      ∙ ap (λ b. same_client c e && (name.1 == o) && b) (in_outside name.0 0 (f, l) (acknowledged_in o (entry_of e d.clients)) (made_range e o f l made).forward (acknowledged-apart e o))
+      ∙ elim (same_client c e) as (λ a. same_client c e ≡ a → (a && (name.1 == o) && (is_within name.0 (f, l) && not (in_ranges name.0 (acknowledged_in o (entry_of e d.clients)))))
       ≡ (not (covers_acknowledgement d c name) && (a && (name.1 == o) && nat_le f name.0 && nat_le name.0 l))) [
         | false ↦ λ _. falsely (not (covers_acknowledgement d c name))
-        | true ↦ λ same. elim (name.1 == o) as (λ b. (name.1 == o) ≡ b → (b && (is_within name.0 (f, l) && not (in_ranges name.0 (acknowledged_in o (entry_of e d)))))
+        | true ↦ λ same. elim (name.1 == o) as (λ b. (name.1 == o) ≡ b → (b && (is_within name.0 (f, l) && not (in_ranges name.0 (acknowledged_in o (entry_of e d.clients)))))
             ≡ (not (covers_acknowledgement d c name) && (b && nat_le f name.0 && nat_le name.0 l))) [
               | false ↦ λ _. falsely (not (covers_acknowledgement d c name))
               | true ↦ λ own.
-                  (λ k. is_within name.0 (f, l) && not (in_ranges name.0 (acknowledged_in (sym (eqb-true name.1 o own) k) (entry_of (sym (same_client-true c e same) k) d))))
+                  (λ k. is_within name.0 (f, l) && not (in_ranges name.0 (acknowledged_in (sym (eqb-true name.1 o own) k) (entry_of (sym (same_client-true c e same) k) d.clients))))
                   ∙ swapped (is_within name.0 (f, l)) (not (covers_acknowledgement d c name))
             ] refl
       ] refl
@@ -176,6 +193,44 @@ module _ (d : List ClientEntry) (is : IsDigest d) where
       both true x y = refl
       both false x y = refl
 
+  -- ---- what is retained
+
+  no_retains : (t e : List ℕ) (o : ℕ) (rs : List (ℕ × ℕ)) (X : List Op) → filter_map (retain_of t) (map (ack_of e o) rs ++ X) ≡ filter_map (retain_of t) X
+  no_retains t e o [] X = refl
+  no_retains t e o (r ∷ rs) X = no_retains t e o rs X
+
+  abbrev unsaid : List ℕ → ℕ × ℕ → Bool
+  unsaid t name = not (covers_retain d t name)
+
+  retains_left : (t : List ℕ) (W : List Op) → retains t (flat_map (left_by d) W) ≡ filter (λ e. unsaid t e.0) (retains t W)
+  retains_left t [] = refl
+  retains_left t (OfSession e s i change ∷ W) =
+      elim (sees (entry_of e d.clients) (s, i)) as (λ v. filter_map (retain_of t) ((if v then [] else OfSession e s i change ∷ []) ++ flat_map (left_by d) W) ≡ filter (λ e. unsaid t e.0) (retains t W)) [
+        | true ↦ retains_left t W
+        | false ↦ retains_left t W
+      ]
+  retains_left t (OfPut e p ∷ W) =
+      elim (covers_put d e (p.seq, p.origin)) as (λ v. filter_map (retain_of t) ((if v then [] else OfPut e p ∷ []) ++ flat_map (left_by d) W) ≡ filter (λ e. unsaid t e.0) (retains t W)) [
+        | true ↦ retains_left t W
+        | false ↦ retains_left t W
+      ]
+  retains_left t (Ack e o f l ∷ W) = no_retains t e o (outside (f, l) (acknowledged_in o (entry_of e d.clients))) (flat_map (left_by d) W) ∙ retains_left t W
+  retains_left t (OfRetain u k ∷ W) =
+      let rest = retains_left t W in
+      elim (same_topic t u) as (λ b. same_topic t u ≡ b → filter_map (retain_of t) ((if covers_retain d u (clock_of k) then [] else OfRetain u k ∷ []) ++ flat_map (left_by d) W)
+      ≡ filter (λ e. unsaid t e.0) (cons_option (if b then Some (clock_of k, k) else None) (retains t W))) [
+        | true ↦ λ same.
+            ap (λ x. filter_map (retain_of t) ((if covers_retain d x (clock_of k) then [] else OfRetain u k ∷ []) ++ flat_map (left_by d) W)) (sym (same_topic-true t u same))
+            ∙ elim (covers_retain d t (clock_of k)) as (λ v. filter_map (retain_of t) ((if v then [] else OfRetain u k ∷ []) ++ flat_map (left_by d) W) ≡ cond (not v) ((clock_of k, k) ∷ filter (λ e. unsaid t e.0) (retains t W)) (filter (λ e. unsaid t e.0) (retains t W))) [
+              | true ↦ rest
+              | false ↦ (λ i. cons_option (if same i then Some (clock_of k, k) else None) (rest i))
+            ]
+        | false ↦ λ other. elim (covers_retain d u (clock_of k)) as (λ v. filter_map (retain_of t) ((if v then [] else OfRetain u k ∷ []) ++ flat_map (left_by d) W) ≡ filter (λ e. unsaid t e.0) (retains t W)) [
+          | true ↦ rest
+          | false ↦ (λ i. cons_option (if other i then Some (clock_of k, k) else None) (rest i))
+        ]
+      ] refl
+
   -- ---- together
 
   turned : {X : Type 0} (b : Bool) (x : Option X) → cond (not b) x None ≡ (if b then None else x)
@@ -195,6 +250,11 @@ module _ (d : List ClientEntry) (is : IsDigest d) where
         ∙ turned (covers_put d c name) (put_at c W name)
         ∙ ap (λ x. if covers_put d c name then None else x) (same.puts_same c name);
     acknowledgements_left = λ c name. acknowledgements_left c name W made ∙ ap (λ x. not (covers_acknowledgement d c name) && x) (same.acknowledgements_same c name);
+    retains_left = λ t name.
+        ap (find clock_cmp name) (retains_left t W)
+        ∙ find-where_key clock_cmp (unsaid t) name (λ x e. ap (unsaid t) (sym (clock_exact name x e))) (retains t W)
+        ∙ turned (covers_retain d t name) (retain_at t W name)
+        ∙ ap (λ x. if covers_retain d t name then None else x) (same.retains_same t name);
   }
 
   -- ---- what is left is well made
@@ -213,9 +273,10 @@ module _ (d : List ClientEntry) (is : IsDigest d) where
   all_of_both (x ∷ xs) ys f g = (f.0, all_of_both xs ys f.1 g)
 
   made_one : (op : Op) → IsTrue (is_well_made op) → AreWellMade (left_by d op)
-  made_one (OfSession e s i change) made = elim (sees (entry_of e d) (s, i)) as (λ v. AreWellMade (if v then [] else OfSession e s i change ∷ [])) [ true ↦ tt | false ↦ (made, tt) ]
+  made_one (OfSession e s i change) made = elim (sees (entry_of e d.clients) (s, i)) as (λ v. AreWellMade (if v then [] else OfSession e s i change ∷ [])) [ true ↦ tt | false ↦ (made, tt) ]
   made_one (OfPut e p) made = elim (covers_put d e (p.seq, p.origin)) as (λ v. AreWellMade (if v then [] else OfPut e p ∷ [])) [ true ↦ tt | false ↦ (made, tt) ]
-  made_one (Ack e o f l) made = made_pieces e o f l made (outside (f, l) (acknowledged_in o (entry_of e d))) (parts (f, l) (acknowledged_in o (entry_of e d)) (made_range e o f l made).forward)
+  made_one (OfRetain t k) made = elim (covers_retain d t (clock_of k)) as (λ v. AreWellMade (if v then [] else OfRetain t k ∷ [])) [ true ↦ tt | false ↦ (made, tt) ]
+  made_one (Ack e o f l) made = made_pieces e o f l made (outside (f, l) (acknowledged_in o (entry_of e d.clients))) (parts (f, l) (acknowledged_in o (entry_of e d.clients)) (made_range e o f l made).forward)
 
   pub left_made : (W : List Op) → AreWellMade W → AreWellMade (flat_map (left_by d) W)
   left_made [] made = tt

@@ -8,13 +8,15 @@ ghost use Rattle.rep_op.specs.WellMade as made;
 ghost use Rattle.rep_model.specs.Ranges as range_list;
 ghost use Rattle.rep_answer.specs.Answers.{IsAnswer};
 ghost use Rattle.rep_answer.specs.Answers as spec;
-ghost use Rattle.rep_digest.specs.WellMade.{IsEntry, IsDigest};
+ghost use Rattle.rep_digest.specs.WellMade.{IsEntry, AreClients};
+ghost use Rattle.rep_answer.specs.Answers.{entry_of};
 ghost use Rattle.rep_answer.specs.inner.Steps.{before, outside, outside_from, ack_of, left_of, left_by, IsLeft};
 ghost use Rattle.rep_answer.specs.inner.Steps as steps;
 
 use super::cover::{
     acknowledged_in, beginning_by, ending_from, find_entry, in_ranges, sees, waiting_in,
 };
+use super::topic::covers_retain;
 use octets::NoMemory;
 use rep_digest::{ClientEntry, Digest};
 use rep_model::Replica;
@@ -31,7 +33,7 @@ pub fn answer<R: Replica>(
     ensures ok { IfOk result (λ deltas. IsAnswer digest.now (R.kept replica.now) deltas.items) }
     ensures err { IfErr result (λ fault. fault ≡ OpsFault.Memory) }
 {
-    let ops = left_of_replica(alloc, replica, digest.entries())?;
+    let ops = left_of_replica(alloc, replica, digest)?;
     Ok(deltas_of(alloc, ops)?)
 }
 
@@ -39,64 +41,73 @@ pub fn answer<R: Replica>(
 fn left_of_replica<R: Replica>(
     alloc: Global,
     replica: &R,
-    entries: &[ClientEntry],
+    digest: &Digest,
 ) -> Result<Vec<Op>, NoMemory>
-    requires { IsDigest entries.now }
     ensures { IfOk result (λ ops. AreWellMade ops.items
-        × IsLeft entries.now (R.kept replica.now) ops.items) }
+        × IsLeft digest.now (R.kept replica.now) ops.items) }
 {
+    let _clients = digest.clients();
     let Ok(held) = replica.held(alloc) else {
         return Err(NoMemory);
     };
-    left_of_deltas(alloc, entries, held.as_slice())
+    left_of_deltas(alloc, digest, held.as_slice())
 }
 
 /// What a digest leaves of the operations of deltas.
-fn left_of_deltas(
-    alloc: Global,
-    entries: &[ClientEntry],
-    deltas: &[Delta],
-) -> Result<Vec<Op>, NoMemory>
-    requires { IsDigest entries.now }
-    ensures { IfOk result (λ ops. ops.items ≡ flat_map (left_by entries.now) (all_of deltas.now)) }
+fn left_of_deltas(alloc: Global, digest: &Digest, deltas: &[Delta]) -> Result<Vec<Op>, NoMemory>
+    ensures { IfOk result (λ ops. ops.items ≡ flat_map (left_by digest.now) (all_of deltas.now)) }
 {
     let mut left = Vec::new(alloc);
     for delta in deltas {
-        add_left(alloc, &mut left, entries, delta.ops())?;
+        add_left(alloc, &mut left, digest, delta.ops())?;
     }
     Ok(left)
 }
 
 /// Copies what a digest leaves of operations after the others.
-fn add_left(
-    alloc: Global,
-    left: &mut Vec<Op>,
-    entries: &[ClientEntry],
-    ops: &[Op],
-) -> Result<(), NoMemory>
-    requires digest { IsDigest entries.now }
-    requires made { AreWellMade ops.now }
+fn add_left(alloc: Global, left: &mut Vec<Op>, digest: &Digest, ops: &[Op]) -> Result<(), NoMemory>
+    requires { AreWellMade ops.now }
     ensures { OnOk result (left.new.items ≡ left.old.items ++ flat_map
-        (left_by entries.now) ops.now) }
+        (left_by digest.now) ops.now) }
 {
     for op in ops {
-        add_left_of(alloc, left, entries, op)?;
+        add_left_of(alloc, left, digest, op)?;
     }
     Ok(())
 }
 
 /// Copies what a digest leaves of an operation after the others.
-fn add_left_of(
+fn add_left_of(alloc: Global, left: &mut Vec<Op>, digest: &Digest, op: &Op) -> Result<(), NoMemory>
+    requires { IsTrue (made.is_well_made op.now) }
+    ensures { OnOk result (left.new.items ≡ left.old.items ++ left_by digest.now op.now) }
+{
+    match op {
+        Op::Session { client, .. } => add_left_in(alloc, left, digest.clients(), client, op),
+        Op::Put { client, .. } => add_left_in(alloc, left, digest.clients(), client, op),
+        Op::Ack { client, .. } => add_left_in(alloc, left, digest.clients(), client, op),
+        Op::Retain { topic, retained } => {
+            if !covers_retain(digest.topics(), topic, retained) {
+                add_copy(alloc, left, op)?;
+            }
+            Ok(())
+        }
+    }
+}
+
+/// Copies what the entries of clients leave of an operation of a client after the others.
+fn add_left_in(
     alloc: Global,
     left: &mut Vec<Op>,
     entries: &[ClientEntry],
+    client: &ClientId,
     op: &Op,
 ) -> Result<(), NoMemory>
-    requires digest { IsDigest entries.now }
+    requires clients { AreClients entries.now }
     requires made { IsTrue (made.is_well_made op.now) }
-    ensures { OnOk result (left.new.items ≡ left.old.items ++ left_by entries.now op.now) }
+    ensures { OnOk result (left.new.items
+        ≡ left.old.items ++ left_of (entry_of client.now entries.now) op.now) }
 {
-    match find_entry(entries, op.client()) {
+    match find_entry(entries, client) {
         None => add_copy(alloc, left, op),
         Some(entry) => add_left_by(alloc, left, entry, op),
     }
@@ -134,6 +145,7 @@ fn add_left_by(
             let ranges = ending_from(*first, ranges);
             add_outside(alloc, left, client, *origin, (*first, *last), ranges)?;
         }
+        Op::Retain { .. } => add_copy(alloc, left, op)?,
     }
     Ok(())
 }

@@ -1,4 +1,4 @@
-//! What a digest covers.
+//! What a digest covers of clients.
 
 ghost use Rattle.std.specs.Prelude.{◌≡◌, ◌==◌, Some, None, MatchOption};
 ghost use Rattle.std.specs.List.{find};
@@ -10,7 +10,7 @@ ghost use Rattle.rep_model.specs.Ranges.{AreApart};
 ghost use Rattle.rep_model.specs.Ranges as range_list;
 ghost use Rattle.rep_answer.specs.Answers.{entry_of};
 ghost use Rattle.rep_answer.specs.Answers as spec;
-ghost use Rattle.rep_digest.specs.WellMade.{IsEntry, ClientsAscend, IsDigest};
+ghost use Rattle.rep_digest.specs.WellMade.{IsEntry, ClientsAscend, AreClients};
 ghost use Rattle.rep_answer.specs.inner.Steps.{begins_by};
 ghost use Rattle.rep_answer.specs.inner.Steps as steps;
 
@@ -19,7 +19,7 @@ use rep_ops::{ClientId, Stamp};
 
 /// The entry of a client. The time is logarithmic.
 pub fn find_entry<'a>(entries: &'a [ClientEntry], client: &ClientId) -> Option<&'a ClientEntry>
-    requires { IsDigest entries.now }
+    requires { AreClients entries.now }
     ensures { MatchOption result (entry_of client.now entries.now ≡ None)
         (λ entry. (entry_of client.now entries.now ≡ Some entry.now) × IsEntry entry.now) }
 {

@@ -5,8 +5,7 @@ ghost use Rattle.std.specs.Prelude.{◌≡◌, ◌++◌, List};
 ghost use Rattle.rep_op.specs.declared.op.Op.{Op};
 ghost use Rattle.rep_op.specs.Sets.{Same};
 ghost use Rattle.rep_model.specs.Keep.{keep, CountsAs};
-ghost use Rattle.rep_digest.specs.Digests.{digest};
-ghost use Rattle.rep_digest.specs.declared.entry.ClientEntry.{ClientEntry};
+ghost use Rattle.rep_digest.specs.Digests.{Digested, digest};
 ghost use Rattle.rep_answer.specs.Answers.{IsRest, IsAnswer};
 
 /// An answer completes: T with the answer X of S to the digest of T keeps what T with all of S
@@ -20,6 +19,6 @@ pub fn answer_completes()
 /// set.
 pub fn digest_laws()
     ensures digest { (S K : List Op) → CountsAs S K → digest K ≡ digest S }
-    ensures answer { (d : List ClientEntry) (S K : List Op) (deltas : List (List Op)) →
+    ensures answer { (d : Digested) (S K : List Op) (deltas : List (List Op)) →
         CountsAs S K → IsAnswer d K deltas → IsAnswer d S deltas }
 {}

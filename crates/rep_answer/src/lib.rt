@@ -5,7 +5,7 @@
 //! after, with the answer it keeps what it would keep had it taken all that the peer has
 //! (`answer_completes`).
 //!
-//! - `cover`: what a digest covers.
+//! - `cover`, `topic`: what a digest covers of clients, and of topics.
 //! - `answering`: what it leaves of what a replica must keep, as deltas (`answer`).
 //! - `laws`: that an answer completes; that what counts as a set has its digest, and gives its
 //!   answers.
@@ -16,6 +16,7 @@
 mod answering;
 mod cover;
 mod laws;
+mod topic;
 
 pub use answering::answer;
 pub use laws::{answer_completes, digest_laws};

@@ -7,9 +7,10 @@ use Rattle.rep_model.proofs.Thin.{visible-thin, history-thin}
 use Rattle.rep_model.proofs.Joins.{same_by_counts}
 use Rattle.rep_model.proofs.Limits.{pending-counts, acknowledged-counts}
 use Rattle.rep_model.proofs.Named.{clients-counts}
-use Rattle.rep_digest.specs.Digests.{number_of, origin_entry, has_ranges, numbers_from, origin_entries, client_entry, digest}
+use Rattle.rep_digest.specs.Digests.{number_of, origin_entry, has_ranges, numbers_from, origin_entries, client_entry, client_entries, digest}
 use Rattle.rep_model.specs.Limits.{joined}
 use Rattle.std.specs.List.{filter_map}
+use Rattle.rep_digest.proofs.Retaining.{topics_counted}
 
 module _ (S K : List Op) (h : CountsAs S K) where
   same_origin : (c : List ℕ) (origin : ℕ) → origin_entry c K origin ≡ origin_entry c S origin
@@ -31,5 +32,8 @@ module _ (S K : List Op) (h : CountsAs S K) where
     origins = same_origins c i;
   }
 
+  same_clients : client_entries K ≡ client_entries S
+  same_clients = λ i. map (λ c. same_client_entry c i) (clients-counts S K h i)
+
   pub same_digest : digest K ≡ digest S
-  same_digest = λ i. map (λ c. same_client_entry c i) (clients-counts S K h i)
+  same_digest = λ i. record { clients = same_clients i; topics = topics_counted S K h i }

@@ -5,19 +5,22 @@ use Rattle.std.specs.Int.{w16, w32, w64, to_be_bytes}
 use Rattle.std.proofs.lemmas.Bool.{and_parts, and_from, ne_eqb, eqb-false}
 use Rattle.rep_op.specs.ClientIds.{IsClientId}
 use Rattle.rep_op.specs.declared.op.Stamp.{Stamp}
-use Rattle.rep_octets.specs.Reading.{both, made, ranged, octet_at, number_at, is_counted, client_at, range_at}
-use Rattle.rep_octets.specs.Spelling.{client_octets}
-use Rattle.rep_octets.proofs.Laws.{Law, both_law, made_law, ranged_law, same_law, octet_law, number_law, wide16, wide32, wide64}
-use Rattle.rep_octets.proofs.Fields.{one_octet, IsOctet, client_law}
-use Rattle.rep_octets.proofs.Parts.{IsOne, one_law, two_law}
-use Rattle.rep_octets.proofs.Tables.{FitsCounted, counted_law}
-use Rattle.rep_octets.proofs.Operations.{range_text, FitsRange, range_law}
+use Rattle.rep_read.specs.Reading.{both, made, ranged, octet_at, number_at, is_counted, client_at, topic_at, range_at}
+use Rattle.sn_topic.specs.Topics.{IsName}
+use Rattle.rep_op.specs.Sessions.{text_octets}
+use Rattle.rep_op.specs.Spelling.{client_octets}
+use Rattle.rep_read.proofs.Laws.{Law, both_law, made_law, ranged_law, same_law, octet_law, number_law, wide16, wide32, wide64}
+use Rattle.rep_read.proofs.Fields.{one_octet, IsOctet, client_law, topic_law}
+use Rattle.rep_read.proofs.Parts.{IsEight, eight_law, IsOne, one_law, two_law}
+use Rattle.rep_read.proofs.Tables.{FitsCounted, counted_law}
+use Rattle.rep_read.proofs.Operations.{range_text, FitsRange, range_law}
 use Rattle.rep_digest.specs.declared.entry.OriginEntry.{OriginEntry}
 use Rattle.rep_digest.specs.declared.entry.ClientEntry.{ClientEntry}
+use Rattle.rep_digest.specs.declared.entry.RetainedEntry.{RetainedEntry}
 use Rattle.rep_digest.specs.Digests.{has_ranges}
 use Rattle.rep_digest.specs.WellMade.{IsRange, IsSeen}
-use Rattle.rep_digest.specs.Spelling.{range_octets, ranges_octets, origin_octets, seen_octets, origins_octets, entry_octets}
-use Rattle.rep_digest.specs.Reading.{ranges_at, origin_of, origin_at, is_seen, stamp_of, seen_at, origins_at, entry_of, entry_at}
+use Rattle.rep_digest.specs.Spelling.{range_octets, ranges_octets, origin_octets, seen_octets, origins_octets, entry_octets, retained_octets}
+use Rattle.rep_digest.specs.Reading.{ranges_at, origin_of, origin_at, is_seen, stamp_of, seen_at, origins_at, entry_of, entry_at, retained_of, retained_at}
 
 -- ---- ranges
 
@@ -170,3 +173,16 @@ entry_law =
     made_law entry_of (both client_at (both seen_at origins_at)) entry_text FitsEntryParts
     (both_law client_at client_octets IsClientId client_law (both seen_at origins_at) _ _ (both_law seen_at seen_text FitsSeen seen_law origins_at origins_octets FitsOrigins origins_law))
     entry_octets FitsEntry entry_over entry_back
+
+-- ---- topics
+
+abbrev pub FitsRetained : RetainedEntry → Type 0
+FitsRetained e = IsName e.topic × (IsEight e.clock × IsOne e.gateway)
+
+pub retained_law : Law retained_at retained_octets FitsRetained
+unfolding retained_at
+retained_law =
+    made_law retained_of (both topic_at (both (ranged is_counted (number_at w64)) (ranged is_counted octet_at))) _ _
+    (both_law topic_at text_octets IsName topic_law (both (ranged is_counted (number_at w64)) (ranged is_counted octet_at)) _ _
+    (both_law (ranged is_counted (number_at w64)) (to_be_bytes w64) IsEight eight_law (ranged is_counted octet_at) one_octet IsOne one_law))
+    retained_octets FitsRetained (λ x h. (refl, h)) (λ e h. ((e.topic, (e.clock, e.gateway)), refl, h, refl))

@@ -1,25 +1,35 @@
 -- The reader of digests.
-use Rattle.std.proofs.Common.{◌≡◌, ℕ, ◌+◌, ◌*◌, ◌<◌, ◌≤◌, ◌^◌, true, List, [], ◌∷◌, ◌++◌, length, take, get_or, Ok, refl, ap, arith, leb-true, le-leb, Less, Ordering, Equal, Greater, is_lt}
-use Rattle.std.specs.Prelude.{nat_lt}
+use Rattle.std.proofs.Common.{◌≡◌, ℕ, suc, ◌+◌, ◌*◌, ◌<◌, ◌≤◌, ◌^◌, Bool, true, false, cond, List, [], ◌∷◌, ◌++◌, length, take, get_or, Result, Ok, Err, refl, sym, ap, subst, ◌∙◌, inl, inr, arith, leb-true, le-leb, Less, Ordering, Equal, Greater, is_lt}
+use Rattle.std.specs.Prelude.{nat_lt, ◌==◌}
 use Rattle.std.specs.List.{list_all, flat_map, AllByRecursion}
-use Rattle.std.proofs.lemmas.Bool.{and_parts, and_from, ltb-true, lt-ltb}
+use Rattle.std.proofs.lemmas.Bool.{cases_Bool, and_parts, and_from, eqb-true, ltb-true, lt-ltb}
+use Rattle.std.proofs.lemmas.Bool.Decides.{nat_tests}
 use Rattle.std.proofs.lemmas.List.{length-append}
 use Rattle.std.proofs.lemmas.List.Folds.{length-flat_map-take}
-use Rattle.rep_op.specs.Orders.{client_cmp}
-use Rattle.rep_ops.specs.Reading.{AreOctets, follows_last}
+use Rattle.rep_op.specs.declared.fault.OpsFault.{OpsFault}
+use Rattle.rep_op.specs.declared.fault.OpsFault.TheVariants as faults
+use Rattle.rep_op.specs.declared.version.Version.TheVariants.{One, Two}
+use Rattle.rep_op.specs.Sessions.{text_octets}
+use Rattle.rep_op.specs.Orders.{client_cmp, topic_name_cmp}
+use Rattle.rep_read.specs.Reading.{Reader, ◌>>=◌, both, made, octet_at}
+use Rattle.rep_read.proofs.Laws.{IsBytes, Taken, IsStable, Law, bind_ok, bind_stable, both_law, made_law, ok_is, octet_law}
+use Rattle.rep_ops.specs.Reading.{AreOctets, follows_last, values_at}
 use Rattle.byteorder.specs.Endian.{big_bytes}
-use Rattle.rep_octets.specs.Spelling.{client_octets}
-use Rattle.rep_ops.specs.Spelling.{max_octets}
-use Rattle.rep_ops.proofs.Listed.{FitsText, Order, whole_takes, whole_again}
+use Rattle.rep_op.specs.Spelling.{client_octets}
+use Rattle.rep_ops.specs.Spelling.{text_of, max_octets}
+use Rattle.rep_ops.proofs.Listed.{FitsText, Order, values_law}
+use Rattle.rep_ops.proofs.Whole.{takes, again}
 use Rattle.rep_model.specs.Ranges.{AreApartFrom, AreApart}
 use Rattle.rep_model.proofs.Joins.{all-both, all-right}
 use Rattle.rep_digest.specs.declared.entry.OriginEntry.{OriginEntry}
 use Rattle.rep_digest.specs.declared.entry.ClientEntry.{ClientEntry}
-use Rattle.rep_digest.specs.WellMade.{IsRange, IsOrigin, OriginsAscend, IsEntry, ClientsAscend, IsDigest}
-use Rattle.rep_digest.specs.Spelling.{ranges_octets, range_octets, origin_octets, seen_octets, origins_octets, entry_octets, spelling, IsWithinLimit}
+use Rattle.rep_digest.specs.declared.entry.RetainedEntry.{RetainedEntry}
+use Rattle.rep_digest.specs.Digests.{Digested}
+use Rattle.rep_digest.specs.WellMade.{IsRange, IsOrigin, OriginsAscend, IsEntry, ClientsAscend, AreClients, IsRetained, TopicsAscend, AreTopics, IsDigest}
+use Rattle.rep_digest.specs.Spelling.{ranges_octets, range_octets, origin_octets, seen_octets, origins_octets, entry_octets, retained_octets, topics_octets, spelled, spelling, IsWithinLimit}
 use Rattle.rep_digest.specs.inner.Spelling.{AreFew, IsWritable}
-use Rattle.rep_digest.specs.Reading.{entry_at, ranges_apart, are_apart, origins_ascend, is_ordered, is_next, may_follow, reading}
-use Rattle.rep_digest.proofs.Entries.{FitsOrigin, FitsEntry, entry_law}
+use Rattle.rep_digest.specs.Reading.{entry_at, retained_at, ranges_apart, are_apart, origins_ascend, is_ordered, is_next, may_follow, topic_may_follow, topics_at, of_clients, of_both, clients_at, digest_at, reading}
+use Rattle.rep_digest.proofs.Entries.{FitsOrigin, FitsEntry, entry_law, FitsRetained, retained_law}
 
 -- ---- the order
 
@@ -210,7 +220,7 @@ all_ordered : (d : List ClientEntry) → AllByRecursion IsEntry d → AllByRecur
 all_ordered [] h = tt
 all_ordered (e ∷ d) h = (ordered e h.0, all_ordered d h.1)
 
-pub fits_text : (d : List ClientEntry) → IsDigest d → IsWithinLimit d → FitsText FitsEntry Up d
+pub fits_text : (d : List ClientEntry) → AreClients d → length (text_of One entry_octets d) ≤ max_octets → FitsText FitsEntry Up d
 fits_text d h size =
     let some = length_entries d in
     let sum = length-append (big_bytes 4 (length d)) (flat_map entry_octets d) in
@@ -221,6 +231,208 @@ fits_text d h size =
       ascending = (all_ordered d h.entries, h.ascend);
     }
 
+-- ---- topics
+
+topics_push : (front : List RetainedEntry) (e : RetainedEntry) → TopicsAscend front → topic_may_follow front e ≡ true → TopicsAscend (front ++ e ∷ [])
+topics_push [] e up t = tt
+topics_push (a ∷ []) e up t = (lt_less (topic_name_cmp a.topic e.topic) t, tt)
+topics_push (a ∷ b ∷ more) e up t = (up.0, topics_push (b ∷ more) e up.1 t)
+
+topics_from : (front : List RetainedEntry) (e : RetainedEntry) (new : List RetainedEntry) → TopicsAscend (front ++ e ∷ new) → topic_may_follow front e ≡ true
+topics_from [] e new up = refl
+topics_from (a ∷ []) e new up = ap is_lt up.0
+topics_from (a ∷ b ∷ more) e new up = topics_from (b ∷ more) e new up.1
+
+topics_order : Order topic_may_follow TopicsAscend
+topics_order = record { none = tt; push = topics_push; from = topics_from }
+
+a_topic : (e : RetainedEntry) → FitsRetained e → IsRetained e
+a_topic e h = record {
+  topic = h.0;
+  clock = (leb-true 1 e.clock h.1.0.1, h.1.0.0);
+  gateway = (leb-true 1 e.gateway h.1.1.1, h.1.1.0);
+}
+
+of_topic : (e : RetainedEntry) → IsRetained e → FitsRetained e
+of_topic e h = (h.topic, ((h.clock.1, le-leb 1 e.clock h.clock.0), (h.gateway.1, le-leb 1 e.gateway h.gateway.0)))
+
+pub length_topics : (ts : List RetainedEntry) → length ts ≤ length (flat_map retained_octets ts)
+length_topics [] = omega arith
+length_topics (e ∷ ts) =
+    let more = length_topics ts in
+    let sum = length-append (retained_octets e) (flat_map retained_octets ts) in
+    let one = length-append (text_octets e.topic) (big_bytes 8 e.clock ++ e.gateway ∷ []) in
+    let last = length-append (big_bytes 8 e.clock) (e.gateway ∷ []) in
+    omega (arith, more, sum, one, last)
+
+pub fits_topics : (ts : List RetainedEntry) → AreTopics ts → length (topics_octets ts) ≤ max_octets → FitsText FitsRetained TopicsAscend ts
+fits_topics ts h size =
+    let some = length_topics ts in
+    let sum = length-append (big_bytes 4 (length ts)) (flat_map retained_octets ts) in
+    record {
+      few = omega (arith, some, sum, size);
+      fits = each_weaker IsRetained FitsRetained of_topic ts h.entries;
+      ascending = h.ascend;
+    }
+
+-- ---- both
+
+abbrev clients_text : List ClientEntry → List ℕ
+clients_text d = big_bytes 4 (length d) ++ flat_map entry_octets d
+
+abbrev FitsClients : List ClientEntry → Type 0
+FitsClients d = FitsText FitsEntry Up d
+
+abbrev FitsTopics : List RetainedEntry → Type 0
+FitsTopics ts = FitsText FitsRetained TopicsAscend ts
+
+clients_law : Law clients_at clients_text FitsClients
+clients_law = values_law entry_at entry_octets FitsEntry entry_law may_follow Up order
+
+listed_law : Law (values_at retained_at topic_may_follow) topics_octets FitsTopics
+listed_law = values_law retained_at retained_octets FitsRetained retained_law topic_may_follow TopicsAscend topics_order
+
+abbrev if_some : List RetainedEntry × List ℕ → Result (List RetainedEntry × List ℕ) OpsFault
+if_some x = cond (length x.0 == 0) (Err faults.Version) (Ok x)
+
+some_ok : (b : Bool) (x y : List RetainedEntry × List ℕ) → cond b (Err faults.Version) (Ok x) ≡ Ok y → (b ≡ false) × (x ≡ y)
+some_ok true x y e = absurd (let wrong : Err faults.Version ≡ Ok y = e in cc)
+some_ok false x y e = (refl, ok_is x y e)
+
+some_again : (b : Bool) (x : List RetainedEntry × List ℕ) → b ≡ false → cond b (Err faults.Version) (Ok x) ≡ Ok x
+some_again b x e = rw e refl
+
+some_stable : (b : Bool) (x : List RetainedEntry × List ℕ) (more : List ℕ) → IsStable more (cond b (Err faults.Version) (Ok x)) (cond b (Err faults.Version) (Ok (x.0, x.1 ++ more)))
+some_stable true x more = inr refl
+some_stable false x more = inr refl
+
+abbrev AreSome : List RetainedEntry → Type 0
+AreSome ts = FitsTopics ts × ((length ts == 0) ≡ false)
+
+topics_law : Law topics_at topics_octets AreSome
+unfolding topics_at
+topics_law = record {
+  takes = λ bytes x fits e.
+      let b = bind_ok (values_at retained_at topic_may_follow bytes) if_some x e in
+      let t = listed_law.takes bytes b.0 fits b.1 in
+      let g = some_ok (length b.0.0 == 0) b.0 x b.2 in
+      subst (λ (y : List RetainedEntry × List ℕ). Taken topics_octets AreSome bytes y) g.1 (record { parts = t.parts; rest = t.rest; fits = (t.fits, g.0) });
+  again = λ d rest h.
+      ap (λ (r : Result (List RetainedEntry × List ℕ) OpsFault). r >>= if_some) (listed_law.again d rest h.0) ∙ some_again (length d == 0) (d, rest) h.1;
+  stable = λ bytes more. bind_stable more (values_at retained_at topic_may_follow bytes) (values_at retained_at topic_may_follow (bytes ++ more)) if_some (listed_law.stable bytes more) (λ x. some_stable (length x.0 == 0) x more);
+}
+
+abbrev FitsAlone : Digested → Type 0
+FitsAlone d = FitsClients d.clients × (d.topics ≡ [])
+
+alone_law : Law (made of_clients clients_at) (λ d. clients_text d.clients) FitsAlone
+alone_law = made_law of_clients clients_at clients_text FitsClients clients_law (λ d. clients_text d.clients) FitsAlone
+    (λ cs h. (refl, (h, refl))) (λ d h. (d.clients, (λ i. record { clients = d.clients; topics = sym h.1 i }), h.0, refl))
+
+abbrev FitsBoth : Digested → Type 0
+FitsBoth d = FitsClients d.clients × AreSome d.topics
+
+abbrev both_text : Digested → List ℕ
+both_text d = clients_text d.clients ++ topics_octets d.topics
+
+two_law : Law (made of_both (both clients_at topics_at)) both_text FitsBoth
+two_law = made_law of_both (both clients_at topics_at) (λ x. clients_text x.0 ++ topics_octets x.1) (λ x. FitsClients x.0 × AreSome x.1)
+    (both_law clients_at clients_text FitsClients clients_law topics_at topics_octets AreSome topics_law) both_text FitsBoth
+    (λ x h. (refl, h)) (λ d h. ((d.clients, d.topics), refl, h, refl))
+
+abbrev pub FitsDigest : Digested → Type 0
+FitsDigest d = FitsClients d.clients × FitsTopics d.topics
+
+no_topics : FitsTopics []
+no_topics = record { few = omega arith; fits = tt; ascending = tt }
+
+spelled_two : (cs : List ClientEntry) (ts : List RetainedEntry) → (length ts == 0) ≡ false → spelled cs ts ≡ 2 ∷ (clients_text cs ++ topics_octets ts)
+spelled_two cs [] e = absurd (let wrong : true ≡ false = e in cc)
+spelled_two cs (t ∷ ts) e = refl
+
+took_one : (octet : ℕ) (bytes after : List ℕ) (x : Digested × List ℕ) → octet ≡ 1 → bytes ≡ octet ∷ after → IsBytes after → made of_clients clients_at after ≡ Ok x → Taken spelling FitsDigest bytes x
+took_one octet bytes after x is parts fits e =
+    let t = alone_law.takes after x fits e in
+    let none = t.fits.1 in
+    record {
+      parts = parts ∙ (λ i. is i ∷ t.parts i) ∙ ap (λ ts. spelled x.0.clients ts ++ x.1) (sym none);
+      rest = t.rest;
+      fits = (t.fits.0, subst FitsTopics (sym none) no_topics);
+    }
+
+took_two : (octet : ℕ) (bytes after : List ℕ) (x : Digested × List ℕ) → octet ≡ 2 → bytes ≡ octet ∷ after → IsBytes after → made of_both (both clients_at topics_at) after ≡ Ok x → Taken spelling FitsDigest bytes x
+took_two octet bytes after x is parts fits e =
+    let t = two_law.takes after x fits e in
+    record {
+      parts = parts ∙ (λ i. is i ∷ t.parts i) ∙ ap (λ (z : List ℕ). z ++ x.1) (sym (spelled_two x.0.clients x.0.topics t.fits.1.1));
+      rest = t.rest;
+      fits = (t.fits.0, t.fits.1.0);
+    }
+
+abbrev by_version : ℕ × List ℕ → Result (Digested × List ℕ) OpsFault
+by_version x = cond (x.0 == 1) (made of_clients clients_at x.1) (cond (x.0 == 2) (made of_both (both clients_at topics_at) x.1) (Err faults.Version))
+
+digest_takes : (bytes : List ℕ) (x : Digested × List ℕ) → IsBytes bytes → digest_at bytes ≡ Ok x → Taken spelling FitsDigest bytes x
+unfolding digest_at
+digest_takes bytes x fits e =
+    let b = bind_ok (octet_at bytes) by_version x e in
+    let t = octet_law.takes bytes b.0 fits b.1 in
+    elim (cases_Bool (b.0.0 == 1)) [
+      | inl one ↦ (let read : made of_clients clients_at b.0.1 ≡ Ok x = rw one at b.2 in took_one b.0.0 bytes b.0.1 x (eqb-true _ _ one) t.parts t.rest read)
+      | inr not_one ↦ (
+          let next : cond (b.0.0 == 2) (made of_both (both clients_at topics_at) b.0.1) (Err faults.Version) ≡ Ok x = rw not_one at b.2 in
+          elim (cases_Bool (b.0.0 == 2)) [
+            | inl two ↦ (let read : made of_both (both clients_at topics_at) b.0.1 ≡ Ok x = rw two at next in took_two b.0.0 bytes b.0.1 x (eqb-true _ _ two) t.parts t.rest read)
+            | inr neither ↦ absurd (let wrong : Err faults.Version ≡ Ok x = rw neither at next in cc)
+          ])
+    ]
+
+again_in : (cs : List ClientEntry) (ts : List RetainedEntry) (rest : List ℕ) → FitsClients cs → FitsTopics ts → digest_at (spelled cs ts ++ rest) ≡ Ok (of_both (cs, ts), rest)
+unfolding digest_at
+again_in cs [] rest c t = alone_law.again (of_clients cs) rest (c, refl)
+again_in cs (e ∷ ts) rest c t = two_law.again (of_both (cs, e ∷ ts)) rest (c, (t, some_more (length ts)))
+  where
+    some_more : (n : ℕ) → (suc n == 0) ≡ false
+    some_more n = grind (arith, nat_tests)
+
+version_stable : (octet : ℕ) (after more : List ℕ) → IsStable more (by_version (octet, after)) (by_version (octet, after ++ more))
+version_stable octet after more =
+    elim (cases_Bool (octet == 1)) [
+      | inl one ↦ rw one (alone_law.stable after more)
+      | inr not_one ↦ rw not_one (elim (cases_Bool (octet == 2)) [
+        | inl two ↦ rw two (two_law.stable after more)
+        | inr neither ↦ rw neither (inr refl)
+      ])
+    ]
+
+pub digest_law : Law digest_at spelling FitsDigest
+unfolding digest_at
+digest_law = record {
+  takes = digest_takes;
+  again = λ d rest h. again_in d.clients d.topics rest h.0 h.1;
+  stable = λ bytes more. bind_stable more (octet_at bytes) (octet_at (bytes ++ more)) by_version (octet_law.stable bytes more) (λ x. version_stable x.0 x.1 more);
+}
+
+-- ---- no part is longer than the whole
+
+pub clients_within : (cs : List ClientEntry) (ts : List RetainedEntry) → length (text_of One entry_octets cs) ≤ length (spelled cs ts)
+clients_within cs [] = omega arith
+clients_within cs (e ∷ ts) =
+    let sum = length-append (text_of Two entry_octets cs) (topics_octets (e ∷ ts)) in
+    omega (arith, sum)
+
+pub topics_within : (cs : List ClientEntry) (ts : List RetainedEntry) → length (topics_octets ts) ≤ length (spelled cs ts)
+topics_within cs [] = omega arith
+topics_within cs (e ∷ ts) =
+    let sum = length-append (text_of Two entry_octets cs) (topics_octets (e ∷ ts)) in
+    omega (arith, sum)
+
+pub fits_digest : (d : Digested) → IsDigest d → IsWithinLimit d → FitsDigest d
+fits_digest d h size =
+    let front = clients_within d.clients d.topics in
+    let back = topics_within d.clients d.topics in
+    (fits_text d.clients h.clients (omega (arith, front, size)), fits_topics d.topics h.topics (omega (arith, back, size)))
+
 -- ---- what is written has counts that fit
 
 few_origin : (o : OriginEntry) → FitsOrigin o → AreFew o
@@ -229,17 +441,23 @@ few_origin o h = (h.0.1.0.0, h.0.1.1.0)
 a_writable : (e : ClientEntry) → FitsEntry e → IsWritable e
 a_writable e h = record { origins = h.origins.0; ranges = each_weaker FitsOrigin AreFew few_origin e.origins h.origins.1 }
 
-pub writable : (d : List ClientEntry) → IsDigest d → IsWithinLimit d → AllByRecursion IsWritable d
+pub writable : (d : List ClientEntry) → AreClients d → length (text_of One entry_octets d) ≤ max_octets → AllByRecursion IsWritable d
 writable d h size = each_weaker FitsEntry IsWritable a_writable d (fits_text d h size).fits
 
 -- ---- the whole
 
 -- what is read is a digest, written so
-pub read_spelled : (bytes : List ℕ) (d : List ClientEntry) → AreOctets bytes → reading bytes ≡ Ok d → IsDigest d × IsWithinLimit d × (bytes ≡ spelling d)
+pub read_spelled : (bytes : List ℕ) (d : Digested) → AreOctets bytes → reading bytes ≡ Ok d → IsDigest d × IsWithinLimit d × (bytes ≡ spelling d)
 read_spelled bytes d octets e =
-    let w = whole_takes entry_at entry_octets FitsEntry entry_law may_follow Up order bytes d octets e in
-    (record { entries = some_entries d w.1.fits w.1.ascending.0; ascend = w.1.ascending.1 }, w.2, w.0)
+    let w = takes digest_at spelling FitsDigest digest_law bytes d octets e in (
+      record {
+        clients = record { entries = some_entries d.clients w.1.0.fits w.1.0.ascending.0; ascend = w.1.0.ascending.1 };
+        topics = record { entries = each_weaker FitsRetained IsRetained a_topic d.topics w.1.1.fits; ascend = w.1.1.ascending };
+      },
+      w.2,
+      w.0,
+    )
 
 -- and what is written is read
-pub read_again : (d : List ClientEntry) → IsDigest d → IsWithinLimit d → reading (spelling d) ≡ Ok d
-read_again d h size = whole_again entry_at entry_octets FitsEntry entry_law may_follow Up order d (fits_text d h size) size
+pub read_again : (d : Digested) → IsDigest d → IsWithinLimit d → reading (spelling d) ≡ Ok d
+read_again d h size = again digest_at spelling FitsDigest digest_law d (fits_digest d h size) size

@@ -9,3 +9,4 @@ pub mod Said
 pub mod Made
 pub mod Worked
 pub mod Examples
+pub mod Retaining

@@ -9,7 +9,7 @@ use Rattle.sn_session.specs.declared.change.SessionOp.{SessionOp}
 use Rattle.rep_op.specs.declared.op.Stamp.{Stamp}
 use Rattle.rep_op.specs.declared.op.Put.{Put}
 use Rattle.rep_op.specs.declared.op.Op.{Op}
-use Rattle.rep_op.specs.declared.op.Op.TheVariants.{Session as OfSession, Put as OfPut, Ack}
+use Rattle.rep_op.specs.declared.op.Op.TheVariants.{Session as OfSession, Put as OfPut, Ack, Retain as OfRetain}
 use Rattle.rep_op.specs.Orders.{client_cmp, operation_cmp, put_cmp, stamp_cmp}
 use Rattle.rep_op.specs.Sets.{same_client, operation_of, operation_at, put_of, put_at, acknowledges, is_acknowledged}
 use Rattle.rep_ops.specs.Making.{AreWellMade}
@@ -25,11 +25,12 @@ use Rattle.rep_model.proofs.Ranges.{apart-joined}
 use Rattle.rep_model.proofs.Greatest.{has, greatest-has}
 use Rattle.rep_model.proofs.Named.{clients-named, clients-ascend}
 use Rattle.rep_model.proofs.Limits.{in-acknowledged, apart-acknowledged}
-use Rattle.rep_digest.specs.Digests.{number_of, waiting, origin_entry, has_ranges, numbers_from, origin_entries, client_entry, digest}
-use Rattle.rep_digest.specs.WellMade.{IsRange, IsOrigin, IsSeen, IsEntry, ClientsAscend, IsDigest}
+use Rattle.rep_digest.specs.Digests.{number_of, waiting, origin_entry, has_ranges, numbers_from, origin_entries, client_entry, client_entries, digest}
+use Rattle.rep_digest.specs.WellMade.{IsRange, IsOrigin, IsSeen, IsEntry, ClientsAscend, AreClients, IsDigest}
 use Rattle.rep_digest.proofs.Waiting.{waiting_there}
 use Rattle.rep_digest.proofs.Said.{are_numbers}
 use Rattle.rep_digest.proofs.Occurring.{origins_up}
+use Rattle.rep_digest.proofs.Retaining.{topics_made}
 
 -- ---- what is found stands in the list
 
@@ -52,11 +53,13 @@ module _ (c : List ℕ) where
       ]
   one_stamp (OfPut d p) m v = tt
   one_stamp (Ack d o f l) m v = tt
+  one_stamp (OfRetain t k) m v = tt
 
   one_put : (op : Op) → IsTrue (is_well_made op) → IsValue op → IfSome (put_of c op) (λ e. IsNumber e.0.0)
   one_put (OfSession d s i change) m v = tt
   one_put (OfPut d p) m v =
-      let w = and_parts _ _ m in
+      let u = and_parts _ _ m in
+      let w = and_parts _ _ u.0 in
       let x = and_parts _ _ w.0 in
       let y = and_parts (nat_le 1 p.origin) (nat_le 1 p.seq) x.0 in
       elim (same_client c d) as (λ b. IfSome {T = (ℕ × ℕ) × Put} (if b then Some ((p.seq, p.origin), p) else None) (λ e. IsNumber e.0.0)) [
@@ -64,10 +67,12 @@ module _ (c : List ℕ) where
         | false ↦ tt
       ]
   one_put (Ack d o f l) m v = tt
+  one_put (OfRetain t k) m v = tt
 
   one_ack : (name : ℕ × ℕ) (op : Op) → IsTrue (is_well_made op) → IsValue op → acknowledges c name op ≡ true → IsNumber name.0
   one_ack name (OfSession d s i change) m v e = absurd (true≢false (sym e))
   one_ack name (OfPut d p) m v e = absurd (true≢false (sym e))
+  one_ack name (OfRetain t k) m v e = absurd (true≢false (sym e))
   one_ack name (Ack d o f l) m v e =
       let w = and_parts _ (nat_le f l) m in
       let x = and_parts (nat_le 1 o) (nat_le 1 f) w.0 in
@@ -170,6 +175,7 @@ module _ (W : List Op) (made : AreWellMade W) (values : AreValues W) where
       client_value c (OfSession d s i change) v e = one c d e v.0
       client_value c (OfPut d p) v e = one c d e v.0
       client_value c (Ack d o f l) v e = one c d (and_parts (same_client c d) (nat_le f l) e).0 v.0
+      client_value c (OfRetain t k) v e = absurd (true≢false (sym e))
 
       named_in : (c : List ℕ) (V : List Op) → AreValues V → is_named c V ≡ true → IsClientId c
       named_in c [] v e = absurd (true≢false (sym e))
@@ -198,8 +204,11 @@ module _ (W : List Op) (made : AreWellMade W) (values : AreValues W) where
   clients_up (c ∷ []) h = tt
   clients_up (c ∷ d ∷ cs) h = (h.0.0, clients_up (d ∷ cs) h.1)
 
-  pub digest_made : IsDigest (digest W)
-  digest_made = record {
+  clients_made : AreClients (client_entries W)
+  clients_made = record {
     entries = entries_made (clients W) (all_moved (λ c. is_named c W ≡ true) (clients W) (λ c there. (clients-named c W).1 there));
     ascend = clients_up (clients W) (clients-ascend W);
   }
+
+  pub digest_made : IsDigest (digest W)
+  digest_made = record { clients = clients_made; topics = topics_made W made values }

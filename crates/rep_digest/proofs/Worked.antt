@@ -17,7 +17,7 @@ use Rattle.rep_model.proofs.Ranges.{same_ranges}
 use Rattle.rep_model.proofs.Limits.{in-ranges_of, in-acknowledged, apart-acknowledged}
 use Rattle.rep_digest.specs.declared.groups.Acknowledged.{Acknowledged}
 use Rattle.rep_digest.specs.declared.entry.ClientEntry.{ClientEntry}
-use Rattle.rep_digest.specs.Digests.{origin_entry, has_ranges, numbers_from, origin_entries, client_entry, digest}
+use Rattle.rep_digest.specs.Digests.{origin_entry, has_ranges, numbers_from, origin_entries, client_entry, client_entries, digest}
 use Rattle.rep_digest.specs.inner.Steps.{group, groups, drafted, drafted_entry}
 use Rattle.rep_op.specs.Values.{AreValues}
 use Rattle.rep_digest.specs.WellMade.{IsDigest}
@@ -69,13 +69,13 @@ module _ (G : List ℕ → List Acknowledged) (E : List ℕ → List Acknowledge
 
 -- ---- the whole
 
--- what the steps come to is the digest of what is kept, and a digest
+-- what the steps come to is what the digest of what is kept says of clients, and the digest is one
 pub worked : (K : List Op) (held : List (List Op)) (cs : List (List ℕ)) (entries : List ClientEntry) → IsHeld K held → AreValues (all_of held) → cs ≡ clients K
-    → entries ≡ map (λ c. drafted_entry c (view c K) (group (all_of held) c)) cs → (entries ≡ digest K) × IsDigest entries
+    → entries ≡ map (λ c. drafted_entry c (view c K) (group (all_of held) c)) cs → (entries ≡ client_entries K) × IsDigest (digest K)
 worked K held cs entries h values is e =
     let W = all_of held in
     let whole : h.0 ≡ W = sym h.2.whole in
     let d : IsDeltaOf (keep K) W = subst (λ (V : List Op). IsDeltaOf (keep K) V) whole h.1 in
-    let same : entries ≡ digest K = e ∙ entries_said K W d cs ∙ ap (map (client_entry K)) is in
+    let same : entries ≡ client_entries K = e ∙ entries_said K W d cs ∙ ap (map (client_entry K)) is in
     let counted : digest W ≡ digest K = same_digest K W (handed_counts K W d) in
-    (same, subst IsDigest (counted ∙ sym same) (digest_made W d.delta.well_made values))
+    (same, subst IsDigest counted (digest_made W d.delta.well_made values))

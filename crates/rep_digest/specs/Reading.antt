@@ -1,17 +1,19 @@
 -- Reading a digest from left to right, up to the first fault, by the readers of deltas.
-use Rattle.std.specs.Prelude.{ℕ, ◌+◌, ◌==◌, Bool, true, ◌&&◌, if◌then◌else◌, nat_le, nat_lt, List, [], ◌∷◌, Option, Some, None, Result}
+use Rattle.std.specs.Prelude.{ℕ, ◌+◌, ◌==◌, Bool, true, ◌&&◌, if◌then◌else◌, nat_le, nat_lt, List, [], ◌∷◌, length, Option, Some, None, Result, Ok, Err}
 use Rattle.std.specs.Int.{w16, w32, w64}
 use Rattle.std.specs.List.{list_all}
 use Rattle.std.specs.Ordering.{is_lt}
 use Rattle.rep_op.specs.declared.fault.OpsFault.{OpsFault}
+use Rattle.rep_op.specs.declared.fault.OpsFault.TheVariants as faults
 use Rattle.rep_op.specs.declared.op.TheConstants.{MAX_OPERATIONS}
 use Rattle.rep_op.specs.declared.op.Stamp.{Stamp}
-use Rattle.rep_op.specs.Orders.{client_cmp}
-use Rattle.rep_octets.specs.Reading.{Reader, both, made, ranged, octet_at, number_at, is_counted, client_at, range_at, counted_by}
-use Rattle.rep_ops.specs.Reading.{follows_last, reading_of}
+use Rattle.rep_op.specs.Orders.{client_cmp, topic_name_cmp}
+use Rattle.rep_read.specs.Reading.{Reader, ◌>>=◌, both, made, ranged, octet_at, number_at, is_counted, client_at, topic_at, range_at, counted_by}
+use Rattle.rep_ops.specs.Reading.{follows_last, values_at, reading_by}
 use Rattle.rep_digest.specs.declared.entry.OriginEntry.{OriginEntry}
 use Rattle.rep_digest.specs.declared.entry.ClientEntry.{ClientEntry}
-use Rattle.rep_digest.specs.Digests.{has_ranges}
+use Rattle.rep_digest.specs.declared.entry.RetainedEntry.{RetainedEntry}
+use Rattle.rep_digest.specs.Digests.{has_ranges, Digested}
 
 -- ---- the parts of an entry
 
@@ -55,6 +57,16 @@ entry_of x = record { client = x.0; stamp = stamp_of x.1.0; prefix = x.1.0.1.1; 
 unfoldable pub entry_at : Reader ClientEntry
 entry_at = made entry_of (both client_at (both seen_at origins_at))
 
+-- a topic's entry, of its name, clock and gateway
+abbrev pub retained_of : List ℕ × (ℕ × ℕ) → RetainedEntry
+retained_of x = record { topic = x.0; clock = x.1.0; gateway = x.1.1 }
+
+-- a topic's entry: its name, a clock and a gateway
+unfoldable pub retained_at : Reader RetainedEntry
+retained_at =
+    made retained_of (both topic_at
+    (both (ranged is_counted (number_at w64)) (ranged is_counted octet_at)))
+
 -- ---- the order, looked at when an entry is whole
 
 -- each range leaves out a number after the one before it
@@ -85,7 +97,50 @@ is_next a b = is_lt (client_cmp a.client b.client)
 abbrev pub may_follow : List ClientEntry → ClientEntry → Bool
 may_follow entries e = is_ordered e && follows_last is_next entries e
 
+-- whether the topic of the first entry comes before that of the second
+abbrev pub is_next_topic : RetainedEntry → RetainedEntry → Bool
+is_next_topic a b = is_lt (topic_name_cmp a.topic b.topic)
+
+-- whether the entry of a topic may follow these
+abbrev pub topic_may_follow : List RetainedEntry → RetainedEntry → Bool
+topic_may_follow entries e = follows_last is_next_topic entries e
+
+-- ---- the whole
+
+-- entries of topics, which version 2 needs. That there is one is checked after them.
+unfoldable pub topics_at : Reader (List RetainedEntry)
+topics_at bytes =
+    values_at retained_at topic_may_follow bytes >>= λ x.
+    if length x.0 == 0 then Err faults.Version else Ok x
+
+-- a digest of clients alone
+abbrev pub of_clients : List ClientEntry → Digested
+of_clients clients = record { clients = clients; topics = [] }
+
+-- a digest of clients and topics
+abbrev pub of_both : List ClientEntry × List RetainedEntry → Digested
+of_both x = record { clients = x.0; topics = x.1 }
+
+-- the entries of clients
+abbrev pub clients_at : Reader (List ClientEntry)
+clients_at = values_at entry_at may_follow
+
+-- a digest of version 1, after its version
+abbrev pub alone_at : Reader Digested
+alone_at = made of_clients clients_at
+
+-- a digest of version 2, after its version
+abbrev pub both_at : Reader Digested
+both_at = made of_both (both clients_at topics_at)
+
+-- the version, the entries of clients, and in version 2 the entries of topics
+unfoldable pub digest_at : Reader Digested
+digest_at bytes =
+    octet_at bytes >>= λ version.
+    if version.0 == 1 then alone_at version.1
+    else (if version.0 == 2 then both_at version.1 else Err faults.Version)
+
 -- What the octets say, or the first fault for which they are no digest. The order is checked when
 -- an entry is whole.
-abbrev pub reading : List ℕ → Result (List ClientEntry) OpsFault
-reading = reading_of entry_at may_follow
+abbrev pub reading : List ℕ → Result Digested OpsFault
+reading bytes = reading_by digest_at bytes

@@ -1,12 +1,17 @@
--- The one spelling of a digest as octets, version 1. Numbers have the most significant octet first.
-use Rattle.std.specs.Prelude.{ℕ, ◌+◌, ◌≤◌, List, ◌∷◌, ◌++◌, length, Option, Some, None}
+-- The one spelling of a digest as octets: version 2 if it has a topic, else version 1. Numbers have
+-- the most significant octet first.
+use Rattle.std.specs.Prelude.{ℕ, ◌+◌, ◌≤◌, List, [], ◌∷◌, ◌++◌, length, Option, Some, None}
 use Rattle.std.specs.List.{flat_map}
 use Rattle.byteorder.specs.Endian.{big_bytes}
 use Rattle.rep_op.specs.declared.op.Stamp.{Stamp}
-use Rattle.rep_octets.specs.Spelling.{client_octets}
+use Rattle.rep_op.specs.declared.version.Version.TheVariants.{One, Two}
+use Rattle.rep_op.specs.Sessions.{text_octets}
+use Rattle.rep_op.specs.Spelling.{client_octets}
 use Rattle.rep_ops.specs.Spelling.{text_of, max_octets}
 use Rattle.rep_digest.specs.declared.entry.OriginEntry.{OriginEntry}
 use Rattle.rep_digest.specs.declared.entry.ClientEntry.{ClientEntry}
+use Rattle.rep_digest.specs.declared.entry.RetainedEntry.{RetainedEntry}
+use Rattle.rep_digest.specs.Digests.{Digested}
 
 -- a range: its first and its last number
 abbrev pub range_octets : ℕ × ℕ → List ℕ
@@ -34,10 +39,24 @@ abbrev pub entry_octets : ClientEntry → List ℕ
 entry_octets e =
     client_octets e.client ++ (seen_octets e.stamp e.prefix ++ origins_octets e.origins)
 
--- a digest is the text of its entries: the version, how many there are, and the entries
-abbrev pub spelling : List ClientEntry → List ℕ
-spelling d = text_of entry_octets d
+-- an entry of a topic: topic, clock and gateway
+abbrev pub retained_octets : RetainedEntry → List ℕ
+retained_octets e = text_octets e.topic ++ (big_bytes 8 e.clock ++ e.gateway ∷ [])
+
+-- how many entries of topics there are, and the entries
+abbrev pub topics_octets : List RetainedEntry → List ℕ
+topics_octets topics = big_bytes 4 (length topics) ++ flat_map retained_octets topics
+
+-- the text of the entries of clients, in version 1 if there is no topic, and else in version 2; then
+-- the entries of topics
+abbrev pub spelled : List ClientEntry → List RetainedEntry → List ℕ
+spelled clients [] = text_of One entry_octets clients
+spelled clients (e ∷ rest) = text_of Two entry_octets clients ++ topics_octets (e ∷ rest)
+
+-- the octets of a digest
+abbrev pub spelling : Digested → List ℕ
+spelling d = spelled d.clients d.topics
 
 -- the octets of the digest are at most 8 MiB
-abbrev pub IsWithinLimit : List ClientEntry → Type 0
+abbrev pub IsWithinLimit : Digested → Type 0
 IsWithinLimit d = length (spelling d) ≤ max_octets

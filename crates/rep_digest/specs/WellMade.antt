@@ -5,11 +5,13 @@ use Rattle.std.specs.declared.cmp.Ordering.TheVariants.{Less}
 use Rattle.rep_op.specs.ClientIds.{IsClientId}
 use Rattle.rep_op.specs.declared.op.TheConstants.{MAX_OPERATIONS}
 use Rattle.rep_op.specs.declared.op.Stamp.{Stamp}
-use Rattle.rep_op.specs.Orders.{client_cmp}
+use Rattle.rep_op.specs.Orders.{client_cmp, topic_name_cmp}
+use Rattle.sn_topic.specs.Topics.{IsName}
 use Rattle.rep_model.specs.Ranges.{AreApart}
 use Rattle.rep_digest.specs.declared.entry.OriginEntry.{OriginEntry}
 use Rattle.rep_digest.specs.declared.entry.ClientEntry.{ClientEntry}
-use Rattle.rep_digest.specs.Digests.{has_ranges}
+use Rattle.rep_digest.specs.declared.entry.RetainedEntry.{RetainedEntry}
+use Rattle.rep_digest.specs.Digests.{has_ranges, Digested}
 
 -- a range begins at 1 or later, and does not end before it begins; its numbers have 64 bits
 pub record IsRange (r : ℕ × ℕ) : Type 0 where
@@ -53,6 +55,28 @@ ClientsAscend (a ∷ []) = Unit {0}
 ClientsAscend (a ∷ b ∷ rest) = (client_cmp a.client b.client ≡ Less) × ClientsAscend (b ∷ rest)
 
 -- an entry for each client, in ascending order
-pub record IsDigest (d : List ClientEntry) : Type 0 where
+pub record AreClients (d : List ClientEntry) : Type 0 where
   pub entries : AllByRecursion IsEntry d
   pub ascend : ClientsAscend d
+
+-- an entry of a topic: its name, a clock of 64 bits and a gateway of 8, which begin at 1
+pub record IsRetained (e : RetainedEntry) : Type 0 where
+  pub topic : IsName e.topic
+  pub clock : (1 ≤ e.clock) × (e.clock < 2 ^ 64)
+  pub gateway : (1 ≤ e.gateway) × (e.gateway < 2 ^ 8)
+
+-- topics in strictly ascending order
+abbrev pub TopicsAscend : List RetainedEntry → Type 0
+TopicsAscend [] = Unit {0}
+TopicsAscend (a ∷ []) = Unit {0}
+TopicsAscend (a ∷ b ∷ rest) = (topic_name_cmp a.topic b.topic ≡ Less) × TopicsAscend (b ∷ rest)
+
+-- an entry for each topic, in ascending order
+pub record AreTopics (d : List RetainedEntry) : Type 0 where
+  pub entries : AllByRecursion IsRetained d
+  pub ascend : TopicsAscend d
+
+-- an entry for each client and for each topic, in ascending order
+pub record IsDigest (d : Digested) : Type 0 where
+  pub clients : AreClients d.clients
+  pub topics : AreTopics d.topics

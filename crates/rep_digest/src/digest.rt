@@ -1,13 +1,13 @@
 //! A digest.
 
-ghost use Rattle.std.specs.Prelude.{◌≡◌, ◌⊎◌, ◌++◌, List, Ok, Err, IfOk, IfErr, OnOk, OnErr};
-ghost use Rattle.rep_octets.specs.Reading.{Gives};
+ghost use Rattle.std.specs.Prelude.{◌≡◌, ◌⊎◌, ◌++◌, Ok, Err, IfOk, IfErr, OnOk, OnErr};
+ghost use Rattle.rep_read.specs.Reading.{Gives};
 ghost use Rattle.rep_digest.specs.WellMade.{IsDigest};
 ghost use Rattle.rep_digest.specs.Spelling.{spelling, IsWithinLimit};
 ghost use Rattle.rep_digest.specs.Reading.{reading};
-ghost use Rattle.rep_digest.specs.declared.entry.ClientEntry.{ClientEntry};
+ghost use Rattle.rep_digest.specs.Digests.{Digested};
 
-use super::entry::ClientEntry;
+use super::entry::{ClientEntry, RetainedEntry};
 use super::read::read_digest;
 use super::write::write_digest;
 use octets::NoMemory;
@@ -15,34 +15,44 @@ use rep_ops::OpsFault;
 use std::alloc::Global;
 use std::marker::Model;
 
-/// What a gateway has taken: an entry for each client, in ascending order. It is spelled in at most
-/// 8,388,608 octets. Contracts see the list of its entries.
+/// What a gateway has taken: an entry for each client and one for each topic, in ascending order. It
+/// is spelled in at most 8,388,608 octets. Contracts see the lists of its entries.
 #[derive(Debug, Drop)]
 pub struct Digest {
-    pub(crate) entries: Vec<ClientEntry>,
+    pub(crate) clients: Vec<ClientEntry>,
+    pub(crate) topics: Vec<RetainedEntry>,
 }
 
 impl Model for Digest {
-    ghost use Rattle.std.specs.Prelude.{List};
     ghost use Rattle.rep_digest.specs.WellMade.{IsDigest};
     ghost use Rattle.rep_digest.specs.Spelling.{IsWithinLimit};
-    ghost use Rattle.rep_digest.specs.declared.entry.ClientEntry.{ClientEntry};
+    ghost use Rattle.rep_digest.specs.Digests.{Digested, digested};
 
-    ghost Value = { List ClientEntry };
+    ghost Value = { Digested };
 
-    ghost view = { λ d. d.entries.items };
+    ghost view = { λ d. digested d.clients.items d.topics.items };
 
-    ghost invariant = { λ d. IsDigest d.entries.items × IsWithinLimit d.entries.items };
+    ghost invariant = { λ d. IsDigest (digested d.clients.items d.topics.items)
+        × IsWithinLimit (digested d.clients.items d.topics.items) };
 }
 
 impl Digest {
-    /// The entries, by client.
-    pub fn entries(&self) -> &[ClientEntry]
-        ensures entries { result.now ≡ self.now }
+    /// The entries of clients, in ascending order.
+    pub fn clients(&self) -> &[ClientEntry]
+        ensures entries { result.now ≡ self.now.clients }
         ensures digest { IsDigest self.now }
         ensures size { IsWithinLimit self.now }
     {
-        self.entries.as_slice()
+        self.clients.as_slice()
+    }
+
+    /// The entries of topics, in ascending order.
+    pub fn topics(&self) -> &[RetainedEntry]
+        ensures entries { result.now ≡ self.now.topics }
+        ensures digest { IsDigest self.now }
+        ensures size { IsWithinLimit self.now }
+    {
+        self.topics.as_slice()
     }
 
     /// Appends the one spelling of the digest. On an error the vector is as it was.
@@ -51,7 +61,7 @@ impl Digest {
         ensures err { OnErr result (out.new.items ≡ out.old.items) }
     {
         let start = out.len();
-        match write_digest(out, self.entries()) {
+        match write_digest(out, self.clients(), self.topics()) {
             Ok(()) => Ok(()),
             Err(fault) => {
                 out.truncate(start);
@@ -72,21 +82,21 @@ impl Digest {
     /// The digest that octets spell.
     ///
     /// `Limit` for more than 8,388,608 octets; else the first of these from the left: `Version` for
-    /// a version other than 1, `Truncated` where the octets end, `Kind` for a value out of range (a
-    /// length as soon as it is read, any other value when it is whole), `Order` where clients,
-    /// origins or ranges are out of order, looked at when an entry is whole, and last `Trailing`
-    /// for octets after the digest.
+    /// a version other than 1 and 2, `Truncated` where the octets end, `Kind` for a value out of
+    /// range (a length as soon as it is read, any other value when it is whole), `Order` where
+    /// clients, origins, ranges or topics are out of order, looked at when an entry is whole,
+    /// `Version` again for version 2 without a topic, and last `Trailing` for octets after the
+    /// digest.
     pub fn decode(alloc: Global, bytes: &[u8]) -> Result<Digest, OpsFault>
         // What is read is spelled so.
         ensures ok { IfOk result (λ d. bytes.now ≡ spelling d) }
         // What is spelled so is read, unless memory runs out.
-        ensures only { (d : List ClientEntry) → IsDigest d → IsWithinLimit d
+        ensures only { (d : Digested) → IsDigest d → IsWithinLimit d
             → bytes.now ≡ spelling d → (result ≡ Ok d) ⊎ (result ≡ Err OpsFault.Memory) }
         // Which fault it is.
         ensures exact { Gives (λ d. d) result (reading bytes.now) }
     {
-        Ok(Digest {
-            entries: read_digest(alloc, bytes)?,
-        })
+        let (clients, topics) = read_digest(alloc, bytes)?;
+        Ok(Digest { clients, topics })
     }
 }

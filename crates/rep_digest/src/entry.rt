@@ -1,9 +1,10 @@
-//! What a digest says of a client.
+//! What a digest says of a client, of one origin's messages for it, and of a topic.
 
 ghost use Rattle.std.specs.Prelude.{◌≡◌};
 
 use octets::Sequence;
 use rep_ops::{ClientId, Stamp};
+use sn_topic::TopicName;
 
 /// What a digest says of one origin's messages for a client. Ranges of sequence numbers are in
 /// ascending order, and neither overlap nor touch.
@@ -39,4 +40,15 @@ pub struct ClientEntry {
     pub prefix: u16,
     /// The origins of messages that wait or are acknowledged, ascending.
     pub origins: Sequence<OriginEntry>,
+}
+
+/// What a digest says of a topic: what was retained of it last.
+#[derive(Debug, Drop)]
+pub struct RetainedEntry {
+    /// The topic.
+    pub topic: TopicName,
+    /// The clock under which it was retained.
+    pub clock: u64,
+    /// The gateway that retained it.
+    pub gateway: u8,
 }

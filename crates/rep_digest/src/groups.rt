@@ -77,6 +77,7 @@ fn note(
     match op {
         Op::Session { .. } => Ok(()),
         Op::Put { .. } => Ok(()),
+        Op::Retain { .. } => Ok(()),
         Op::Ack {
             client,
             origin,

@@ -6,14 +6,14 @@ ghost use Rattle.rep_ops.specs.Reading.{AreOctets};
 ghost use Rattle.rep_digest.specs.WellMade.{IsDigest};
 ghost use Rattle.rep_digest.specs.Spelling.{spelling, IsWithinLimit};
 ghost use Rattle.rep_digest.specs.Reading.{reading};
-ghost use Rattle.rep_digest.specs.declared.entry.ClientEntry.{ClientEntry};
+ghost use Rattle.rep_digest.specs.Digests.{Digested};
 
 /// The reading of octets and the spelling of digests are one another's inverse.
 pub fn one_reading()
     // A digest is read off its spelling, so no octets spell two digests.
-    ensures again { (d : List ClientEntry) → IsDigest d → IsWithinLimit d
+    ensures again { (d : Digested) → IsDigest d → IsWithinLimit d
         → reading (spelling d) ≡ Ok d }
     // What is read off octets is spelled so.
-    ensures spelled { (bytes : List ℕ) (d : List ClientEntry) → AreOctets bytes
+    ensures spelled { (bytes : List ℕ) (d : Digested) → AreOctets bytes
         → reading bytes ≡ Ok d → IsDigest d × IsWithinLimit d × (bytes ≡ spelling d) }
 {}

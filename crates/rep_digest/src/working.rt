@@ -7,7 +7,7 @@ ghost use Rattle.rep_ops.specs.Splitting.{all_of};
 ghost use Rattle.rep_op.specs.Values.{AreValues};
 ghost use Rattle.rep_model.specs.Views.{view};
 ghost use Rattle.rep_model.specs.Views as views;
-ghost use Rattle.rep_digest.specs.Digests.{digest};
+ghost use Rattle.rep_digest.specs.Digests.{client_entries, digested, digest};
 ghost use Rattle.rep_digest.specs.WellMade.{IsDigest};
 ghost use Rattle.rep_digest.specs.Spelling.{spelling};
 ghost use Rattle.rep_digest.specs.inner.Steps.{group, drafted_entry};
@@ -15,9 +15,10 @@ ghost use Rattle.rep_digest.specs.inner.Steps as spec;
 
 use super::digest::Digest;
 use super::draft::entry_of;
-use super::entry::ClientEntry;
+use super::entry::{ClientEntry, RetainedEntry};
 use super::groups::{Acknowledged, acknowledgements};
 use super::size::is_within_limit;
+use super::topics::topics_of;
 use octets::{NoMemory, Sequence};
 use rep_model::{ClientView, Puts, Replica};
 use rep_ops::{ClientId, Delta, OpsFault};
@@ -32,17 +33,37 @@ pub fn digest_of<R: Replica>(alloc: Global, replica: &R) -> Result<Digest, OpsFa
         ⊎ ((fault ≡ OpsFault.Limit) × (max_octets
         < length (spelling (digest (R.kept replica.now)))))) }
 {
-    let entries = worked_out(alloc, replica)?;
-    if !is_within_limit(entries.as_slice()) {
+    let (clients, topics) = worked_out(alloc, replica)?;
+    if !is_within_limit(clients.as_slice(), topics.as_slice()) {
+        drop(clients);
+        drop(topics);
         return Err(OpsFault::Limit);
     }
-    Ok(Digest { entries })
+    Ok(Digest { clients, topics })
 }
 
 /// The entries of the digest, however large.
-fn worked_out<R: Replica>(alloc: Global, replica: &R) -> Result<Vec<ClientEntry>, NoMemory>
-    ensures { IfOk result (λ entries. (entries.items ≡ digest (R.kept replica.now))
-        × IsDigest entries.items) }
+fn worked_out<R: Replica>(
+    alloc: Global,
+    replica: &R,
+) -> Result<(Vec<ClientEntry>, Vec<RetainedEntry>), NoMemory>
+    ensures { IfOk result (λ made. (digested made.0.items made.1.items ≡ digest (R.kept replica.now))
+        × IsDigest (digest (R.kept replica.now))) }
+{
+    let clients = clients_of(alloc, replica)?;
+    match topics_of(alloc, replica) {
+        Ok(topics) => Ok((clients, topics)),
+        Err(fault) => {
+            drop(clients);
+            Err(fault)
+        }
+    }
+}
+
+/// The entries of clients.
+fn clients_of<R: Replica>(alloc: Global, replica: &R) -> Result<Vec<ClientEntry>, NoMemory>
+    ensures { IfOk result (λ entries. (entries.items ≡ client_entries (R.kept replica.now))
+        × IsDigest (digest (R.kept replica.now))) }
 {
     let Ok(clients) = replica.clients(alloc) else {
         return Err(NoMemory);

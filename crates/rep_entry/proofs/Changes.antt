@@ -10,10 +10,10 @@ use Rattle.rep_op.specs.declared.op.Stamp.{Stamp}
 use Rattle.rep_op.specs.declared.op.Put.{Put}
 use Rattle.rep_op.specs.declared.op.Op.TheVariants.{Session as OfSession, Put as OfPut, Ack}
 use Rattle.rep_op.specs.Orders.{operation_cmp, name_of, put_cmp}
-use Rattle.rep_op.specs.Sets.{same_client, operation_at, put_at, is_acknowledged, Same}
+use Rattle.rep_op.specs.Sets.{same_client, operation_at, put_at, is_acknowledged, retain_at, Same}
 use Rattle.rep_model.specs.Keep.{keep}
 use Rattle.rep_model.proofs.Lookup.{or_else}
-use Rattle.rep_model.proofs.Readers.{put_exact, operation_exact, same_client-true, operation_at_both, put_at_both, is_acknowledged_both}
+use Rattle.rep_model.proofs.Readers.{put_exact, operation_exact, same_client-true, operation_at_both, put_at_both, is_acknowledged_both, retain_at_both}
 use Rattle.rep_model.proofs.Joins.{same_trans, same_sym}
 use Rattle.rep_model.proofs.Thin.{thin-same, same_kept}
 use Rattle.rep_log.specs.Logs.{visible_in}
@@ -75,7 +75,7 @@ one_put c p q = ap (λ b. find put_cmp q (cons_option (if b then Some (name_of p
 module _ (c : List ℕ) (es : List ((Stamp × ℕ) × SessionOp)) (stamp : Option Stamp) (visible : stamp ≡ visible_in es) (none_below : NoneBelow stamp es) (p : Put) where
   put_step : (rs : List Range) (ps more : List Put) → ((q : ℕ × ℕ) → put_named q more ≡ cond (not (list_any (covers q) rs)) (or_else (put_named q ps) (cond (eq_by_cmp put_cmp q (name_of p)) (Some p) None)) None)
       → Same (kept_ops c es more rs) (keep (kept_ops c es ps rs ++ OfPut c p ∷ []))
-  put_step rs ps more h = mail_step c es stamp visible none_below ps more rs rs (OfPut c p ∷ []) refl
+  put_step rs ps more h = mail_step c es stamp visible none_below ps more rs rs (OfPut c p ∷ []) (refl, tt) refl
       (λ d other. (refl, ap (λ b. cons_option (if b then Some (name_of p, p) else None) []) other, λ q. refl))
       (λ q. sym (or_none (list_any (covers q) rs)))
       (λ q. h q ∙ ap (λ o. cond (not (list_any (covers q) rs)) (or_else (put_named q ps) o) None) (sym (one_put c p q)))
@@ -114,7 +114,7 @@ module _ (c : List ℕ) (es : List ((Stamp × ℕ) × SessionOp)) (stamp : Optio
   pub ack_more : (rs ranges : List Range) (ps : List Put) (r : Range) → ((q : ℕ × ℕ) → list_any (covers q) ranges ≡ (list_any (covers q) rs || covers q r))
       → Same (kept_ops c es (filter (is_left ranges) ps) ranges) (keep (kept_ops c es (filter (is_left rs) ps) rs ++ Ack c r.0 r.1.0 r.1.1 ∷ []))
   ack_more rs ranges ps r h =
-      mail_step c es stamp visible none_below (filter (is_left rs) ps) (filter (is_left ranges) ps) rs ranges (Ack c r.0 r.1.0 r.1.1 ∷ []) refl
+      mail_step c es stamp visible none_below (filter (is_left rs) ps) (filter (is_left ranges) ps) rs ranges (Ack c r.0 r.1.0 r.1.1 ∷ []) (refl, tt) refl
       (λ d other. (refl, refl, λ q. ap (λ b. (b && (q.1 == r.0) && nat_le r.1.0 q.0 && nat_le q.0 r.1.1) || false) other))
       (λ q. h q ∙ ap (λ b. list_any (covers q) rs || b) (sym (ap (λ b. (b && (q.1 == r.0) && nat_le r.1.0 q.0 && nat_le q.0 r.1.1) || false) (itself c) ∙ or_none (covers q r))))
       (λ q. found_left q ranges ps
@@ -126,7 +126,7 @@ module _ (c : List ℕ) (es : List ((Stamp × ℕ) × SessionOp)) (stamp : Optio
   pub keeps_itself : (rs : List Range) (ps : List Put) → NoneCovered rs ps → Same (kept_ops c es ps rs) (keep (kept_ops c es ps rs))
   keeps_itself rs ps none =
       subst (λ S. Same (kept_ops c es ps rs) (keep S)) (append-nil (kept_ops c es ps rs))
-      (mail_step c es stamp visible none_below ps ps rs rs [] refl (λ d other. (refl, refl, λ q. refl)) (λ q. sym (or_none (list_any (covers q) rs)))
+      (mail_step c es stamp visible none_below ps ps rs rs [] tt refl (λ d other. (refl, refl, λ q. refl)) (λ q. sym (or_none (list_any (covers q) rs)))
       (λ q. kept_itself rs ps none q ∙ ap (λ o. cond (not (list_any (covers q) rs)) o None) (sym (none_or (put_named q ps)))))
 
   -- ---- a session operation that is there
@@ -153,6 +153,7 @@ module _ (c : List ℕ) (es : List ((Stamp × ℕ) × SessionOp)) (stamp : Optio
       operations_same = λ d name. operation_at_both d (kept_ops c es ps rs) (OfSession c s k x ∷ []) name ∙ absorbed (operation_at d (kept_ops c es ps rs) name) (operation_at d (OfSession c s k x ∷ []) name) (found_there d name);
       puts_same = λ d name. put_at_both d (kept_ops c es ps rs) (OfSession c s k x ∷ []) name ∙ none_or (put_at d (kept_ops c es ps rs) name);
       acknowledgements_same = λ d name. is_acknowledged_both d (kept_ops c es ps rs) (OfSession c s k x ∷ []) name ∙ or_none (is_acknowledged d (kept_ops c es ps rs) name);
+      retains_same = λ t name. retain_at_both t (kept_ops c es ps rs) (OfSession c s k x ∷ []) name ∙ none_or (retain_at t (kept_ops c es ps rs) name);
     }
 
     pub session_skipped : NoneCovered rs ps → Same (kept_ops c es ps rs) (keep (kept_ops c es ps rs ++ OfSession c s k x ∷ []))

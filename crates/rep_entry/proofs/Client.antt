@@ -11,11 +11,12 @@ use Rattle.sn_session.specs.declared.session.Session.{Session}
 use Rattle.sn_session.specs.declared.change.SessionOp.{SessionOp}
 use Rattle.rep_op.specs.declared.op.Stamp.{Stamp}
 use Rattle.rep_op.specs.declared.op.Put.{Put}
-use Rattle.rep_op.specs.Orders.{stamp_cmp, operation_cmp, name_of, put_cmp}
+use Rattle.rep_op.specs.Orders.{stamp_cmp, operation_cmp, name_of, put_cmp, AreOfClients}
 use Rattle.rep_op.specs.Sets.{same_client, operation_of, operations, put_of, puts, acknowledges, is_acknowledged}
 use Rattle.rep_model.specs.declared.view.ClientView.{ClientView}
 use Rattle.rep_model.specs.Views.{greatest, take_stamp, names, visible, history_at, history, session_of, in_order, pending, view}
 use Rattle.rep_model.proofs.Readers.{client_total}
+use Rattle.rep_shared.proofs.Kept.{both_of_clients}
 use Rattle.rep_log.specs.Mail.{Range, covers, named_puts, Rising, NoneCovered}
 use Rattle.rep_log.specs.Kept.{of_log, of_mail, of_acks, kept_ops}
 use Rattle.rep_entry.proofs.Rising.{in_order_rising, values_named}
@@ -99,3 +100,22 @@ module _ (c : List ℕ) where
         let v : stamp ≡ visible c (kept_ops c es ps rs) = seen ∙ ap (λ (es : List ((Stamp × ℕ) × SessionOp)). greatest stamp_cmp (filter_map take_stamp (names es))) (sym kept_operations) in
         let h : history_at (λ name. find operation_cmp name es) stamp ≡ history c (kept_ops c es ps rs) = λ i. history_at (λ name. find operation_cmp name (sym kept_operations i)) (v i) in
         λ i. record { stamp = v i; prefix = (count ∙ ap length h) i; session = (made ∙ ap session_of h) i; pending = sym (kept_pending rising none) i }
+
+-- ---- what is kept of a client is of clients
+
+log_of_clients : (c : List ℕ) (es : List ((Stamp × ℕ) × SessionOp)) → AreOfClients (of_log c es)
+log_of_clients c [] = tt
+log_of_clients c (e ∷ es) = (refl, log_of_clients c es)
+
+mail_of_clients : (c : List ℕ) (ps : List Put) → AreOfClients (of_mail c ps)
+mail_of_clients c [] = tt
+mail_of_clients c (p ∷ ps) = (refl, mail_of_clients c ps)
+
+acks_of_clients : (c : List ℕ) (rs : List Range) → AreOfClients (of_acks c rs)
+acks_of_clients c [] = tt
+acks_of_clients c (r ∷ rs) = (refl, acks_of_clients c rs)
+
+pub kept_of_clients : (c : List ℕ) (es : List ((Stamp × ℕ) × SessionOp)) (ps : List Put) (rs : List Range) → AreOfClients (kept_ops c es ps rs)
+kept_of_clients c es ps rs =
+    both_of_clients (of_log c es) (of_mail c ps ++ of_acks c rs) (log_of_clients c es)
+    (both_of_clients (of_mail c ps) (of_acks c rs) (mail_of_clients c ps) (acks_of_clients c rs))

@@ -11,18 +11,18 @@ use Rattle.rep_op.specs.declared.op.Stamp.{Stamp}
 use Rattle.rep_op.specs.declared.op.Put.{Put}
 use Rattle.rep_op.specs.declared.op.Op.{Op}
 use Rattle.rep_op.specs.declared.op.Op.TheVariants.{Session as OfSession}
-use Rattle.rep_op.specs.Orders.{operation_cmp, name_of, put_cmp}
-use Rattle.rep_op.specs.Sets.{same_client, operation_of, operations, operation_at, put_of, puts, put_at, acknowledges, is_acknowledged, Same}
+use Rattle.rep_op.specs.Orders.{operation_cmp, name_of, put_cmp, clock_cmp, AreOfClients}
+use Rattle.rep_op.specs.Sets.{same_client, operation_of, operations, operation_at, put_of, puts, put_at, acknowledges, is_acknowledged, retain_of, retains, retain_at, Same}
 use Rattle.rep_model.specs.Views.{visible}
 use Rattle.rep_model.specs.Keep.{is_below, keep}
 use Rattle.rep_model.proofs.Lookup.{or_else, find_both}
-use Rattle.rep_model.proofs.Readers.{same_client-true, operation_exact, put_exact, operation_at_both, put_at_both, is_acknowledged_both}
+use Rattle.rep_model.proofs.Readers.{same_client-true, operation_exact, put_exact, operation_at_both, put_at_both, is_acknowledged_both, retain_at_both}
 use Rattle.rep_model.proofs.Thin.{thin-same, visible-thin}
 use Rattle.rep_log.specs.Logs.{visible_in, IsKeptIn}
 use Rattle.rep_log.proofs.Logging.{NoneBelow, all_kept}
 use Rattle.rep_log.specs.Mail.{Range, covers, put_named}
 use Rattle.rep_log.specs.Kept.{of_log, of_mail, of_acks, kept_ops}
-use Rattle.rep_entry.proofs.Client.{itself, kept_operations, kept_puts, kept_acknowledged}
+use Rattle.rep_entry.proofs.Client.{itself, kept_operations, kept_puts, kept_acknowledged, kept_of_clients}
 use Rattle.rep_entry.proofs.Steps.{KeepsOf, kept_of_readers}
 
 none_or : {X : Type 0} (a : Option X) → or_else a None ≡ a
@@ -51,13 +51,17 @@ or_turned false false = refl
 
 module _ (c : List ℕ) (op : Op) (K : List Op)
     (one : (d : List ℕ) (name : Stamp × ℕ) → is_some (operation_at d (op ∷ []) name) ≡ true → operation_at d K name ≡ None)
-    (put : (d : List ℕ) (name : ℕ × ℕ) → is_some (put_at d (op ∷ []) name) ≡ true → put_at d K name ≡ None) where
+    (put : (d : List ℕ) (name : ℕ × ℕ) → is_some (put_at d (op ∷ []) name) ≡ true → put_at d K name ≡ None)
+    (no_topic : (t : List ℕ) → retain_of t op ≡ None) where
   -- the new one in front
   in_front : Same (K ++ op ∷ []) (op ∷ K)
   in_front = record {
     operations_same = λ d name. operation_at_both d K (op ∷ []) name ∙ swapped (operation_at d K name) (operation_at d (op ∷ []) name) (one d name) ∙ sym (operation_at_both d (op ∷ []) K name);
     puts_same = λ d name. put_at_both d K (op ∷ []) name ∙ swapped (put_at d K name) (put_at d (op ∷ []) name) (put d name) ∙ sym (put_at_both d (op ∷ []) K name);
     acknowledgements_same = λ d name. is_acknowledged_both d K (op ∷ []) name ∙ or_turned (is_acknowledged d K name) (is_acknowledged d (op ∷ []) name) ∙ sym (is_acknowledged_both d (op ∷ []) K name);
+    retains_same = λ t name.
+        retain_at_both t K (op ∷ []) name ∙ ap (λ o. or_else (retain_at t K name) (find clock_cmp name (cons_option o []))) (no_topic t)
+        ∙ none_or (retain_at t K name) ∙ sym (ap (λ o. find clock_cmp name (cons_option o (retains t K))) (no_topic t));
   }
 
   pub visible_front : (d : List ℕ) → visible d (K ++ op ∷ []) ≡ visible d (op ∷ K)
@@ -156,7 +160,7 @@ module _ (c : List ℕ) (s : Stamp) (k : ℕ) (x : SessionOp) (es more : List ((
   stamp_is : stamp ≡ visible c (K ++ op ∷ [])
   stamp_is = kept.visible
       ∙ (λ i. visible_in (cons_option (if sym (itself c) i then Some ((s, k), x) else None) (sym (kept_operations c es ps rs) i)))
-      ∙ sym (visible_front c op K not_there (λ d name e. absurd (true≢false (sym e))) c)
+      ∙ sym (visible_front c op K not_there (λ d name e. absurd (true≢false (sym e))) (λ t. refl) c)
 
   of_own : KeepsOf c K (op ∷ []) (kept_ops c more ps rs)
   of_own = record {
@@ -189,7 +193,7 @@ module _ (c : List ℕ) (s : Stamp) (k : ℕ) (x : SessionOp) (es more : List ((
     }
 
   pub session_step : Same (kept_ops c more ps rs) (keep (K ++ op ∷ []))
-  session_step = kept_of_readers K (op ∷ []) (kept_ops c more ps rs) (λ d.
+  session_step = kept_of_readers K (op ∷ []) (kept_ops c more ps rs) (kept_of_clients c es ps rs) (refl, tt) (kept_of_clients c more ps rs) (λ d.
       elim (same_client d c) as (λ b. same_client d c ≡ b → KeepsOf d K (op ∷ []) (kept_ops c more ps rs)) [
         | true ↦ λ own. subst (λ y. KeepsOf y K (op ∷ []) (kept_ops c more ps rs)) (sym (same_client-true d c own)) of_own
         | false ↦ λ other. of_other d other
@@ -198,7 +202,7 @@ module _ (c : List ℕ) (s : Stamp) (k : ℕ) (x : SessionOp) (es more : List ((
 -- ---- messages and acknowledgements of the client
 
 module _ (c : List ℕ) (es : List ((Stamp × ℕ) × SessionOp)) (stamp : Option Stamp) (visible : stamp ≡ visible_in es) (none_below : NoneBelow stamp es)
-    (ps more : List Put) (rs ranges : List Range) (N : List Op)
+    (ps more : List Put) (rs ranges : List Range) (N : List Op) (of_clients : AreOfClients N)
     (no_session : operations c N ≡ [])
     (others : (d : List ℕ) → same_client d c ≡ false → (operations d N ≡ []) × (puts d N ≡ []) × ((q : ℕ × ℕ) → is_acknowledged d N q ≡ false))
     (acknowledged : (q : ℕ × ℕ) → list_any (covers q) ranges ≡ (list_any (covers q) rs || is_acknowledged c N q))
@@ -235,7 +239,7 @@ module _ (c : List ℕ) (es : List ((Stamp × ℕ) × SessionOp)) (stamp : Optio
       }
 
   pub mail_step : Same behind (keep (before ++ N))
-  mail_step = kept_of_readers before N behind (λ d.
+  mail_step = kept_of_readers before N behind (kept_of_clients c es ps rs) of_clients (kept_of_clients c es more ranges) (λ d.
       elim (same_client d c) as (λ b. same_client d c ≡ b → KeepsOf d before N behind) [
         | true ↦ λ own. subst (λ y. KeepsOf y before N behind) (sym (same_client-true d c own)) mail_of_own
         | false ↦ λ other. mail_of_other d other

@@ -10,8 +10,9 @@ use Rattle.std.proofs.lemmas.Map.Views.{tells_apart}
 use Rattle.sn_session.specs.declared.change.SessionOp.{SessionOp}
 use Rattle.rep_op.specs.declared.op.Stamp.{Stamp}
 use Rattle.rep_op.specs.declared.op.Put.{Put}
+use Rattle.rep_op.specs.declared.op.Retained.{Retained}
 use Rattle.rep_op.specs.declared.op.Op.{Op}
-use Rattle.rep_op.specs.declared.op.Op.TheVariants.{Session as OfSession, Put as OfPut, Ack}
+use Rattle.rep_op.specs.declared.op.Op.TheVariants.{Session as OfSession, Put as OfPut, Ack, Retain as OfRetain}
 use Rattle.rep_op.specs.Orders.{operation_cmp}
 use Rattle.rep_op.specs.Ranges.{is_change}
 use Rattle.rep_op.specs.WellMade.{is_stamp, is_counted}
@@ -98,6 +99,10 @@ put_op c d p op is own = ap (λ e. OfPut e p) (sym (named_client c (OfPut d p) (
 
 pub ack_op : (c d : List ℕ) (o first last : ℕ) (op : Op) → op ≡ Ack d o first last → named op ≡ Some (c, c) → Ack c o first last ≡ op
 ack_op c d o first last op is own = ap (λ e. Ack e o first last) (sym (named_client c (Ack d o first last) (ap named (sym is) ∙ own))) ∙ sym is
+
+-- what is retained is no client's
+pub no_own : {P : Type 0} (c t : List ℕ) (k : Retained) (op : Op) → op ≡ OfRetain t k → named op ≡ Some (c, c) → P
+no_own c t k op is own = none_some (c, c) (ap named (sym is) ∙ own)
 
 and_first : (a b : Bool) → (a && b) ≡ true → a ≡ true
 and_first true b e = refl

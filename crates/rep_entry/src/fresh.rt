@@ -82,6 +82,7 @@ impl Fresh {
                 last,
                 ..
             } => self.note_ack(alloc, entry, *origin, *first, *last),
+            Op::Retain { .. } => Ok(()),
         }
     }
 

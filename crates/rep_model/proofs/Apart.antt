@@ -4,7 +4,7 @@ use Rattle.std.specs.Prelude.{nat_le}
 use Rattle.std.specs.List.{AllByRecursion, filter_map, cons_option}
 use Rattle.std.proofs.lemmas.Bool.{and_parts, eqb-true, leb-true}
 use Rattle.rep_op.specs.declared.op.Op.{Op}
-use Rattle.rep_op.specs.declared.op.Op.TheVariants.{Session as OfSession, Put as OfPut, Ack}
+use Rattle.rep_op.specs.declared.op.Op.TheVariants.{Session as OfSession, Put as OfPut, Ack, Retain as OfRetain}
 use Rattle.rep_ops.specs.Making.{AreWellMade}
 use Rattle.rep_op.specs.Sets.{same_client}
 use Rattle.rep_ops.proofs.Rising.{Past, Rising}
@@ -19,6 +19,7 @@ BeginsAt c o k op = IfSome (range_of c o op) (λ r. k ≤ r.0)
 begins_later : (c : List ℕ) (o : ℕ) (d : List ℕ) (q f l : ℕ) → same_client c d ≡ true → (o == q) ≡ true → (y : Op) → Past 1 (Ack d q f l) y → BeginsAt c o (l + 2) y
 begins_later c o d q f l client origin (OfSession e s i change) past = tt
 begins_later c o d q f l client origin (OfPut e p) past = tt
+begins_later c o d q f l client origin (OfRetain t k) past = tt
 begins_later c o d q f l client origin (Ack e s g m) past =
     elim (same_client c e && (o == s) && nat_le g m) as (λ b. (same_client c e && (o == s) && nat_le g m) ≡ b → IfSome {T = ℕ × ℕ} (if b then Some (g, m) else None) (λ r. l + 2 ≤ r.0)) [
       | false ↦ λ _. tt
@@ -37,6 +38,7 @@ apart_rising : (c : List ℕ) (o k : ℕ) (W : List Op) → AllByRecursion (Begi
 apart_rising c o k [] low made up = tt
 apart_rising c o k (OfSession d s i change ∷ W) low made up = apart_rising c o k W low.1 made.1 up.1
 apart_rising c o k (OfPut d p ∷ W) low made up = apart_rising c o k W low.1 made.1 up.1
+apart_rising c o k (OfRetain t m ∷ W) low made up = apart_rising c o k W low.1 made.1 up.1
 apart_rising c o k (Ack d q f l ∷ W) low made up =
     elim (same_client c d && (o == q) && nat_le f l) as (λ b. (same_client c d && (o == q) && nat_le f l) ≡ b → IfSome {T = ℕ × ℕ} (if b then Some (f, l) else None) (λ r. k ≤ r.0)
     → AreApartFrom k (cons_option (if b then Some (f, l) else None) (filter_map (range_of c o) W))) [

@@ -9,7 +9,7 @@ use Rattle.std.proofs.lemmas.Map.Views.{tells_apart}
 use Rattle.rep_op.specs.declared.op.Stamp.{Stamp}
 use Rattle.rep_op.specs.declared.op.Put.{Put}
 use Rattle.rep_op.specs.declared.op.Op.{Op}
-use Rattle.rep_op.specs.declared.op.Op.TheVariants.{Session as OfSession, Put as OfPut, Ack}
+use Rattle.rep_op.specs.declared.op.Op.TheVariants.{Session as OfSession, Put as OfPut, Ack, Retain as OfRetain}
 use Rattle.rep_op.specs.Orders.{stamp_cmp, operation_cmp, put_cmp}
 use Rattle.rep_op.specs.Sets.{same_client, operations, operation_at, put_of, put_at, acknowledges, is_acknowledged}
 use Rattle.rep_model.specs.Views.{names, visible}
@@ -110,11 +110,13 @@ module _ (c : List ℕ) (gateway : ℕ) where
   uses-finds (OfSession d stamp counter change) = inl refl
   uses-finds (OfPut d p) = put_finds (same_client c d) gateway p
   uses-finds (Ack d origin first last) = ack_finds (same_client c d) (gateway == origin) first last
+  uses-finds (OfRetain u k) = inl refl
 
   uses-below : (m : ℕ) (op : Op) → uses m op ≡ true → m ≤ seq_of c gateway op
   uses-below m (OfSession d stamp counter change) e = absurd (true≢false (sym e))
   uses-below m (OfPut d p) e = put_reaches (same_client c d) gateway m p e
   uses-below m (Ack d origin first last) e = ack_reaches (same_client c d) (gateway == origin) first last m e
+  uses-below m (OfRetain u k) e = absurd (true≢false (sym e))
 
   pub seq-at_most : (S : List Op) (n : ℕ) → ((m : ℕ) → (is_some (put_at c S (m, gateway)) || is_acknowledged c S (m, gateway)) ≡ true → m ≤ n) → largest (seq_of c gateway) S ≤ n
   seq-at_most S n h = largest-least (seq_of c gateway) uses (λ m. m) uses-finds n S (λ m e. h m (sym (uses-reads S m) ∙ e))

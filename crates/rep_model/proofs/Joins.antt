@@ -7,23 +7,25 @@ use Rattle.sn_session.specs.declared.change.SessionOp.{SessionOp}
 use Rattle.rep_op.specs.declared.op.Stamp.{Stamp}
 use Rattle.rep_op.specs.declared.op.Put.{Put}
 use Rattle.rep_op.specs.declared.op.Op.{Op}
-use Rattle.rep_op.specs.declared.op.Op.TheVariants.{Session as OfSession, Put as OfPut, Ack}
-use Rattle.rep_op.specs.Orders.{operation_cmp, put_cmp}
-use Rattle.rep_op.specs.Sets.{same_client, operation_of, operation_at, put_of, put_at, acknowledges, is_acknowledged, Stands, IsConsistent, Within, Same}
+use Rattle.rep_op.specs.declared.op.Retained.{Retained}
+use Rattle.rep_op.specs.declared.op.Op.TheVariants.{Session as OfSession, Put as OfPut, Ack, Retain as OfRetain}
+use Rattle.rep_op.specs.Orders.{operation_cmp, put_cmp, clock_of, clock_cmp}
+use Rattle.rep_op.specs.Sets.{same_client, operation_of, operation_at, put_of, put_at, acknowledges, is_acknowledged, same_topic, retain_of, retain_at, Stands, IsConsistent, Within, Same}
 use Rattle.rep_model.specs.Views.{pending_at, view}
 use Rattle.rep_model.specs.Keep.{keep, IsKeptOf, CountsAs, Below}
 use Rattle.rep_model.proofs.Lookup.{or_else, is_entry_of, is_some-find_map, find-all}
-use Rattle.rep_model.proofs.Readers.{operation_exact, put_exact, same_client-true, operation_at_both, put_at_both, is_acknowledged_both}
+use Rattle.rep_model.proofs.Readers.{operation_exact, put_exact, clock_exact, same_client-true, same_topic-true, operation_at_both, put_at_both, is_acknowledged_both, retain_at_both}
 use Rattle.rep_model.proofs.Thin.{Thin, pending_at-reads, view-thin, same_kept, thin-keep, thin-same, thin-between, thin-left, thin-right}
 
 pub same_refl : (A : List Op) → Same A A
-same_refl A = record { operations_same = λ c name. refl; puts_same = λ c name. refl; acknowledgements_same = λ c name. refl }
+same_refl A = record { operations_same = λ c name. refl; puts_same = λ c name. refl; acknowledgements_same = λ c name. refl; retains_same = λ t name. refl }
 
 pub same_sym : {A B : List Op} → Same A B → Same B A
 same_sym s = record {
   operations_same = λ c name. sym (s.operations_same c name);
   puts_same = λ c name. sym (s.puts_same c name);
   acknowledgements_same = λ c name. sym (s.acknowledgements_same c name);
+  retains_same = λ t name. sym (s.retains_same t name);
 }
 
 pub same_trans : {A B C : List Op} → Same A B → Same B C → Same A C
@@ -31,6 +33,7 @@ same_trans s t = record {
   operations_same = λ c name. s.operations_same c name ∙ t.operations_same c name;
   puts_same = λ c name. s.puts_same c name ∙ t.puts_same c name;
   acknowledgements_same = λ c name. s.acknowledgements_same c name ∙ t.acknowledgements_same c name;
+  retains_same = λ c name. s.retains_same c name ∙ t.retains_same c name;
 }
 
 -- ---- what counts as a set
@@ -69,7 +72,7 @@ view-counts c = same_by_counts (view c) (λ N W t. view-thin N W t c)
 -- ---- parts of sets
 
 within-refl : (A : List Op) → Within A A
-within-refl A = record { operations_in = λ c name x e. e; puts_in = λ c name x e. e; acknowledgements_in = λ c name e. e }
+within-refl A = record { operations_in = λ c name x e. e; puts_in = λ c name x e. e; acknowledgements_in = λ c name e. e; retains_in = λ t name x e. e }
 
 or_first : (a b : Bool) → a ≡ true → (a || b) ≡ true
 or_first a b e = ap (λ x. x || b) e
@@ -79,6 +82,7 @@ within-left A B = record {
   operations_in = λ c name x e. operation_at_both c A B name ∙ ap (λ a. or_else a (operation_at c B name)) e;
   puts_in = λ c name x e. put_at_both c A B name ∙ ap (λ a. or_else a (put_at c B name)) e;
   acknowledgements_in = λ c name e. is_acknowledged_both c A B name ∙ or_first (is_acknowledged c A name) (is_acknowledged c B name) e;
+  retains_in = λ t name x e. retain_at_both t A B name ∙ ap (λ a. or_else a (retain_at t B name)) e;
 }
 
 absorbed : {X : Type 0} (a w : Option X) → ((x : X) → a ≡ Some x → w ≡ Some x) → or_else a w ≡ w
@@ -95,6 +99,7 @@ same-absorbed A W h = record {
   operations_same = λ c name. operation_at_both c A W name ∙ absorbed (operation_at c A name) (operation_at c W name) (λ x. h.operations_in c name x);
   puts_same = λ c name. put_at_both c A W name ∙ absorbed (put_at c A name) (put_at c W name) (λ x. h.puts_in c name x);
   acknowledgements_same = λ c name. is_acknowledged_both c A W name ∙ absorbed_test (is_acknowledged c A name) (is_acknowledged c W name) (h.acknowledgements_in c name);
+  retains_same = λ t name. retain_at_both t A W name ∙ absorbed (retain_at t A name) (retain_at t W name) (λ x. h.retains_in t name x);
 }
 
 pub all-right : {X : Type 0} (P : X → Type 0) (xs ys : List X) → AllByRecursion P (xs ++ ys) → AllByRecursion P ys
@@ -128,6 +133,7 @@ module _ (S : List Op) (c : List ℕ) where
       ] refl
   standing_operation (OfPut d put) h = tt
   standing_operation (Ack d origin first last) h = tt
+  standing_operation (OfRetain u kept) h = tt
 
   standing_put : (op : Op) → Stands S op → IfSome (put_of c op) (λ e. put_at c S e.0 ≡ Some e.1)
   standing_put (OfSession d stamp counter change) h = tt
@@ -137,10 +143,22 @@ module _ (S : List Op) (c : List ℕ) where
         | false ↦ λ _. tt
       ] refl
   standing_put (Ack d origin first last) h = tt
+  standing_put (OfRetain u kept) h = tt
+
+  standing_retain : (op : Op) → Stands S op → IfSome (retain_of c op) (λ e. retain_at c S e.0 ≡ Some e.1)
+  standing_retain (OfSession d stamp counter change) h = tt
+  standing_retain (OfPut d put) h = tt
+  standing_retain (Ack d origin first last) h = tt
+  standing_retain (OfRetain u kept) h =
+      elim (same_topic c u) as (λ b. same_topic c u ≡ b → IfSome {T = (ℕ × ℕ) × Retained} (if b then Some (clock_of kept, kept) else None) (λ e. retain_at c S e.0 ≡ Some e.1)) [
+        | true ↦ λ e. ap (λ x. retain_at x S (clock_of kept)) (same_topic-true c u e) ∙ h
+        | false ↦ λ _. tt
+      ] refl
 
   standing_acknowledgement : (name : ℕ × ℕ) (op : Op) → acknowledges c name op ≡ true → Stands S op → is_acknowledged c S name ≡ true
   standing_acknowledgement name (OfSession d stamp counter change) e h = absurd (true≢false (sym e))
   standing_acknowledgement name (OfPut d put) e h = absurd (true≢false (sym e))
+  standing_acknowledgement name (OfRetain u kept) e h = absurd (true≢false (sym e))
   standing_acknowledgement name (Ack d origin first last) e h =
       let w = four_parts (same_client c d) _ _ _ e in
       ap (λ x. is_acknowledged x S name) (same_client-true c d w.0)
@@ -165,6 +183,7 @@ within-standing S T h = record {
   operations_in = λ c name x e. found (operation_at c T name) (operation_at c S name) x (find-all operation_cmp operation_exact (operation_of c) (λ k y. operation_at c S k ≡ Some y) T (all-weaker (Stands S) _ (standing_operation S c) T h) name) e;
   puts_in = λ c name x e. found (put_at c T name) (put_at c S name) x (find-all put_cmp put_exact (put_of c) (λ k y. put_at c S k ≡ Some y) T (all-weaker (Stands S) _ (standing_put S c) T h) name) e;
   acknowledgements_in = λ c name e. standing_acknowledgements S c name T h e;
+  retains_in = λ t name x e. found (retain_at t T name) (retain_at t S name) x (find-all clock_cmp clock_exact (retain_of t) (λ k y. retain_at t S k ≡ Some y) T (all-weaker (Stands S) _ (standing_retain S t) T h) name) e;
 }
 
 pub within-right : (A B : List Op) → IsConsistent (A ++ B) → Within B (A ++ B)
@@ -188,6 +207,7 @@ same-turned A B h =
       operations_same = λ c name. operation_at_both c A B name ∙ swapped (operation_at c A name) (operation_at c B name) (λ y e. sym (operation_at_both c A B name) ∙ w.operations_in c name y e) ∙ sym (operation_at_both c B A name);
       puts_same = λ c name. put_at_both c A B name ∙ swapped (put_at c A name) (put_at c B name) (λ y e. sym (put_at_both c A B name) ∙ w.puts_in c name y e) ∙ sym (put_at_both c B A name);
       acknowledgements_same = λ c name. is_acknowledged_both c A B name ∙ swapped_test (is_acknowledged c A name) (is_acknowledged c B name) ∙ sym (is_acknowledged_both c B A name);
+      retains_same = λ t name. retain_at_both t A B name ∙ swapped (retain_at t A name) (retain_at t B name) (λ y e. sym (retain_at_both t A B name) ∙ w.retains_in t name y e) ∙ sym (retain_at_both t B A name);
     }
 
 pub same-twice : (A : List Op) → Same (A ++ A) A
@@ -241,6 +261,9 @@ same-elements A B k f g =
           (λ e. is_some-find_map put_cmp (put_of c) name B ∙ moved (λ op. is_entry_of put_cmp name (put_of c op)) A B f (sym (is_some-find_map put_cmp (put_of c) name A) ∙ e))
           (λ y e. back.puts_in c name y e);
       acknowledgements_same = λ c name. agree_test (is_acknowledged c A name) (is_acknowledged c B name) (moved (acknowledges c name) A B f) (moved (acknowledges c name) B A g);
+      retains_same = λ t name. agree (retain_at t A name) (retain_at t B name)
+          (λ e. is_some-find_map clock_cmp (retain_of t) name B ∙ moved (λ op. is_entry_of clock_cmp name (retain_of t op)) A B f (sym (is_some-find_map clock_cmp (retain_of t) name A) ∙ e))
+          (λ y e. back.retains_in t name y e);
     }
 
 -- ---- losses

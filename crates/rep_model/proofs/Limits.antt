@@ -6,11 +6,11 @@ use Rattle.std.specs.FinMap.Entries.{find-where_key, is_sorted, is_sorted-where_
 use Rattle.std.proofs.lemmas.Bool.{and_parts, false_from_ne_true}
 use Rattle.rep_op.specs.declared.op.Stamp.{Stamp}
 use Rattle.rep_op.specs.declared.op.Op.{Op}
-use Rattle.rep_op.specs.declared.op.Op.TheVariants.{Session as OfSession, Put as OfPut, Ack}
+use Rattle.rep_op.specs.declared.op.Op.TheVariants.{Session as OfSession, Put as OfPut, Ack, Retain as OfRetain}
 use Rattle.rep_op.specs.Orders.{operation_cmp}
 use Rattle.rep_op.specs.Sets.{same_client, operations, operation_at, is_acknowledged}
 use Rattle.rep_model.specs.declared.fault.Limit.{Limit}
-use Rattle.rep_model.specs.declared.fault.Limit.TheVariants.{Clients, Pending, Parked, Exceptions}
+use Rattle.rep_model.specs.declared.fault.Limit.TheVariants.{Clients, Pending, Parked, Exceptions, Retained}
 use Rattle.rep_model.specs.Views.{visible, history, in_order, pending}
 use Rattle.rep_model.specs.Keep.{is_below, CountsAs}
 use Rattle.rep_model.specs.Ranges.{is_within, in_ranges, AreApart}
@@ -21,6 +21,7 @@ use Rattle.rep_model.proofs.Thin.{Thin, visible-thin, history-thin, pending-thin
 use Rattle.rep_model.proofs.Joins.{same_by_counts, counts-more}
 use Rattle.rep_model.proofs.Ranges.{IsRange, in-joined, apart-joined, same_ranges}
 use Rattle.rep_model.proofs.Named.{clients-thin}
+use Rattle.rep_model.proofs.Topics.{topics-thin}
 
 -- ---- parked operations
 
@@ -69,12 +70,14 @@ module _ (c : List ℕ) (origin : ℕ) where
   in-ranges_of n [] = refl
   in-ranges_of n (OfSession d stamp counter change ∷ S) = in-ranges_of n S
   in-ranges_of n (OfPut d put ∷ S) = in-ranges_of n S
+  in-ranges_of n (OfRetain u k ∷ S) = in-ranges_of n S
   in-ranges_of n (Ack d o first last ∷ S) = one_range (same_client c d) (origin == o) first last n (filter_map (range_of c origin) S) (is_acknowledged c S (n, origin)) (in-ranges_of n S)
 
   are-ranges_of : (S : List Op) → AllByRecursion IsRange (filter_map (range_of c origin) S)
   are-ranges_of [] = tt
   are-ranges_of (OfSession d stamp counter change ∷ S) = are-ranges_of S
   are-ranges_of (OfPut d put ∷ S) = are-ranges_of S
+  are-ranges_of (OfRetain u k ∷ S) = are-ranges_of S
   are-ranges_of (Ack d o first last ∷ S) = is_range_two (same_client c d) (origin == o) first last (filter_map (range_of c origin) S) (are-ranges_of S)
 
   -- the ranges say what is acknowledged
@@ -109,15 +112,16 @@ module _ (N W : List Op) (t : Thin N W) where
   unfolding exceptions
   exceptions-thin c = sum_to-same (λ origin. above_a_gap (acknowledged c origin N)) (λ origin. above_a_gap (acknowledged c origin W)) (λ origin. ap above_a_gap (acknowledged-thin c origin)) 255
 
-abbrev passed : List (List ℕ) → (List ℕ → ℕ) → (List ℕ → ℕ) → (List ℕ → ℕ) → Option Limit
-passed all pend park except =
+abbrev passed : List (List ℕ) → (List ℕ → ℕ) → (List ℕ → ℕ) → (List ℕ → ℕ) → List (List ℕ) → Option Limit
+passed all pend park except kept =
     if nat_lt 4096 (length all) then Some Clients
     else (if list_any (λ c. nat_lt 16384 (pend c)) all then Some Pending
     else (if list_any (λ c. nat_lt 4096 (park c)) all then Some Parked
-    else (if list_any (λ c. nat_lt 16384 (except c)) all then Some Exceptions else None)))
+    else (if list_any (λ c. nat_lt 16384 (except c)) all then Some Exceptions
+    else (if nat_lt 4096 (length kept) then Some Retained else None))))
 
 pub first_passed-thin : (N W : List Op) → Thin N W → first_passed N ≡ first_passed W
-first_passed-thin N W t = λ i. passed (clients-thin N W t i) (λ c. length (pending-thin N W t c i)) (λ c. length (parked-thin N W t c i)) (λ c. exceptions-thin N W t c i)
+first_passed-thin N W t = λ i. passed (clients-thin N W t i) (λ c. length (pending-thin N W t c i)) (λ c. length (parked-thin N W t c i)) (λ c. exceptions-thin N W t c i) (topics-thin N W t i)
 
 pub parked-counts : (c : List ℕ) (S K : List Op) → CountsAs S K → parked c K ≡ parked c S
 parked-counts c = same_by_counts (parked c) (λ N W t. parked-thin N W t c)

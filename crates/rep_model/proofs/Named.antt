@@ -11,7 +11,7 @@ use Rattle.std.proofs.lemmas.Map.Text.{is_eq-slice_cmp}
 use Rattle.std.proofs.lemmas.Map.Views.{tells_apart, Contains-from_any, list_any-from_Contains}
 use Rattle.rep_op.specs.declared.op.Stamp.{Stamp}
 use Rattle.rep_op.specs.declared.op.Op.{Op}
-use Rattle.rep_op.specs.declared.op.Op.TheVariants.{Session as OfSession, Put as OfPut, Ack}
+use Rattle.rep_op.specs.declared.op.Op.TheVariants.{Session as OfSession, Put as OfPut, Ack, Retain as OfRetain}
 use Rattle.rep_op.specs.Orders.{stamp_cmp, operation_cmp, put_cmp, client_cmp}
 use Rattle.rep_op.specs.Sets.{same_client, operation_of, operations, operation_at, put_of, put_at, acknowledges, is_acknowledged}
 use Rattle.rep_model.specs.Views.{greatest, take_stamp, names, visible, history_at, session_of, in_order, unacknowledged, view, unseen, named, clients, names_client, is_named}
@@ -57,6 +57,7 @@ module _ (c : List ℕ) where
   names-finds (Ack d origin first last) h =
       let w = and_parts (same_client c d) (nat_le first last) h in
       (at_acknowledgement (first, origin), four_from (same_client c d) (origin == origin) (nat_le first first) (nat_le first last) w.0 (eq-eqb origin origin refl) (le-leb first first (omega arith)) w.1)
+  names-finds (OfRetain u k) h = absurd (true≢false (sym h))
 
   ranged : (a b : Bool) (first last m : ℕ) → (a && b && nat_le first m && nat_le m last) ≡ true → (a && nat_le first last) ≡ true
   ranged false b first last m e = absurd (true≢false (sym e))
@@ -75,11 +76,14 @@ module _ (c : List ℕ) where
   finds-names (at_operation n) (OfSession d stamp counter change) h = entry_named operation_cmp n (same_client c d) ((stamp, counter), change) h
   finds-names (at_operation n) (OfPut d p) h = absurd (true≢false (sym h))
   finds-names (at_operation n) (Ack d origin first last) h = absurd (true≢false (sym h))
+  finds-names (at_operation n) (OfRetain u k) h = absurd (true≢false (sym h))
   finds-names (at_put n) (OfSession d stamp counter change) h = absurd (true≢false (sym h))
   finds-names (at_put n) (OfPut d p) h = entry_named put_cmp n (same_client c d) ((p.seq, p.origin), p) h
   finds-names (at_put n) (Ack d origin first last) h = absurd (true≢false (sym h))
+  finds-names (at_put n) (OfRetain u k) h = absurd (true≢false (sym h))
   finds-names (at_acknowledgement n) (OfSession d stamp counter change) h = absurd (true≢false (sym h))
   finds-names (at_acknowledgement n) (OfPut d p) h = absurd (true≢false (sym h))
+  finds-names (at_acknowledgement n) (OfRetain u k) h = absurd (true≢false (sym h))
   finds-names (at_acknowledgement n) (Ack d origin first last) h = ranged (same_client c d) (n.1 == origin) first last n.0 h
 
   named-there : (S : List Op) → is_named c S ≡ true → (n : Name) × (is_there S n ≡ true)
@@ -120,7 +124,7 @@ is_named-counts c = same_by_counts (is_named c) (λ N W t. is_named-thin c N W t
 
 -- ---- the list of clients
 
-one_client : (c d : List ℕ) (r : Option (List ℕ)) (b : Bool) → r ≡ (if b then Some c else None) → cond (eq_by_cmp client_cmp c d) (Some d) r ≡ (if same_client c d || b then Some c else None)
+pub one_client : (c d : List ℕ) (r : Option (List ℕ)) (b : Bool) → r ≡ (if b then Some c else None) → cond (eq_by_cmp client_cmp c d) (Some d) r ≡ (if same_client c d || b then Some c else None)
 one_client c d r b h = ap (λ t. cond t (Some d) r) (is_eq-slice_cmp c d)
     ∙ elim (same_client c d) as (λ t. same_client c d ≡ t → cond t (Some d) r ≡ (if t || b then Some c else None)) [
       | true ↦ λ e. ap Some (sym (same_client-true c d e))
@@ -139,6 +143,7 @@ pub find_named : (c : List ℕ) (S : List Op) → find client_cmp c (filter_map 
 find_named c [] = refl
 find_named c (OfSession d stamp counter change ∷ S) = one_client c d (find client_cmp c (filter_map named S)) (is_named c S) (find_named c S)
 find_named c (OfPut d p ∷ S) = one_client c d (find client_cmp c (filter_map named S)) (is_named c S) (find_named c S)
+find_named c (OfRetain u k ∷ S) = find_named c S
 find_named c (Ack d origin first last ∷ S) =
     elim (nat_le first last) as (λ l. find client_cmp c (cons_option (if l then Some (d, d) else None) (filter_map named S)) ≡ (if (same_client c d && l) || is_named c S then Some c else None)) [
       | true ↦ one_client c d (find client_cmp c (filter_map named S)) (is_named c S) (find_named c S) ∙ ap (λ b. if b || is_named c S then Some c else None) (and_true (same_client c d))
@@ -188,7 +193,7 @@ module _ {K X : Type 0} (R : K → K → Ordering) where
   below_names k [] h = tt
   below_names k (e ∷ es) h = (less (R k e.0) (first (is_lt (R k e.0)) (below_all R k es) h), below_names k es (second (is_lt (R k e.0)) (below_all R k es) h))
 
-  sorted_names : (es : List (K × X)) → T (is_sorted R es) → IsStrictlySortedBy R (names es)
+  pub sorted_names : (es : List (K × X)) → T (is_sorted R es) → IsStrictlySortedBy R (names es)
   unfolding IsStrictlySortedBy
   sorted_names [] h = tt
   sorted_names (e ∷ es) h = (below_names e.0 es (first (below_all R e.0 es) (is_sorted R es) h), sorted_names es (second (below_all R e.0 es) (is_sorted R es) h))
@@ -215,11 +220,13 @@ module _ (c : List ℕ) where
   no_operation (OfSession d stamp counter change) h = ap (λ b. if b then Some ((stamp, counter), change) else None) h
   no_operation (OfPut d p) h = refl
   no_operation (Ack d origin first last) h = refl
+  no_operation (OfRetain u k) h = refl
 
   no_put : (op : Op) → names_client c op ≡ false → put_of c op ≡ None
   no_put (OfSession d stamp counter change) h = refl
   no_put (OfPut d p) h = ap (λ b. if b then Some ((p.seq, p.origin), p) else None) h
   no_put (Ack d origin first last) h = refl
+  no_put (OfRetain u k) h = refl
 
   no_last : (a b : Bool) (first last : ℕ) → (a && nat_le first last) ≡ false → (if a && b && nat_le first last then last else 0) ≡ 0
   no_last false b first last h = refl
@@ -230,6 +237,7 @@ module _ (c : List ℕ) where
   no_seq gateway (OfSession d stamp counter change) h = refl
   no_seq gateway (OfPut d p) h = ap (λ b. if b && (gateway == p.origin) then p.seq else 0) h
   no_seq gateway (Ack d origin first last) h = no_last (same_client c d) (gateway == origin) first last h
+  no_seq gateway (OfRetain u k) h = refl
 
   module _ (S : List Op) (h : is_named c S ≡ false) where
     no_operations : operations c S ≡ []

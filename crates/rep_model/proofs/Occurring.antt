@@ -10,10 +10,11 @@ use Rattle.sn_session.specs.declared.change.SessionOp.{SessionOp}
 use Rattle.rep_op.specs.declared.op.Stamp.{Stamp}
 use Rattle.rep_op.specs.declared.op.Put.{Put}
 use Rattle.rep_op.specs.declared.op.Op.{Op}
-use Rattle.rep_op.specs.declared.op.Op.TheVariants.{Session as OfSession, Put as OfPut, Ack}
-use Rattle.rep_op.specs.Orders.{operation_cmp, put_cmp}
-use Rattle.rep_op.specs.Sets.{same_client, operation_of, operation_at, put_of, put_at}
-use Rattle.rep_model.proofs.Readers.{operation_exact, put_exact, same_client-true}
+use Rattle.rep_op.specs.declared.op.Retained.{Retained}
+use Rattle.rep_op.specs.declared.op.Op.TheVariants.{Session as OfSession, Put as OfPut, Ack, Retain as OfRetain}
+use Rattle.rep_op.specs.Orders.{operation_cmp, put_cmp, clock_of, clock_cmp}
+use Rattle.rep_op.specs.Sets.{same_client, operation_of, operation_at, put_of, put_at, same_topic, retain_of, retain_at}
+use Rattle.rep_model.proofs.Readers.{operation_exact, put_exact, clock_exact, same_client-true, same_topic-true}
 
 head_of : {X : Type 0} (x : X) (xs : List X) → Contains (x ∷ xs) x
 head_of x xs = (0, omega arith, refl)
@@ -30,6 +31,7 @@ pub operation_occurs : (c : List ℕ) (S : List Op) (name : Stamp × ℕ) (chang
 operation_occurs c [] name change e = absurd (cc)
 operation_occurs c (OfPut d put ∷ S) name change e = behind _ _ S (operation_occurs c S name change e)
 operation_occurs c (Ack d origin first last ∷ S) name change e = behind _ _ S (operation_occurs c S name change e)
+operation_occurs c (OfRetain u kept ∷ S) name change e = behind _ _ S (operation_occurs c S name change e)
 operation_occurs c (OfSession d stamp counter o ∷ S) name change e =
     elim (same_client c d) as (λ b. same_client c d ≡ b → find operation_cmp name (filter_map (operation_of c) (OfSession d stamp counter o ∷ S)) ≡ Some change → Contains (OfSession d stamp counter o ∷ S) (OfSession c name.0 name.1 change)) [
       | true ↦ λ same found.
@@ -53,6 +55,7 @@ pub put_occurs : (c : List ℕ) (S : List Op) (name : ℕ × ℕ) (put : Put) �
 put_occurs c [] name put e = absurd (cc)
 put_occurs c (OfSession d stamp counter o ∷ S) name put e = let h = put_occurs c S name put e in (behind _ _ S h.0, h.1)
 put_occurs c (Ack d origin first last ∷ S) name put e = let h = put_occurs c S name put e in (behind _ _ S h.0, h.1)
+put_occurs c (OfRetain u kept ∷ S) name put e = let h = put_occurs c S name put e in (behind _ _ S h.0, h.1)
 put_occurs c (OfPut d p ∷ S) name put e =
     elim (same_client c d) as (λ b. same_client c d ≡ b → find put_cmp name (filter_map (put_of c) (OfPut d p ∷ S)) ≡ Some put → Contains (OfPut d p ∷ S) (OfPut c put) × ((put.seq, put.origin) ≡ name)) [
       | true ↦ λ same found.
@@ -69,4 +72,27 @@ put_occurs c (OfPut d p ∷ S) name put e =
       | false ↦ λ same found.
           let there : put_at c S name ≡ Some put = rw same at found in
           let h = put_occurs c S name put there in (behind _ _ S h.0, h.1)
+    ] refl e
+
+pub retain_occurs : (t : List ℕ) (S : List Op) (name : ℕ × ℕ) (kept : Retained) → retain_at t S name ≡ Some kept → Contains S (OfRetain t kept) × (clock_of kept ≡ name)
+retain_occurs t [] name kept e = absurd (cc)
+retain_occurs t (OfSession d stamp counter o ∷ S) name kept e = let h = retain_occurs t S name kept e in (behind _ _ S h.0, h.1)
+retain_occurs t (OfPut d p ∷ S) name kept e = let h = retain_occurs t S name kept e in (behind _ _ S h.0, h.1)
+retain_occurs t (Ack d origin first last ∷ S) name kept e = let h = retain_occurs t S name kept e in (behind _ _ S h.0, h.1)
+retain_occurs t (OfRetain u k ∷ S) name kept e =
+    elim (same_topic t u) as (λ b. same_topic t u ≡ b → find clock_cmp name (filter_map (retain_of t) (OfRetain u k ∷ S)) ≡ Some kept → Contains (OfRetain u k ∷ S) (OfRetain t kept) × (clock_of kept ≡ name)) [
+      | true ↦ λ same found.
+          let there : cond (is_eq (clock_cmp name (k.clock, k.gateway))) (Some k) (retain_at t S name) ≡ Some kept = rw same at found in
+          elim (is_eq (clock_cmp name (k.clock, k.gateway))) as (λ b. is_eq (clock_cmp name (k.clock, k.gateway)) ≡ b → cond b (Some k) (retain_at t S name) ≡ Some kept → Contains (OfRetain u k ∷ S) (OfRetain t kept) × (clock_of kept ≡ name)) [
+            | true ↦ λ tie is.
+                let names : name ≡ (k.clock, k.gateway) = clock_exact name (k.clock, k.gateway) (equal_of _ tie) in
+                let content : k ≡ kept = cc in
+                let whose : t ≡ u = same_topic-true t u same in
+                let whole : OfRetain u k ≡ OfRetain t kept = cc in
+                (subst (λ op. Contains (OfRetain u k ∷ S) op) whole (head_of _ S), ◌∙◌ {b = (k.clock, k.gateway)} (ap (λ (q : Retained). (q.clock, q.gateway)) (sym content)) (sym names))
+            | false ↦ λ tie is. let h = retain_occurs t S name kept is in (behind _ _ S h.0, h.1)
+          ] refl there
+      | false ↦ λ same found.
+          let there : retain_at t S name ≡ Some kept = rw same at found in
+          let h = retain_occurs t S name kept there in (behind _ _ S h.0, h.1)
     ] refl e

@@ -15,11 +15,13 @@ use Rattle.sn_session.specs.declared.change.SessionOp.{SessionOp}
 use Rattle.rep_op.specs.declared.op.Stamp.{Stamp}
 use Rattle.rep_op.specs.declared.op.Put.{Put}
 use Rattle.rep_op.specs.declared.op.Op.{Op}
-use Rattle.rep_op.specs.declared.op.Op.TheVariants.{Session as OfSession, Put as OfPut, Ack}
-use Rattle.rep_op.specs.Orders.{stamp_cmp, operation_cmp, put_cmp, client_cmp}
-use Rattle.rep_op.specs.Sets.{same_client, operation_of, operations, operation_at, put_of, puts, put_at, acknowledges, is_acknowledged}
+use Rattle.rep_op.specs.declared.op.Retained.{Retained}
+use Rattle.rep_op.specs.declared.op.Op.TheVariants.{Session as OfSession, Put as OfPut, Ack, Retain as OfRetain}
+use Rattle.rep_op.specs.Orders.{stamp_cmp, operation_cmp, put_cmp, client_cmp, topic_name_cmp, clock_of, clock_cmp}
+use Rattle.rep_op.specs.Sets.{same_client, operation_of, operations, operation_at, put_of, puts, put_at, acknowledges, is_acknowledged, same_topic, retain_of, retains, retain_at}
 use Rattle.rep_model.specs.Views.{take_stamp, names, visible}
-use Rattle.rep_model.specs.Keep.{is_below, is_kept, keep}
+use Rattle.rep_model.specs.Topics.{clocks, latest}
+use Rattle.rep_model.specs.Keep.{is_below, is_outdone, is_kept, keep}
 use Rattle.rep_model.proofs.Lookup.{or_else, find_both, filter_map-filter, list_any-filter}
 use Rattle.rep_model.proofs.Greatest.{has}
 
@@ -50,6 +52,21 @@ client_total = nat_list_cmp_total
 pub client_exact : CmpEqualImpliesEq client_cmp
 client_exact = exact_bytes
 
+pub clock_total : IsTotalOrder clock_cmp
+clock_total = then_total (on_total (λ (n : ℕ × ℕ). n.0) nat_cmp_total) (on_total (λ (n : ℕ × ℕ). n.1) nat_cmp_total)
+
+pub clock_exact : CmpEqualImpliesEq clock_cmp
+clock_exact = exact_pairs nat_cmp nat_cmp exact_unsigned exact_unsigned
+
+pub topic_total : IsTotalOrder topic_name_cmp
+topic_total = nat_list_cmp_total
+
+pub topic_exact : CmpEqualImpliesEq topic_name_cmp
+topic_exact = exact_bytes
+
+pub same_topic-true : (t u : List ℕ) → same_topic t u ≡ true → t ≡ u
+same_topic-true t u e = (bytes_eq-Decides t u).0 e
+
 pub same_client-true : (c d : List ℕ) → same_client c d ≡ true → c ≡ d
 same_client-true c d e = (bytes_eq-Decides c d).0 e
 
@@ -64,6 +81,9 @@ module _ (c : List ℕ) (A B : List Op) where
   pub is_acknowledged_both : (name : ℕ × ℕ) → is_acknowledged c (A ++ B) name ≡ (is_acknowledged c A name || is_acknowledged c B name)
   is_acknowledged_both name = list_any-append (acknowledges c name) A B
 
+  pub retain_at_both : (name : ℕ × ℕ) → retain_at c (A ++ B) name ≡ or_else (retain_at c A name) (retain_at c B name)
+  retain_at_both name = ap (find clock_cmp name) (filter_map-append (retain_of c) A B) ∙ find_both clock_cmp name (retains c A) (retains c B)
+
 -- what is kept of a set
 module _ (c : List ℕ) (S : List Op) where
   kept_operation : (op : Op) → IfSome (operation_of c op) (λ e. is_kept S op ≡ not (is_below e.0.0 (visible c S)))
@@ -74,6 +94,7 @@ module _ (c : List ℕ) (S : List Op) where
       ] refl
   kept_operation (OfPut d put) = tt
   kept_operation (Ack d origin first last) = tt
+  kept_operation (OfRetain u kept) = tt
 
   pub operation_at_keep : (name : Stamp × ℕ) → operation_at c (keep S) name ≡ cond (not (is_below name.0 (visible c S))) (operation_at c S name) None
   operation_at_keep name =
@@ -88,6 +109,7 @@ module _ (c : List ℕ) (S : List Op) where
         | false ↦ λ _. tt
       ] refl
   kept_put (Ack d origin first last) = tt
+  kept_put (OfRetain u kept) = tt
 
   pub put_at_keep : (name : ℕ × ℕ) → put_at c (keep S) name ≡ cond (not (is_acknowledged c S name)) (put_at c S name) None
   put_at_keep name =
@@ -98,9 +120,29 @@ module _ (c : List ℕ) (S : List Op) where
   kept_acknowledgement name (OfSession d stamp counter change) e = absurd (true≢false (sym e))
   kept_acknowledgement name (OfPut d put) e = absurd (true≢false (sym e))
   kept_acknowledgement name (Ack d origin first last) e = refl
+  kept_acknowledgement name (OfRetain u kept) e = absurd (true≢false (sym e))
 
   pub is_acknowledged_keep : (name : ℕ × ℕ) → is_acknowledged c (keep S) name ≡ is_acknowledged c S name
   is_acknowledged_keep name = list_any-filter (acknowledges c name) (is_kept S) (kept_acknowledgement name) S
+
+  kept_retain : (op : Op) → IfSome (retain_of c op) (λ e. is_kept S op ≡ not (is_outdone e.0 (latest c S)))
+  kept_retain (OfSession d stamp counter change) = tt
+  kept_retain (OfPut d put) = tt
+  kept_retain (Ack d origin first last) = tt
+  kept_retain (OfRetain u kept) =
+      elim (same_topic c u) as (λ b. same_topic c u ≡ b → IfSome {T = (ℕ × ℕ) × Retained} (if b then Some (clock_of kept, kept) else None) (λ e. not (is_outdone (clock_of kept) (latest u S)) ≡ not (is_outdone e.0 (latest c S)))) [
+        | true ↦ λ e. ap (λ x. not (is_outdone (clock_of kept) (latest x S))) (sym (same_topic-true c u e))
+        | false ↦ λ _. tt
+      ] refl
+
+  pub retain_at_keep : (name : ℕ × ℕ) → retain_at c (keep S) name ≡ cond (not (is_outdone name (latest c S))) (retain_at c S name) None
+  retain_at_keep name =
+      ap (find clock_cmp name) (filter_map-filter (retain_of c) (is_kept S) (λ n. not (is_outdone n (latest c S))) kept_retain S)
+      ∙ find-where_key clock_cmp (λ n. not (is_outdone n (latest c S))) name (λ x t. ap (λ (n : ℕ × ℕ). not (is_outdone n (latest c S))) (sym (clock_exact name x t))) (retains c S)
+
+-- the names under which something was retained are those that a reader finds
+pub has_clock : (t : List ℕ) (S : List Op) (name : ℕ × ℕ) → has clock_cmp name (clocks t S) ≡ is_some (retain_at t S name)
+has_clock t S name = sym (is_some-find clock_cmp name (retains t S))
 
 -- the stamps whose Take is there
 abbrev pub takes : List ℕ → List Op → List Stamp

@@ -11,12 +11,13 @@ use Rattle.std.specs.declared.cmp.Ordering.TheVariants.{Less, Equal}
 use Rattle.std.proofs.lemmas.Bool.{and_parts, and_from, ltb-true, ltb-false, lt-ltb, le-ltb}
 use Rattle.std.proofs.lemmas.Cmp.{eq_by_cmp_equiv, ranked}
 use Rattle.std.proofs.lemmas.List.Elements.{filter_map-append, All-from_recursion, All-contains, Contains-append_right}
+use Rattle.std.proofs.lemmas.List.Folds.{list_any-append}
 use Rattle.std.proofs.lemmas.List.Sums.{sum_by-append}
 use Rattle.std.proofs.lemmas.Map.Lookups.{CmpEqualImpliesEq}
 use Rattle.sn_session.specs.declared.change.SessionOp.{SessionOp}
 use Rattle.rep_ops.specs.Making.{AreWellMade}
-use Rattle.rep_op.specs.Orders.{stamp_cmp, operation_cmp, put_cmp, client_cmp}
-use Rattle.rep_op.specs.Sets.{operations, operation_at, put_at, is_acknowledged, Same}
+use Rattle.rep_op.specs.Orders.{stamp_cmp, operation_cmp, put_cmp, client_cmp, topic_name_cmp}
+use Rattle.rep_op.specs.Sets.{operations, operation_at, put_at, is_acknowledged, retain_at, Same}
 use Rattle.rep_ops.specs.Splitting.{all_of}
 use Rattle.rep_op.specs.WellMade.{is_well_made}
 use Rattle.rep_op.specs.declared.op.Op.{Op}
@@ -26,21 +27,23 @@ use Rattle.rep_op.specs.declared.op.Stamp.{Stamp}
 use Rattle.rep_ops.proofs.Joined.{rising_ascending}
 use Rattle.rep_ops.proofs.Rising.{Rising, Past}
 use Rattle.rep_model.specs.Held.{IsHeld}
-use Rattle.rep_model.specs.Keep.{is_below, keep, IsKeptOf, CountsAs}
+use Rattle.rep_model.specs.Topics.{latest, topic_in, topics, names_topic, has_topic}
+use Rattle.rep_model.specs.Keep.{is_below, is_outdone, keep, IsKeptOf, CountsAs}
 use Rattle.rep_model.specs.Limits.{is_in_prefix, parked, range_of, acknowledged, size_of, above_a_gap, sum_to, exceptions, any_above, first_passed}
 use Rattle.rep_model.specs.Roomy.{IsRoomy}
 use Rattle.rep_model.specs.Views.{visible, history, in_order, unacknowledged, pending, pending_at, named, names_client, clients, is_named, gapless, then_more, history_at}
 use Rattle.rep_model.specs.declared.fault.Limit.{Limit}
-use Rattle.rep_model.specs.declared.fault.Limit.TheVariants.{Clients, Pending, Parked, Exceptions}
+use Rattle.rep_model.specs.declared.fault.Limit.TheVariants.{Clients, Pending, Parked, Exceptions, Retained}
 use Rattle.rep_model.proofs.Apart.{ranges_rising}
 use Rattle.rep_model.proofs.Greatest.{same_greatest, has}
 use Rattle.rep_model.proofs.Joins.{all-left, all-right, same_sym, same_trans}
 use Rattle.rep_model.proofs.Limits.{apart-acknowledged, first_passed-counts}
 use Rattle.rep_model.proofs.Lookup.{or_else, find-in_order, is_sorted-in_order}
 use Rattle.rep_model.proofs.Named.{find_clients, clients-named}
+use Rattle.rep_model.proofs.Topics.{find_topics}
 use Rattle.rep_model.proofs.Occurring.{equal_of, operation_occurs}
 use Rattle.rep_model.proofs.Ranges.{in-joined, same_ranges}
-use Rattle.rep_model.proofs.Readers.{operation_total, operation_exact, put_total, put_exact, client_total, client_exact, operation_at_both, put_at_both, operation_at_keep, put_at_keep, is_acknowledged_keep, stamp_total, stamp_exact, takes, has_take}
+use Rattle.rep_model.proofs.Readers.{operation_total, operation_exact, put_total, put_exact, client_total, client_exact, operation_at_both, put_at_both, operation_at_keep, put_at_keep, is_acknowledged_keep, retain_at_keep, topic_total, topic_exact, stamp_total, stamp_exact, takes, has_take}
 use Rattle.rep_model.proofs.Thin.{pending_at-reads, some_left, same_kept, thin-same, thin-keep}
 
 is_none_of : {X : Type 0} (b : Bool) (x : Option X) → is_some (cond b x None) ≡ true → (b ≡ true) × (is_some x ≡ true)
@@ -300,7 +303,7 @@ module _ (P Q : List Op) (up : Rising 1 (P ++ Q)) (whole : Same (keep (P ++ Q)) 
   parked_le : length (parked c P) ≤ length (parked c (P ++ Q))
   parked_le = sorted_le operation_cmp operation_total operation_exact (length (parked c P)) (parked c P) (parked c (P ++ Q)) refl (sorted-parked c P) (sorted-parked c (P ++ Q)) parked_sub
 
--- ---- the four limits
+-- ---- the five limits
 
 any_le : (most : ℕ) (f g : List ℕ → ℕ) (xs ys : List (List ℕ)) → ((c : List ℕ) → Contains xs c → Contains ys c) → ((c : List ℕ) → f c ≤ g c) → list_any (λ c. nat_lt most (g c)) ys ≡ false → list_any (λ c. nat_lt most (f c)) xs ≡ false
 any_le most f g [] ys sub le none = refl
@@ -327,31 +330,54 @@ any_le most f g (x ∷ xs) ys sub le none =
             or_parts true b e = absurd (true≢false e)
             or_parts false b e = (refl, e)
 
-abbrev limited : Bool → Bool → Bool → Bool → Option Limit
-limited a b d e = if a then Some Clients else (if b then Some Pending else (if d then Some Parked else (if e then Some Exceptions else None)))
+abbrev limited : Bool → Bool → Bool → Bool → Bool → Option Limit
+limited a b d e f = if a then Some Clients else (if b then Some Pending else (if d then Some Parked else (if e then Some Exceptions else (if f then Some Retained else None))))
 
-none_parts : (a b d e : Bool) → limited a b d e ≡ None → (a ≡ false) × (b ≡ false) × (d ≡ false) × (e ≡ false)
-none_parts true b d e h = absurd cc
-none_parts false true d e h = absurd cc
-none_parts false false true e h = absurd cc
-none_parts false false false true h = absurd cc
-none_parts false false false false h = (refl, refl, refl, refl)
+none_parts : (a b d e f : Bool) → limited a b d e f ≡ None → (a ≡ false) × (b ≡ false) × (d ≡ false) × (e ≡ false) × (f ≡ false)
+none_parts true b d e f h = absurd cc
+none_parts false true d e f h = absurd cc
+none_parts false false true e f h = absurd cc
+none_parts false false false true f h = absurd cc
+none_parts false false false false true h = absurd cc
+none_parts false false false false false h = (refl, refl, refl, refl, refl)
 
-all_none : (a b d e : Bool) → a ≡ false → b ≡ false → d ≡ false → e ≡ false → limited a b d e ≡ None
-all_none a b d e p q r t = λ i. limited (p i) (q i) (r i) (t i)
+all_none : (a b d e f : Bool) → a ≡ false → b ≡ false → d ≡ false → e ≡ false → f ≡ false → limited a b d e f ≡ None
+all_none a b d e f p q r t u = λ i. limited (p i) (q i) (r i) (t i) (u i)
+
+-- a part has no more topics than the whole
+topics_le : (P Q : List Op) → length (topics P) ≤ length (topics (P ++ Q))
+topics_le P Q =
+    let es = in_order topic_name_cmp (filter_map topic_in P) in
+    let fs = in_order topic_name_cmp (filter_map topic_in (P ++ Q)) in
+    let less = sorted_le topic_name_cmp topic_total topic_exact (length es) es fs refl (is_sorted-in_order topic_name_cmp topic_total (filter_map topic_in P)) (is_sorted-in_order topic_name_cmp topic_total (filter_map topic_in (P ++ Q)))
+    (λ q h. ap is_some (find_topics q (P ++ Q)) ∙ some_of (has_topic q (P ++ Q)) q (there q (is_topic_of (has_topic q P) q (sym (ap is_some (find_topics q P)) ∙ h)))) in
+    omega (arith, less, length_of_map (λ (e : List ℕ × List ℕ). e.0) es, length_of_map (λ (e : List ℕ × List ℕ). e.0) fs)
+  where
+    some_of : (b : Bool) (q : List ℕ) → b ≡ true → is_some (if b then Some q else None) ≡ true
+    some_of true q e = refl
+    some_of false q e = absurd (true≢false (sym e))
+
+    is_topic_of : (b : Bool) (q : List ℕ) → is_some (if b then Some q else None) ≡ true → b ≡ true
+    is_topic_of true q e = refl
+    is_topic_of false q e = absurd (true≢false (sym e))
+
+    there : (q : List ℕ) → has_topic q P ≡ true → has_topic q (P ++ Q) ≡ true
+    there q h = list_any-append (names_topic q) P Q ∙ ap (λ b. b || has_topic q Q) h
 
 -- the law: a part from the first operation on passes no limit that the whole does not pass
 pub front_room : (P Q : List Op) → AreWellMade P → AreWellMade (P ++ Q) → Rising 1 (P ++ Q) → Same (keep (P ++ Q)) (P ++ Q) → first_passed (P ++ Q) ≡ None → first_passed P ≡ None
 front_room P Q made_part made up whole room =
     let W = P ++ Q in
-    let r = none_parts (nat_lt 4096 (length (clients W))) (any_above 16384 (λ c. length (pending c W)) W) (any_above 4096 (λ c. length (parked c W)) W) (any_above 16384 (λ c. exceptions c W) W) room in
+    let r = none_parts (nat_lt 4096 (length (clients W))) (any_above 16384 (λ c. length (pending c W)) W) (any_above 4096 (λ c. length (parked c W)) W) (any_above 16384 (λ c. exceptions c W) W) (nat_lt 4096 (length (topics W))) room in
     let sub : (c : List ℕ) → Contains (clients P) c → Contains (clients W) c = λ c h. (clients-named c W).0 (named_left P Q whole c P ((clients-named c P).1 h)) in
     let few = ltb-false 4096 (length (clients W)) r.0 in
-    all_none (nat_lt 4096 (length (clients P))) (any_above 16384 (λ c. length (pending c P)) P) (any_above 4096 (λ c. length (parked c P)) P) (any_above 16384 (λ c. exceptions c P) P)
+    let few_topics = ltb-false 4096 (length (topics W)) r.4 in
+    all_none (nat_lt 4096 (length (clients P))) (any_above 16384 (λ c. length (pending c P)) P) (any_above 4096 (λ c. length (parked c P)) P) (any_above 16384 (λ c. exceptions c P) P) (nat_lt 4096 (length (topics P)))
     (le-ltb 4096 (length (clients P)) (omega (arith, few, clients_le P Q whole)))
     (any_le 16384 (λ c. length (pending c P)) (λ c. length (pending c W)) (clients P) (clients W) sub (λ c. pending_le P Q whole c) r.1)
     (any_le 4096 (λ c. length (parked c P)) (λ c. length (parked c W)) (clients P) (clients W) sub (λ c. parked_le P Q up whole c) r.2)
     (any_le 16384 (λ c. exceptions c P) (λ c. exceptions c W) (clients P) (clients W) sub (λ c. exceptions_le c P Q made_part made up) r.3)
+    (le-ltb 4096 (length (topics P)) (omega (arith, few_topics, topics_le P Q)))
 
 all_split : (ds : List (List Op)) (k : ℕ) → all_of ds ≡ all_of (take k ds) ++ all_of (drop k ds)
 all_split [] zero = refl
@@ -378,11 +404,13 @@ base_between S base held =
         operations_in = λ c name change e. same.operations_same c name ∙ e;
         puts_in = λ c name put e. same.puts_same c name ∙ e;
         acknowledgements_in = λ c name e. same.acknowledgements_same c name ∙ e;
+        retains_in = λ t name k e. same.retains_same t name ∙ e;
       };
       upper = record {
         operations_in = λ c name change e. is_some_of (not (is_below name.0 (visible c S))) (operation_at c S name) change (sym (operation_at_keep c S name) ∙ sym (same.operations_same c name) ∙ e);
         puts_in = λ c name put e. is_some_of (not (is_acknowledged c S name)) (put_at c S name) put (sym (put_at_keep c S name) ∙ sym (same.puts_same c name) ∙ e);
         acknowledgements_in = λ c name e. sym (is_acknowledged_keep c S name) ∙ sym (same.acknowledgements_same c name) ∙ e;
+        retains_in = λ t name k e. is_some_of (not (is_outdone name (latest t S))) (retain_at t S name) k (sym (retain_at_keep t S name) ∙ sym (same.retains_same t name) ∙ e);
       };
     }
 

@@ -1,5 +1,5 @@
 -- Small sets, and what they say.
-use Rattle.std.proofs.Common.{◌≡◌, ℕ, ◌-◌, ◌^◌, List, [], ◌∷◌, Some, None, refl}
+use Rattle.std.proofs.Common.{◌≡◌, ℕ, ◌-◌, ◌^◌, List, [], ◌∷◌, Some, None, refl, false}
 use Rattle.sn_session.specs.declared.presence.Presence.TheVariants.{Asleep, Lost}
 use Rattle.sn_session.specs.declared.session.Session.{Session}
 use Rattle.sn_session.specs.Session.{empty_session}
@@ -7,10 +7,12 @@ use Rattle.sn_session.specs.declared.change.SessionOp.TheVariants.{Take, Presenc
 use Rattle.rep_op.specs.declared.op.Stamp.{Stamp}
 use Rattle.rep_op.specs.declared.op.Put.{Put}
 use Rattle.rep_op.specs.declared.op.Op.{Op}
-use Rattle.rep_op.specs.declared.op.Op.TheVariants.{Session as OfSession, Put as OfPut, Ack}
+use Rattle.rep_op.specs.declared.op.Retained.{Retained}
+use Rattle.rep_op.specs.declared.op.Op.TheVariants.{Session as OfSession, Put as OfPut, Ack, Retain as OfRetain}
 use Rattle.rep_model.specs.declared.fault.Limit.TheVariants.{Exceptions}
 use Rattle.rep_model.specs.Views.{gapless, view, clients, pending}
-use Rattle.rep_model.specs.Fresh.{next_epoch, next_seq}
+use Rattle.rep_model.specs.Topics.{latest, retained, topics, has_topic, all_retained, retained_matching}
+use Rattle.rep_model.specs.Fresh.{next_epoch, next_seq, next_clock}
 use Rattle.rep_model.specs.Keep.{keep}
 use Rattle.rep_model.specs.Limits.{parked, acknowledged, exceptions, first_passed}
 
@@ -41,7 +43,7 @@ abbrev lost : ℕ → ℕ → ℕ → Op
 lost epoch gateway counter = OfSession client (stamp epoch gateway) counter (SetPresence Lost 0)
 
 abbrev message : ℕ → ℕ → Put
-message origin seq = record { origin = origin; seq = seq; topic = 116 ∷ []; qos = 1; body = 55 ∷ [] }
+message origin seq = record { origin = origin; seq = seq; topic = 116 ∷ []; qos = 1; retain = false; expires = 0; body = 55 ∷ [] }
 
 abbrev sent : ℕ → ℕ → Op
 sent origin seq = OfPut client (message origin seq)
@@ -128,3 +130,92 @@ at_the_limit = refl
 past_the_limit : first_passed (Ack client 1 2 16386 ∷ []) ≡ Some Exceptions
 unfolding exceptions gapless
 past_the_limit = refl
+
+-- ---- what is retained of topics
+
+-- the topics 'ab', 'ac' and '$a'
+abbrev ab : List ℕ
+ab = 97 ∷ 98 ∷ []
+
+abbrev ac : List ℕ
+ac = 97 ∷ 99 ∷ []
+
+abbrev dollar : List ℕ
+dollar = 36 ∷ 97 ∷ []
+
+abbrev kept_at : ℕ → ℕ → List ℕ → Retained
+kept_at clock gateway body = record { clock = clock; gateway = gateway; qos = 0; body = body }
+
+abbrev x : List ℕ
+x = 120 ∷ []
+
+abbrev y : List ℕ
+y = 121 ∷ []
+
+-- two gateways retain at once: the greater one's counts, whichever came first
+two_gateways : retained ab (OfRetain ab (kept_at 1 1 x) ∷ OfRetain ab (kept_at 1 2 y) ∷ []) ≡ Some (kept_at 1 2 y)
+two_gateways = refl
+
+two_gateways_turned : retained ab (OfRetain ab (kept_at 1 2 y) ∷ OfRetain ab (kept_at 1 1 x) ∷ []) ≡ Some (kept_at 1 2 y)
+two_gateways_turned = refl
+
+-- the greater clock counts before the greater gateway
+later_clock : retained ab (OfRetain ab (kept_at 1 2 y) ∷ OfRetain ab (kept_at 2 1 x) ∷ OfRetain ab (kept_at 1 1 y) ∷ []) ≡ Some (kept_at 2 1 x)
+later_clock = refl
+
+-- nothing was retained of another topic
+other_topic : retained ac (OfRetain ab (kept_at 1 1 x) ∷ sent 1 1 ∷ []) ≡ None
+other_topic = refl
+
+-- what was ended is there, with an empty body, and is offered to nobody
+ended : List Op
+ended = OfRetain ab (kept_at 1 1 x) ∷ OfRetain ab (kept_at 2 1 []) ∷ OfRetain ac (kept_at 1 1 y) ∷ []
+
+ended_is_there : retained ab ended ≡ Some (kept_at 2 1 [])
+unfolding ended
+ended_is_there = refl
+
+ended_is_not_offered : retained_matching (35 ∷ []) ended ≡ (ac, kept_at 1 1 y) ∷ []
+unfolding ended
+ended_is_not_offered = refl
+
+-- topics stand in the order of their octets, each once
+several : List Op
+several = OfRetain ac (kept_at 1 1 y) ∷ taken 1 1 ∷ OfRetain dollar (kept_at 1 2 x) ∷ OfRetain ab (kept_at 1 1 x) ∷ OfRetain ac (kept_at 1 2 x) ∷ []
+
+topics_in_order : topics several ≡ dollar ∷ ab ∷ ac ∷ []
+unfolding several
+topics_in_order = refl
+
+all_in_order : all_retained several ≡ (dollar, kept_at 1 2 x) ∷ (ab, kept_at 1 1 x) ∷ (ac, kept_at 1 2 x) ∷ []
+unfolding several
+all_in_order = refl
+
+-- a filter that begins with a wildcard asks for no topic that begins with '$'
+wildcard_in_order : retained_matching (35 ∷ []) several ≡ (ab, kept_at 1 1 x) ∷ (ac, kept_at 1 2 x) ∷ []
+unfolding several
+wildcard_in_order = refl
+
+exactly_one : retained_matching ac several ≡ (ac, kept_at 1 2 x) ∷ []
+unfolding several
+exactly_one = refl
+
+-- the next clock counts what any gateway retained of the topic
+clock_after_both : next_clock ab (OfRetain ab (kept_at 1 2 y) ∷ OfRetain ab (kept_at 3 1 x) ∷ OfRetain ac (kept_at 9 1 x) ∷ []) ≡ Some 4
+clock_after_both = refl
+
+first_clock : next_clock ab (OfRetain ac (kept_at 9 1 x) ∷ []) ≡ Some 1
+first_clock = refl
+
+last_clock : next_clock ab (OfRetain ab (kept_at (2 ^ 64 - 1) 1 x) ∷ []) ≡ None
+last_clock = refl
+
+-- of each topic the last is kept, also if it ended what was retained
+kept_of_topics : keep ended ≡ OfRetain ab (kept_at 2 1 []) ∷ OfRetain ac (kept_at 1 1 y) ∷ []
+unfolding ended
+kept_of_topics = refl
+
+-- what is retained names no client
+no_client : clients several ≡ client ∷ []
+unfolding several
+no_client = refl

@@ -5,7 +5,7 @@ use Rattle.std.specs.FinMap.{find}
 use Rattle.std.specs.FinMap.Entries.{by_order, put, is_sorted}
 use Rattle.rep_op.specs.declared.op.Put.{Put}
 use Rattle.rep_op.specs.declared.op.Op.{Op}
-use Rattle.rep_op.specs.declared.op.Op.TheVariants.{Session as OfSession, Put as OfPut, Ack}
+use Rattle.rep_op.specs.declared.op.Op.TheVariants.{Session as OfSession, Put as OfPut, Ack, Retain as OfRetain}
 use Rattle.rep_op.specs.Orders.{put_cmp}
 use Rattle.rep_op.specs.Sets.{same_client, puts, is_acknowledged}
 use Rattle.rep_model.specs.Views.{unacknowledged, pending_at, in_order}
@@ -49,6 +49,7 @@ puts_under c (OfPut d p ∷ S) =
       | false ↦ puts_under c S
     ]
 puts_under c (Ack d origin first last ∷ S) = puts_under c S
+puts_under c (OfRetain t k ∷ S) = puts_under c S
 
 -- what waits for the client, under names
 abbrev pub waiting_entries : List ℕ → List Op → List ((ℕ × ℕ) × Put)

@@ -5,6 +5,6 @@ use Rattle.rep_model.specs.declared.fault.TakeFault.TheVariants.{Conflict, Full,
 
 -- the number by which reports name a fault
 abbrev pub number_of : TakeFault → ℕ
-number_of (Conflict client) = 1
+number_of (Conflict about) = 1
 number_of (Full limit) = 2
 number_of Memory = 3

@@ -1,4 +1,5 @@
 pub mod Views
+pub mod Topics
 pub mod Fresh
 pub mod Keep
 pub mod Held

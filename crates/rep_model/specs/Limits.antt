@@ -5,13 +5,14 @@ use Rattle.std.specs.List.{filter_map, list_any}
 use Rattle.sn_session.specs.declared.change.SessionOp.{SessionOp}
 use Rattle.rep_op.specs.declared.op.Stamp.{Stamp}
 use Rattle.rep_op.specs.declared.op.Op.{Op}
-use Rattle.rep_op.specs.declared.op.Op.TheVariants.{Session as OfSession, Put as OfPut, Ack}
+use Rattle.rep_op.specs.declared.op.Op.TheVariants.{Session as OfSession, Put as OfPut, Ack, Retain as OfRetain}
 use Rattle.rep_op.specs.Orders.{stamp_cmp, operation_cmp}
 use Rattle.rep_op.specs.Sets.{same_client, operations}
-use Rattle.rep_model.specs.declared.fault.TheConstants.{MOST_CLIENTS, MOST_PENDING, MOST_PARKED, MOST_EXCEPTIONS}
+use Rattle.rep_model.specs.declared.fault.TheConstants.{MOST_CLIENTS, MOST_PENDING, MOST_PARKED, MOST_EXCEPTIONS, MOST_RETAINED}
 use Rattle.rep_model.specs.declared.fault.Limit.{Limit}
-use Rattle.rep_model.specs.declared.fault.Limit.TheVariants.{Clients, Pending, Parked, Exceptions}
+use Rattle.rep_model.specs.declared.fault.Limit.TheVariants.{Clients, Pending, Parked, Exceptions, Retained}
 use Rattle.rep_model.specs.Views.{visible, history, in_order, pending, clients}
+use Rattle.rep_model.specs.Topics.{topics}
 use Rattle.rep_model.specs.Keep.{is_below}
 
 -- whether the name is one of the first operations of the visible stamp
@@ -37,6 +38,7 @@ range_of c origin (OfSession d stamp counter change) = None
 range_of c origin (OfPut d put) = None
 range_of c origin (Ack d o first last) =
     if same_client c d && (origin == o) && nat_le first last then Some (first, last) else None
+range_of c origin (OfRetain topic kept) = None
 
 -- the ranges with one more, in ascending order; ranges that overlap or touch are one
 abbrev pub with_range : ℕ × ℕ → List (ℕ × ℕ) → List (ℕ × ℕ)
@@ -80,11 +82,12 @@ exceptions c S = sum_to (λ origin. above_a_gap (acknowledged c origin S)) 255
 abbrev pub any_above : ℕ → (List ℕ → ℕ) → List Op → Bool
 any_above most count S = list_any (λ c. nat_lt most (count c)) (clients S)
 
--- the first limit that the set passes: 4,096 clients; and of one client 16,384 messages that wait,
--- 4,096 parked operations, 16,384 acknowledgements above a gap
+-- the first limit that the set passes: 4,096 clients; of one client 16,384 messages that wait,
+-- 4,096 parked operations, 16,384 acknowledgements above a gap; 4,096 topics
 abbrev pub first_passed : List Op → Option Limit
 first_passed S =
     if nat_lt MOST_CLIENTS (length (clients S)) then Some Clients
     else (if any_above MOST_PENDING (λ c. length (pending c S)) S then Some Pending
     else (if any_above MOST_PARKED (λ c. length (parked c S)) S then Some Parked
-    else (if any_above MOST_EXCEPTIONS (λ c. exceptions c S) S then Some Exceptions else None)))
+    else (if any_above MOST_EXCEPTIONS (λ c. exceptions c S) S then Some Exceptions
+    else (if nat_lt MOST_RETAINED (length (topics S)) then Some Retained else None))))

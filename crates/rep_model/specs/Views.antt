@@ -1,5 +1,5 @@
 -- What a set of operations says of a client.
-use Rattle.std.specs.Prelude.{ℕ, zero, suc, ◌+◌, ◌==◌, Bool, not, ◌&&◌, if◌then◌else◌, nat_le, List, [], ◌∷◌, length, map, fold, filter, Option, Some, None}
+use Rattle.std.specs.Prelude.{ℕ, zero, suc, ◌+◌, ◌==◌, Bool, false, not, ◌&&◌, if◌then◌else◌, nat_le, List, [], ◌∷◌, length, map, fold, filter, Option, Some, None}
 use Rattle.std.specs.declared.cmp.Ordering.{Ordering}
 use Rattle.std.specs.Ordering.{is_lt}
 use Rattle.std.specs.List.{filter_map, list_any}
@@ -12,7 +12,7 @@ use Rattle.rep_op.specs.declared.op.TheConstants.{MAX_OPERATIONS}
 use Rattle.rep_op.specs.declared.op.Stamp.{Stamp}
 use Rattle.rep_op.specs.declared.op.Put.{Put}
 use Rattle.rep_op.specs.declared.op.Op.{Op}
-use Rattle.rep_op.specs.declared.op.Op.TheVariants.{Session as OfSession, Put as OfPut, Ack}
+use Rattle.rep_op.specs.declared.op.Op.TheVariants.{Session as OfSession, Put as OfPut, Ack, Retain as OfRetain}
 use Rattle.rep_op.specs.Orders.{stamp_cmp, put_cmp, client_cmp}
 use Rattle.rep_op.specs.Sets.{same_client, operations, operation_at, puts, is_acknowledged}
 use Rattle.rep_model.specs.declared.view.ClientView.{ClientView}
@@ -107,6 +107,7 @@ abbrev pub named : Op → Option (List ℕ × List ℕ)
 named (OfSession c stamp counter change) = Some (c, c)
 named (OfPut c put) = Some (c, c)
 named (Ack c origin first last) = if nat_le first last then Some (c, c) else None
+named (OfRetain topic kept) = None
 
 -- the clients that the set names, in ascending order, each once
 abbrev pub clients : List Op → List (List ℕ)
@@ -117,6 +118,7 @@ abbrev pub names_client : List ℕ → Op → Bool
 names_client c (OfSession d stamp counter change) = same_client c d
 names_client c (OfPut d put) = same_client c d
 names_client c (Ack d origin first last) = same_client c d && nat_le first last
+names_client c (OfRetain topic kept) = false
 
 -- whether the set names the client; an empty range of acknowledgements names none
 abbrev pub is_named : List ℕ → List Op → Bool

@@ -5,7 +5,7 @@ ghost use Rattle.rep_model.specs.declared.fault.TakeFault.TheVariants.{Memory};
 ghost use Rattle.rep_model.specs.Faults.{number_of};
 
 use octets::NoMemory;
-use rep_ops::ClientId;
+use rep_op::Subject;
 use std::alloc::AllocError;
 use thiserror::Error;
 
@@ -21,6 +21,9 @@ pub const MOST_PARKED: usize = 4096;
 /// The most acknowledgements of a client's messages above one that is not acknowledged.
 pub const MOST_EXCEPTIONS: u64 = 16384;
 
+/// The most topics of which something is retained, or ever was.
+pub const MOST_RETAINED: usize = 4096;
+
 /// What a replica can hold too much of.
 #[derive(Clone, Copy, Debug, PartialEq, Eq)]
 pub enum Limit {
@@ -34,14 +37,16 @@ pub enum Limit {
     /// More than [`MOST_EXCEPTIONS`] acknowledgements of one client's messages above one that is
     /// not acknowledged, 16,384.
     Exceptions,
+    /// More than [`MOST_RETAINED`] topics of which something was ever retained, 4,096.
+    Retained,
 }
 
 /// Why a replica refuses a delta. It is as it was then.
 #[derive(Debug, Drop, PartialEq, Eq, Error)]
 pub enum TakeFault {
     /// Fault 1: an operation kept under a name of the delta differs from the delta's.
-    #[error("an operation of client {client:?} contradicts one that is kept under the same name")]
-    Conflict { client: ClientId },
+    #[error("an operation of {of:?} contradicts one that is kept under the same name")]
+    Conflict { of: Subject },
     /// Fault 2: more would be held than the limit.
     #[error("the limit {limit:?} would be passed")]
     Full { limit: Limit },

@@ -1,15 +1,19 @@
 //! The laws of sets and views. Each function does nothing; its contract is a law, proved for all
 //! sets.
 
-ghost use Rattle.std.specs.Prelude.{◌≡◌, ℕ, ◌≤◌, ◌++◌, ◌||◌, ◌⊎◌, ◌↔◌, List, Some, None, true, false, IsTrue, Contains};
+ghost use Rattle.std.specs.Prelude.{◌≡◌, ℕ, ◌≤◌, ◌++◌, ◌||◌, ◌⊎◌, ◌↔◌, List, [], ◌∷◌, Some, None, true, false, is_some, IsTrue, Contains};
+ghost use Rattle.std.specs.Ordering.{is_lt};
 ghost use Rattle.std.specs.List.{AllByRecursion};
 ghost use Rattle.std.specs.List.Sorted.{IsStrictlySortedBy};
-ghost use Rattle.rep_op.specs.Orders.{client_cmp, put_cmp};
+ghost use Rattle.rep_op.specs.Orders.{client_cmp, put_cmp, topic_name_cmp, clock_of, clock_cmp};
 ghost use Rattle.rep_op.specs.declared.op.Op.{Op};
 ghost use Rattle.rep_op.specs.declared.op.Put.{Put};
-ghost use Rattle.rep_op.specs.Sets.{is_acknowledged, IsConsistent, Agrees, Within, Same};
+ghost use Rattle.rep_op.specs.declared.op.Retained.{Retained};
+ghost use Rattle.rep_op.specs.declared.op.Op.TheVariants.{Retain as OfRetain};
+ghost use Rattle.rep_op.specs.Sets.{is_acknowledged, retain_at, IsConsistent, Agrees, Within, Same};
 ghost use Rattle.rep_model.specs.Views.{pending_at, pending, view, unseen, clients, is_named};
-ghost use Rattle.rep_model.specs.Fresh.{next_epoch, next_seq};
+ghost use Rattle.rep_model.specs.Topics.{retained, later_of, topics, has_topic, all_retained, retained_matching};
+ghost use Rattle.rep_model.specs.Fresh.{next_epoch, next_seq, next_clock};
 ghost use Rattle.rep_model.specs.Keep.{keep, IsKeptOf, CountsAs, Below};
 ghost use Rattle.rep_model.specs.Ranges.{is_within, in_ranges, AreApart};
 ghost use Rattle.rep_ops.specs.Splitting.{all_of};
@@ -25,6 +29,9 @@ pub fn keep_laws()
     ensures epoch { (c : List ℕ) (S : List Op) → next_epoch c (keep S) ≡ next_epoch c S }
     ensures seq { (c : List ℕ) (gateway : ℕ) (S : List Op)
         → next_seq c gateway (keep S) ≡ next_seq c gateway S }
+    ensures retained { (t : List ℕ) (S : List Op) → retained t (keep S) ≡ retained t S }
+    ensures clock { (t : List ℕ) (S : List Op) → next_clock t (keep S) ≡ next_clock t S }
+    ensures topics { (S : List Op) → topics (keep S) ≡ topics S }
     ensures between { (c : List ℕ) (S K : List Op) → IsKeptOf S K → view c K ≡ view c S }
 {}
 
@@ -47,6 +54,35 @@ pub fn leaves_only()
     ensures { (S W : List Op) → Within S W → (c : List ℕ) (name : ℕ × ℕ) (put : Put)
         → pending_at c S name ≡ Some put → (pending_at c W name ≡ Some put)
         ⊎ (is_acknowledged c W name ≡ true) }
+{}
+
+/// What is retained of a topic is the last: it stands in the set, and nothing later does. Of two
+/// sets together it is the later of both. It leaves only by what is retained later: what is retained
+/// in a part is retained in the whole, or something later of the topic is. A next clock is free at
+/// every gateway, and what is retained under it wins.
+pub fn retained_laws()
+    ensures last { (t : List ℕ) (S : List Op) (k : Retained) → retained t S ≡ Some k
+        → (retain_at t S (clock_of k) ≡ Some k)
+        × ((name : ℕ × ℕ) → is_some (retain_at t S name) ≡ true
+        → is_lt (clock_cmp (clock_of k) name) ≡ false) }
+    ensures some { (t : List ℕ) (S : List Op) → has_topic t S ≡ is_some (retained t S) }
+    ensures both { (t : List ℕ) (A B : List Op)
+        → retained t (A ++ B) ≡ later_of (retained t A) (retained t B) }
+    ensures leaves { (t : List ℕ) (S W : List Op) (k : Retained) → Within S W
+        → retained t S ≡ Some k → (later : Retained) × (retained t W ≡ Some later)
+        × ((later ≡ k) ⊎ IsTrue (is_lt (clock_cmp (clock_of k) (clock_of later)))) }
+    ensures free { (t : List ℕ) (S : List Op) (n gateway : ℕ) → next_clock t S ≡ Some n
+        → retain_at t S (n, gateway) ≡ None }
+    ensures wins { (t : List ℕ) (S : List Op) (k : Retained) → next_clock t S ≡ Some k.clock
+        → retained t (S ++ OfRetain t k ∷ []) ≡ Some k }
+{}
+
+/// The topics of a set are listed, ascending, exactly those of which something is retained, or ever
+/// was. What a gateway may forget makes no difference to them.
+pub fn topic_laws()
+    ensures kept { (S : List Op) → topics (keep S) ≡ topics S }
+    ensures listed { (t : List ℕ) (S : List Op) → IsTrue (has_topic t S) ↔ Contains (topics S) t }
+    ensures ascending { (S : List Op) → IsStrictlySortedBy topic_name_cmp (topics S) }
 {}
 
 /// Two consistent sets are consistent together exactly if the operations of one agree with the
@@ -82,6 +118,10 @@ pub fn count_laws()
     ensures named { (c : List ℕ) (S K : List Op) → CountsAs S K → is_named c K ≡ is_named c S }
     ensures clients { (S K : List Op) → CountsAs S K → clients K ≡ clients S }
     ensures epoch { (c : List ℕ) (S K : List Op) → CountsAs S K → next_epoch c K ≡ next_epoch c S }
+    ensures retained { (S K : List Op) → CountsAs S K → all_retained K ≡ all_retained S }
+    ensures matching { (asked : List ℕ) (S K : List Op) → CountsAs S K
+        → retained_matching asked K ≡ retained_matching asked S }
+    ensures clock { (t : List ℕ) (S K : List Op) → CountsAs S K → next_clock t K ≡ next_clock t S }
     ensures seq { (c : List ℕ) (gateway : ℕ) (S K : List Op) → CountsAs S K
         → next_seq c gateway K ≡ next_seq c gateway S }
     ensures limit { (S K : List Op) → CountsAs S K → first_passed K ≡ first_passed S }
@@ -100,6 +140,8 @@ pub fn order_laws()
     ensures named { (c : List ℕ) (A B : List Op) → Same A B → is_named c A ≡ is_named c B }
     ensures clients { (A B : List Op) → Same A B → clients A ≡ clients B }
     ensures epoch { (c : List ℕ) (A B : List Op) → Same A B → next_epoch c A ≡ next_epoch c B }
+    ensures retained { (A B : List Op) → Same A B → all_retained A ≡ all_retained B }
+    ensures clock { (t : List ℕ) (A B : List Op) → Same A B → next_clock t A ≡ next_clock t B }
     ensures seq { (c : List ℕ) (gateway : ℕ) (A B : List Op) → Same A B
         → next_seq c gateway A ≡ next_seq c gateway B }
     ensures limit { (A B : List Op) → Same A B → first_passed A ≡ first_passed B }

@@ -10,12 +10,14 @@
 //!   others).
 //! - `replica`: what every replica of a set promises (`Replica`), however it keeps it.
 //!
-//! The definitions are in `specs/`: `Views` (visible stamp, prefix, session, pending), `Fresh` (the
-//! next epoch and sequence number), `Keep` (what may not be forgotten), `Held` (that as deltas),
-//! `Ranges` (of acknowledgements), `Limits` (how much a replica holds), `Roomy` (deltas that fit
-//! one after the other), `Asking` (whom a publication passes over). The lemmas that crates above
-//! cite are in `proofs/`: `Joins`, `Thin`, `Ranges`, `Named`, `Fresh`, `Limits`, `Agreeing`,
-//! `Occurring`, `Roomy`.
+//! What is retained of a topic is read off the set likewise: what was retained last.
+//!
+//! The definitions are in `specs/`: `Views` (visible stamp, prefix, session, pending), `Topics`
+//! (what is retained), `Fresh` (the next epoch, sequence number and clock), `Keep` (what may not be
+//! forgotten), `Held` (that as deltas), `Ranges` (of acknowledgements), `Limits` (how much a
+//! replica holds), `Roomy` (deltas that fit one after the other), `Asking` (whom a publication
+//! passes over). The lemmas that crates above cite are in `proofs/`: `Joins`, `Thin`, `Ranges`,
+//! `Named`, `Fresh`, `Limits`, `Agreeing`, `Occurring`, `Roomy`.
 //!
 //! `rep_ops` is passed on, since types of it stand in ours.
 #![tactic(auto)]
@@ -25,10 +27,12 @@ mod laws;
 mod replica;
 mod view;
 
-pub use fault::{Limit, MOST_CLIENTS, MOST_EXCEPTIONS, MOST_PARKED, MOST_PENDING, TakeFault};
+pub use fault::{
+    Limit, MOST_CLIENTS, MOST_EXCEPTIONS, MOST_PARKED, MOST_PENDING, MOST_RETAINED, TakeFault,
+};
 pub use laws::{
     base_laws, client_laws, consistency, count_laws, join_laws, keep_laws, leaves_only, order_laws,
-    pending_laws, range_laws,
+    pending_laws, range_laws, retained_laws, topic_laws,
 };
 pub use rep_ops;
 pub use replica::Replica;

@@ -1,10 +1,11 @@
 //! What every replica of a set of operations promises.
 
-ghost use Rattle.std.specs.Prelude.{◌≡◌, ℕ, ◌+◌, ◌++◌, ◌∷◌, List, [], drop, false, true, IfOk, OnOk, IfErr, MatchOption};
+ghost use Rattle.std.specs.Prelude.{◌≡◌, ℕ, ◌+◌, ◌++◌, ◌∷◌, List, [], drop, None, Some, false, true, IfOk, OnOk, IfErr, MatchOption};
 ghost use Rattle.rep_op.specs.declared.op.Op.{Op};
 ghost use Rattle.rep_ops.specs.Making.{AreWellMade};
 ghost use Rattle.rep_model.specs.Views.{view, is_named};
 ghost use Rattle.rep_model.specs.Views as views;
+ghost use Rattle.rep_model.specs.Topics as topics;
 ghost use Rattle.rep_model.specs.Fresh as fresh;
 ghost use Rattle.rep_model.specs.Keep.{IsKeptOf};
 ghost use Rattle.rep_model.specs.Held.{IsHeld};
@@ -12,14 +13,15 @@ ghost use Rattle.rep_model.specs.Asking.{NoneAsks, IsCandidate};
 
 use super::fault::TakeFault;
 use super::view::ClientView;
-use rep_ops::{ClientId, Delta};
-use sn_tables::sn_topic::TopicName;
+use rep_ops::{ClientId, Delta, Retained};
+use sn_tables::sn_topic::{Filter, TopicName};
 use std::alloc::Global;
 
 /// A replica of a set of operations.
 ///
 /// `kept` is the set that it keeps. Of a set S that it has taken it may forget session operations
-/// below the visible stamp and acknowledged puts; every answer is the same as for S.
+/// below the visible stamp, acknowledged puts, and what was retained of a topic before the last;
+/// every answer is the same as for S.
 pub trait Replica: Drop {
     ghost use Rattle.rep_model.specs.Taking.{Fits, IsFaultOf};
     ghost use Rattle.rep_model.specs.declared.fault.TakeFault.TheVariants.{Memory};
@@ -97,6 +99,37 @@ pub trait Replica: Drop {
     /// The sequence number of a gateway's next message for the client; nothing after the last.
     fn next_seq(&self, client: &ClientId, gateway: u8) -> Option<u64>
         ensures { result ≡ fresh.next_seq client.now gateway (kept self.now) };
+
+    /// What is retained of a topic, with an empty body if that was ended; nothing if nothing ever
+    /// was.
+    fn retained(&self, topic: &TopicName) -> Option<&Retained>
+        ensures { MatchOption result (topics.retained topic.now (kept self.now) ≡ None)
+            (λ found. topics.retained topic.now (kept self.now) ≡ Some found.now) };
+
+    /// The topic at a place among those of which something was ever retained, which stand in
+    /// ascending order from place 0 on, with what is retained of it, and the place after it; nothing
+    /// after the last.
+    fn topic_at(&self, place: usize) -> Option<(usize, &TopicName, &Retained)>
+        ensures { MatchOption result
+            (drop place (topics.all_retained (kept self.now)) ≡ [])
+            (λ found. (drop place (topics.all_retained (kept self.now))
+            ≡ (found.1.now, found.2.now) ∷ drop found.0 (topics.all_retained (kept self.now)))
+            × (found.0 ≡ place + 1)) };
+
+    /// What is retained of the topics that a filter asks for (MQTT-SN 1.2 section 6.10), in ascending
+    /// order, but what was ended.
+    fn retained_matching(
+        &self,
+        alloc: Global,
+        asked: &Filter,
+    ) -> Result<Vec<(TopicName, Retained)>, TakeFault>
+        ensures ok { IfOk result (λ all. all.items
+            ≡ topics.retained_matching asked.now (kept self.now)) }
+        ensures err { IfErr result (λ fault. fault ≡ Memory) };
+
+    /// The clock of what is retained next of the topic; nothing after the last.
+    fn next_clock(&self, topic: &TopicName) -> Option<u64>
+        ensures { result ≡ fresh.next_clock topic.now (kept self.now) };
 
     /// The operations that must be kept, in the order of their names, as deltas that are as full as
     /// they can be: a new one begins where the next operation does not fit. Where nothing must be

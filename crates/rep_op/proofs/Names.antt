@@ -10,8 +10,8 @@ use Rattle.std.proofs.lemmas.Map.Text.{is_eq-slice_cmp}
 use Rattle.std.proofs.lemmas.Slice.Eq.{bytes_eq-Decides}
 use Rattle.rep_op.specs.declared.op.Stamp.{Stamp}
 use Rattle.rep_op.specs.declared.op.Op.{Op}
-use Rattle.rep_op.specs.declared.op.Op.TheVariants.{Session as OfSession, Put as OfPut, Ack}
-use Rattle.rep_op.specs.Orders.{ShareName, client_cmp, stamp_cmp, operation_cmp, client_of, name_cmp}
+use Rattle.rep_op.specs.declared.op.Op.TheVariants.{Session as OfSession, Put as OfPut, Ack, Retain as OfRetain}
+use Rattle.rep_op.specs.Orders.{ShareName, client_cmp, stamp_cmp, operation_cmp, topic_name_cmp, clock_cmp, clock_of, name_cmp}
 use Rattle.rep_op.specs.WellMade.{is_well_made}
 
 -- ---- numbers and clients
@@ -66,40 +66,58 @@ abbrev kind_of : Op → ℕ
 kind_of (OfSession client stamp counter change) = 1
 kind_of (OfPut client put) = 2
 kind_of (Ack client origin first last) = 3
+kind_of (OfRetain topic kept) = 4
+
+-- the client's or the topic's octets
+abbrev owner_of : Op → List ℕ
+owner_of (OfSession client stamp counter change) = client
+owner_of (OfPut client put) = client
+owner_of (Ack client origin first last) = client
+owner_of (OfRetain topic kept) = topic
 
 abbrev first_of : Op → ℕ
 first_of (OfSession client stamp counter change) = stamp.epoch
 first_of (OfPut client put) = 0
 first_of (Ack client origin first last) = 0
+first_of (OfRetain topic kept) = 0
 
 abbrev second_of : Op → ℕ
 second_of (OfSession client stamp counter change) = stamp.gateway
 second_of (OfPut client put) = put.origin
 second_of (Ack client origin first last) = origin
+second_of (OfRetain topic kept) = kept.clock
 
 abbrev third_of : Op → ℕ
 third_of (OfSession client stamp counter change) = counter
 third_of (OfPut client put) = put.seq
 third_of (Ack client origin first last) = first
+third_of (OfRetain topic kept) = kept.gateway
 
 abbrev key_cmp : Op → Op → Ordering
-key_cmp = then_cmp (on kind_of nat_cmp) (then_cmp (on client_of client_cmp) (then_cmp (then_cmp (on first_of nat_cmp) (on second_of nat_cmp)) (on third_of nat_cmp)))
+key_cmp = then_cmp (on kind_of nat_cmp) (then_cmp (on owner_of client_cmp) (then_cmp (then_cmp (on first_of nat_cmp) (on second_of nat_cmp)) (on third_of nat_cmp)))
 
 by_key : (a b : Op) → key_cmp a b ≡ name_cmp a b
 by_key (OfSession c s i o) (OfSession d t j p) = refl
 by_key (OfSession c s i o) (OfPut d q) = refl
 by_key (OfSession c s i o) (Ack d r first last) = refl
+by_key (OfSession c s i o) (OfRetain u l) = refl
 by_key (OfPut c p) (OfSession d t j o) = refl
 by_key (OfPut c p) (OfPut d q) = refl
 by_key (OfPut c p) (Ack d r first last) = refl
+by_key (OfPut c p) (OfRetain u l) = refl
 by_key (Ack c r first last) (OfSession d t j o) = refl
 by_key (Ack c r first last) (OfPut d q) = refl
 by_key (Ack c r first last) (Ack d s start end) = refl
+by_key (Ack c r first last) (OfRetain u l) = refl
+by_key (OfRetain t k) (OfSession d i j o) = refl
+by_key (OfRetain t k) (OfPut d q) = refl
+by_key (OfRetain t k) (Ack d r first last) = refl
+by_key (OfRetain t k) (OfRetain u l) = refl
 
 pub name_total : IsTotalOrder name_cmp
 name_total =
     let key_total : IsTotalOrder key_cmp =
-    then_total (on_total kind_of nat_cmp_total) (then_total (on_total client_of nat_list_cmp_total)
+    then_total (on_total kind_of nat_cmp_total) (then_total (on_total owner_of nat_list_cmp_total)
     (then_total (then_total (on_total first_of nat_cmp_total) (on_total second_of nat_cmp_total)) (on_total third_of nat_cmp_total))) in
     subst IsTotalOrder (λ i a b. by_key a b i) key_total
 
@@ -136,12 +154,14 @@ share_equal (OfSession c s i o) (OfSession d t j p) ha hb e =
     (client_equal c d x.0, same_stamp s t (nat_equal _ _ z.0) (nat_equal _ _ z.1), nat_equal i j y.1)
 share_equal (OfSession c s i o) (OfPut d q) ha hb e = absurd cc
 share_equal (OfSession c s i o) (Ack d r first last) ha hb e = absurd cc
+share_equal (OfSession c s i o) (OfRetain u l) ha hb e = absurd cc
 share_equal (OfPut c p) (OfSession d t j o) ha hb e = absurd cc
 share_equal (OfPut c p) (OfPut d q) ha hb e =
     let x = then_equal (client_cmp c d) (ordering_then (nat_cmp p.origin q.origin) (nat_cmp p.seq q.seq)) e in
     let y = then_equal (nat_cmp p.origin q.origin) (nat_cmp p.seq q.seq) x.1 in
     (client_equal c d x.0, nat_equal _ _ y.0, nat_equal _ _ y.1)
 share_equal (OfPut c p) (Ack d r first last) ha hb e = absurd cc
+share_equal (OfPut c p) (OfRetain u l) ha hb e = absurd cc
 share_equal (Ack c r first last) (OfSession d t j o) ha hb e = absurd cc
 share_equal (Ack c r first last) (OfPut d q) ha hb e = absurd cc
 share_equal (Ack c r first last) (Ack d s start end) ha hb e =
@@ -151,3 +171,11 @@ share_equal (Ack c r first last) (Ack d s start end) ha hb e =
     let x = made_range c r first last ha in
     let y = made_range d s start end hb in
     (client_equal c d p.0, nat_equal r s q.0, omega arith, omega arith)
+share_equal (Ack c r first last) (OfRetain u l) ha hb e = absurd cc
+share_equal (OfRetain t k) (OfSession d i j o) ha hb e = absurd cc
+share_equal (OfRetain t k) (OfPut d q) ha hb e = absurd cc
+share_equal (OfRetain t k) (Ack d r first last) ha hb e = absurd cc
+share_equal (OfRetain t k) (OfRetain u l) ha hb e =
+    let x = then_equal (topic_name_cmp t u) (clock_cmp (clock_of k) (clock_of l)) e in
+    let y = then_equal (nat_cmp k.clock l.clock) (nat_cmp k.gateway l.gateway) x.1 in
+    (client_equal t u x.0, nat_equal _ _ y.0, nat_equal _ _ y.1)

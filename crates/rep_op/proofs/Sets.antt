@@ -17,9 +17,10 @@ use Rattle.sn_session.specs.declared.change.SessionOp.{SessionOp}
 use Rattle.rep_op.specs.declared.op.Stamp.{Stamp}
 use Rattle.rep_op.specs.declared.op.Put.{Put}
 use Rattle.rep_op.specs.declared.op.Op.{Op}
-use Rattle.rep_op.specs.declared.op.Op.TheVariants.{Session as OfSession, Put as OfPut, Ack}
-use Rattle.rep_op.specs.Orders.{ShareName, HasTwice, operation_cmp, put_cmp, stamp_cmp}
-use Rattle.rep_op.specs.Sets.{same_client, operation_of, put_of, acknowledges, is_acknowledged, Same}
+use Rattle.rep_op.specs.declared.op.Retained.{Retained}
+use Rattle.rep_op.specs.declared.op.Op.TheVariants.{Session as OfSession, Put as OfPut, Ack, Retain as OfRetain}
+use Rattle.rep_op.specs.Orders.{ShareName, HasTwice, operation_cmp, put_cmp, stamp_cmp, clock_cmp, clock_of}
+use Rattle.rep_op.specs.Sets.{same_client, operation_of, put_of, acknowledges, is_acknowledged, same_topic, retain_of, Same}
 use Rattle.rep_op.proofs.Names.{nat_equal, same_nat, then_equal, same_stamp}
 
 -- ---- what stands in a list
@@ -56,12 +57,19 @@ share_sym : (a b : Op) → ShareName a b → ShareName b a
 share_sym (OfSession c s i o) (OfSession d t j p) h = (sym h.0, sym h.1, sym h.2)
 share_sym (OfSession c s i o) (OfPut d q) h = h
 share_sym (OfSession c s i o) (Ack d r first last) h = h
+share_sym (OfSession c s i o) (OfRetain u l) h = h
 share_sym (OfPut c p) (OfSession d t j o) h = h
 share_sym (OfPut c p) (OfPut d q) h = (sym h.0, sym h.1, sym h.2)
 share_sym (OfPut c p) (Ack d r first last) h = h
+share_sym (OfPut c p) (OfRetain u l) h = h
 share_sym (Ack c r first last) (OfSession d t j o) h = h
 share_sym (Ack c r first last) (OfPut d q) h = h
 share_sym (Ack c r first last) (Ack d s start end) h = (sym h.0, sym h.1, h.3, h.2)
+share_sym (Ack c r first last) (OfRetain u l) h = h
+share_sym (OfRetain t k) (OfSession d i j o) h = h
+share_sym (OfRetain t k) (OfPut d q) h = h
+share_sym (OfRetain t k) (Ack d r first last) h = h
+share_sym (OfRetain t k) (OfRetain u l) h = (sym h.0, sym h.1, sym h.2)
 
 -- two places with one name make a pair of the list, whichever comes first
 twice_from : (S : List Op) (i j : ℕ) (a b : Op) → (i ≡ j → ⊥) → slice_get S i ≡ Some a → slice_get S j ≡ Some b → ShareName a b → HasTwice S
@@ -206,7 +214,7 @@ same_found : {K V : Type 0} (R : K → K → Ordering) (exact : IsExact R) (of :
 same_found R exact of name A B one other over back =
     same_option _ _ (λ v. found_both R exact of name v A B other over) (λ v. found_both R exact of name v B A one back)
 
--- ---- the three readers
+-- ---- the four readers
 
 pub operation_exact : IsExact operation_cmp
 operation_exact = record {
@@ -229,9 +237,20 @@ put_exact = record {
   itself = λ a. rw (same_nat a.0 a.0 refl, same_nat a.1 a.1 refl) refl;
 }
 
+pub clock_exact : IsExact clock_cmp
+clock_exact = record {
+  same = λ a b e.
+      let x = then_equal (nat_cmp a.0 b.0) (nat_cmp a.1 b.1) e in
+      let clock : a.0 ≡ b.0 = nat_equal _ _ x.0 in
+      let gateway : a.1 ≡ b.1 = nat_equal _ _ x.1 in
+      λ i. (clock i, gateway i);
+  itself = λ a. rw (same_nat a.0 a.0 refl, same_nat a.1 a.1 refl) refl;
+}
+
 pub operation_shape : (c : List ℕ) (x : Op) (name : Stamp × ℕ) (change : SessionOp) → operation_of c x ≡ Some (name, change) → x ≡ OfSession c name.0 name.1 change
 operation_shape c (OfPut d q) name change e = absurd cc
 operation_shape c (Ack d r first last) name change e = absurd cc
+operation_shape c (OfRetain u l) name change e = absurd cc
 operation_shape c (OfSession d t j o) name change e =
     elim (cases_Bool (same_client c d)) [
       | inl same ↦
@@ -244,12 +263,26 @@ operation_shape c (OfSession d t j o) name change e =
 pub put_shape : (c : List ℕ) (x : Op) (name : ℕ × ℕ) (put : Put) → put_of c x ≡ Some (name, put) → (x ≡ OfPut c put) × (name ≡ (put.seq, put.origin))
 put_shape c (OfSession d t j o) name put e = absurd cc
 put_shape c (Ack d r first last) name put e = absurd cc
+put_shape c (OfRetain u l) name put e = absurd cc
 put_shape c (OfPut d q) name put e =
     elim (cases_Bool (same_client c d)) [
       | inl same ↦
           let client : c ≡ d = (bytes_eq-Decides c d).0 same in
           let both : ((q.seq, q.origin), q) ≡ (name, put) = some_is _ _ (rw same at e) in
           ((λ i. OfPut (sym client i) (both i).1), sym (ap (λ (p : (ℕ × ℕ) × Put). p.0) both) ∙ ap (λ (p : (ℕ × ℕ) × Put). (p.1.seq, p.1.origin)) both)
+      | inr other ↦ absurd (let none = rw other at e in cc)
+    ]
+
+pub retain_shape : (t : List ℕ) (x : Op) (name : ℕ × ℕ) (kept : Retained) → retain_of t x ≡ Some (name, kept) → (x ≡ OfRetain t kept) × (name ≡ clock_of kept)
+retain_shape t (OfSession d i j o) name kept e = absurd cc
+retain_shape t (OfPut d q) name kept e = absurd cc
+retain_shape t (Ack d r first last) name kept e = absurd cc
+retain_shape t (OfRetain u l) name kept e =
+    elim (cases_Bool (same_topic t u)) [
+      | inl same ↦
+          let topic : t ≡ u = (bytes_eq-Decides t u).0 same in
+          let both : ((l.clock, l.gateway), l) ≡ (name, kept) = some_is _ _ (rw same at e) in
+          ((λ i. OfRetain (sym topic i) (both i).1), sym (ap (λ (p : (ℕ × ℕ) × Retained). p.0) both) ∙ ap (λ (p : (ℕ × ℕ) × Retained). (p.1.clock, p.1.gateway)) both)
       | inr other ↦ absurd (let none = rw other at e in cc)
     ]
 
@@ -272,6 +305,18 @@ puts_single c S once x y name v w px py hx hy =
     let share : ShareName x y = subst (λ (z : Op). ShareName z y) (sym sx.0) (subst (λ (z : Op). ShareName (OfPut c v) z) (sym sy.0) (refl, origin, seq)) in
     let one = one_of_name S once x y px py share in
     let both : OfPut c v ≡ OfPut c w = sym sx.0 ∙ one ∙ sy.0 in
+    cc
+
+pub retains_single : (t : List ℕ) (S : List Op) → ¬ (HasTwice S) → IsSingle (retain_of t) S
+retains_single t S once x y name v w px py hx hy =
+    let sx = retain_shape t x name v hx in
+    let sy = retain_shape t y name w hy in
+    let names : (v.clock, v.gateway) ≡ (w.clock, w.gateway) = sym sx.1 ∙ sy.1 in
+    let clock : v.clock ≡ w.clock = ap (λ (p : ℕ × ℕ). p.0) names in
+    let gateway : v.gateway ≡ w.gateway = ap (λ (p : ℕ × ℕ). p.1) names in
+    let share : ShareName x y = subst (λ (z : Op). ShareName z y) (sym sx.0) (subst (λ (z : Op). ShareName (OfRetain t v) z) (sym sy.0) (refl, clock, gateway)) in
+    let one = one_of_name S once x y px py share in
+    let both : OfRetain t v ≡ OfRetain t w = sym sx.0 ∙ one ∙ sy.0 in
     cc
 
 pub any_in : (p : Op → Bool) (x : Op) (S : List Op) → p x ≡ true → IsIn x S → list_any p S ≡ true
@@ -300,6 +345,7 @@ Same-sym A B h = record {
   operations_same = λ c name. sym (h.operations_same c name);
   puts_same = λ c name. sym (h.puts_same c name);
   acknowledgements_same = λ c name. sym (h.acknowledgements_same c name);
+  retains_same = λ t name. sym (h.retains_same t name);
 }
 
 pub Same-trans : (A B C : List Op) → Same A B → Same B C → Same A C
@@ -307,6 +353,7 @@ Same-trans A B C h g = record {
   operations_same = λ c name. h.operations_same c name ∙ g.operations_same c name;
   puts_same = λ c name. h.puts_same c name ∙ g.puts_same c name;
   acknowledgements_same = λ c name. h.acknowledgements_same c name ∙ g.acknowledgements_same c name;
+  retains_same = λ t name. h.retains_same t name ∙ g.retains_same t name;
 }
 
 -- operations of which no two share a name are the same set in any order
@@ -322,4 +369,5 @@ same_permutation xs ys p once =
       acknowledgements_same = λ c name. same_Bool (is_acknowledged c xs name) (is_acknowledged c ys name)
           (λ e. let r = any_found (acknowledges c name) xs e in any_in (acknowledges c name) r.0 ys r.2 (over r.0 r.1))
           (λ e. let r = any_found (acknowledges c name) ys e in any_in (acknowledges c name) r.0 xs r.2 (under r.0 r.1));
+      retains_same = λ t name. same_found clock_cmp clock_exact (retain_of t) name xs ys (retains_single t xs once) (retains_single t ys once_too) over under;
     }

@@ -5,3 +5,6 @@ pub mod Sets
 pub mod Ranges
 pub mod WellMade
 pub mod Values
+pub mod Versions
+pub mod Sessions
+pub mod Spelling

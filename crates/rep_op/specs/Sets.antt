@@ -1,17 +1,18 @@
--- Sets of operations. A set is a list of operations, and three readers ask it. One gives what it
--- has under the name of a session operation, one what it has under the name of a put. The third
--- says whether it acknowledges a put. If a name occurs twice, the first operation counts, so a list
--- always gives a name one content. On consistent sets no name has two contents; there the order and
--- the number of times do not matter.
+-- Sets of operations. A set is a list of operations, and four readers ask it. One gives what it has
+-- under the name of a session operation, one what it has under the name of a put. The third says
+-- whether it acknowledges a put. The fourth gives what was retained of a topic under a name. If a
+-- name occurs twice, the first operation counts, so a list always gives a name one content. On
+-- consistent sets no name has two contents; there the order and the number of times do not matter.
 use Rattle.std.specs.Prelude.{◌≡◌, ℕ, ◌≤◌, ◌==◌, Bool, true, false, ◌&&◌, if◌then◌else◌, nat_le, List, Option, Some, None, IsTrue, IfSome, bytes_eq}
 use Rattle.std.specs.List.{filter_map, list_any, AllByRecursion}
 use Rattle.std.specs.FinMap.{find}
 use Rattle.sn_session.specs.declared.change.SessionOp.{SessionOp}
 use Rattle.rep_op.specs.declared.op.Stamp.{Stamp}
 use Rattle.rep_op.specs.declared.op.Put.{Put}
+use Rattle.rep_op.specs.declared.op.Retained.{Retained}
 use Rattle.rep_op.specs.declared.op.Op.{Op}
-use Rattle.rep_op.specs.declared.op.Op.TheVariants.{Session as OfSession, Put as OfPut, Ack}
-use Rattle.rep_op.specs.Orders.{operation_cmp, put_cmp}
+use Rattle.rep_op.specs.declared.op.Op.TheVariants.{Session as OfSession, Put as OfPut, Ack, Retain as OfRetain}
+use Rattle.rep_op.specs.Orders.{operation_cmp, put_cmp, clock_of, clock_cmp}
 
 -- whether two names of clients are the same octets
 abbrev pub same_client : List ℕ → List ℕ → Bool
@@ -23,6 +24,7 @@ operation_of c (OfSession d stamp counter change) =
     if same_client c d then Some ((stamp, counter), change) else None
 operation_of c (OfPut d put) = None
 operation_of c (Ack d origin first last) = None
+operation_of c (OfRetain topic kept) = None
 
 -- the session operations of the client, under their names
 abbrev pub operations : List ℕ → List Op → List ((Stamp × ℕ) × SessionOp)
@@ -37,6 +39,7 @@ abbrev pub put_of : List ℕ → Op → Option ((ℕ × ℕ) × Put)
 put_of c (OfSession d stamp counter change) = None
 put_of c (OfPut d put) = if same_client c d then Some ((put.seq, put.origin), put) else None
 put_of c (Ack d origin first last) = None
+put_of c (OfRetain topic kept) = None
 
 -- the puts for the client, under their names
 abbrev pub puts : List ℕ → List Op → List ((ℕ × ℕ) × Put)
@@ -52,10 +55,30 @@ acknowledges c name (OfSession d stamp counter change) = false
 acknowledges c name (OfPut d put) = false
 acknowledges c name (Ack d origin first last) =
     same_client c d && (name.1 == origin) && nat_le first name.0 && nat_le name.0 last
+acknowledges c name (OfRetain topic kept) = false
 
 -- whether the set has the acknowledgement of the client's put of that name
 abbrev pub is_acknowledged : List ℕ → List Op → ℕ × ℕ → Bool
 is_acknowledged c S name = list_any (acknowledges c name) S
+
+-- whether two names of topics are the same octets
+abbrev pub same_topic : List ℕ → List ℕ → Bool
+same_topic t u = bytes_eq t u
+
+-- what the operation retains of the topic, under its name
+abbrev pub retain_of : List ℕ → Op → Option ((ℕ × ℕ) × Retained)
+retain_of t (OfSession d stamp counter change) = None
+retain_of t (OfPut d put) = None
+retain_of t (Ack d origin first last) = None
+retain_of t (OfRetain u kept) = if same_topic t u then Some (clock_of kept, kept) else None
+
+-- all that was retained of the topic, under its names
+abbrev pub retains : List ℕ → List Op → List ((ℕ × ℕ) × Retained)
+retains t S = filter_map (retain_of t) S
+
+-- what was retained of the topic under a name
+abbrev pub retain_at : List ℕ → List Op → ℕ × ℕ → Option Retained
+retain_at t S name = find clock_cmp name (retains t S)
 
 -- the operation stands in the set: what the set has under its name is the operation
 abbrev pub Stands : List Op → Op → Type 0
@@ -63,6 +86,7 @@ Stands S (OfSession c stamp counter change) = operation_at c S (stamp, counter) 
 Stands S (OfPut c put) = put_at c S (put.seq, put.origin) ≡ Some put
 Stands S (Ack c origin first last) =
     (seq : ℕ) → first ≤ seq → seq ≤ last → IsTrue (is_acknowledged c S (seq, origin))
+Stands S (OfRetain t kept) = retain_at t S (clock_of kept) ≡ Some kept
 
 -- no name has two contents: each operation on the list is what the list has at its name
 abbrev pub IsConsistent : List Op → Type 0
@@ -74,6 +98,7 @@ Agrees S (OfSession c stamp counter change) =
     IfSome (operation_at c S (stamp, counter)) (λ kept. kept ≡ change)
 Agrees S (OfPut c put) = IfSome (put_at c S (put.seq, put.origin)) (λ kept. kept ≡ put)
 Agrees S (Ack c origin first last) = Unit {0}
+Agrees S (OfRetain t kept) = IfSome (retain_at t S (clock_of kept)) (λ stood. stood ≡ kept)
 
 -- what the readers find in A they find in B
 pub record Within (A B : List Op) : Type 0 where
@@ -83,6 +108,8 @@ pub record Within (A B : List Op) : Type 0 where
       → put_at c B name ≡ Some put
   pub acknowledgements_in : (c : List ℕ) (name : ℕ × ℕ) → is_acknowledged c A name ≡ true
       → is_acknowledged c B name ≡ true
+  pub retains_in : (t : List ℕ) (name : ℕ × ℕ) (kept : Retained)
+      → retain_at t A name ≡ Some kept → retain_at t B name ≡ Some kept
 
 -- equal sets: each reader gives the same of both
 pub record Same (A B : List Op) : Type 0 where
@@ -91,3 +118,4 @@ pub record Same (A B : List Op) : Type 0 where
   pub puts_same : (c : List ℕ) (name : ℕ × ℕ) → put_at c A name ≡ put_at c B name
   pub acknowledgements_same : (c : List ℕ) (name : ℕ × ℕ)
       → is_acknowledged c A name ≡ is_acknowledged c B name
+  pub retains_same : (t : List ℕ) (name : ℕ × ℕ) → retain_at t A name ≡ retain_at t B name

@@ -17,7 +17,7 @@ use Rattle.sn_session.specs.declared.change.SessionOp.{SessionOp}
 use Rattle.sn_session.specs.declared.change.SessionOp.TheVariants.{Take, Presence as SetPresence, Register, Subscribe, Unsubscribe, WillTopic as SetWillTopic, WillMsg, Received, Released, Outbound as SetOutbound}
 use Rattle.rep_op.specs.ClientIds.{IsClientId}
 use Rattle.rep_op.specs.declared.op.Op.{Op}
-use Rattle.rep_op.specs.declared.op.Op.TheVariants.{Session as OfSession, Put as OfPut, Ack}
+use Rattle.rep_op.specs.declared.op.Op.TheVariants.{Session as OfSession, Put as OfPut, Ack, Retain as OfRetain}
 
 -- a topic entry: an id of 16 bits, and a topic name
 abbrev pub IsEntryValue : TopicEntry → Type 0
@@ -69,15 +69,17 @@ IsChangeValue (Released id) = id < 2 ^ 16
 IsChangeValue (SetOutbound exchange next_id) = (next_id < 2 ^ 16) × IsExchangeValue exchange
 
 -- an operation of the program: clients and topics are such, gateways and counters have 8 bits,
--- epochs and sequence numbers 64
+-- epochs, sequence numbers, clocks and moments 64
 abbrev pub IsValue : Op → Type 0
 IsValue (OfSession client stamp counter change) =
     IsClientId client × (stamp.epoch < 2 ^ 64) × (stamp.gateway < 2 ^ 8) × (counter < 2 ^ 8)
     × IsChangeValue change
 IsValue (OfPut client put) =
     IsClientId client × (put.origin < 2 ^ 8) × (put.seq < 2 ^ 64) × IsName put.topic
+    × (put.expires < 2 ^ 64)
 IsValue (Ack client origin first last) =
     IsClientId client × (origin < 2 ^ 8) × (first < 2 ^ 64) × (last < 2 ^ 64)
+IsValue (OfRetain topic kept) = IsName topic × (kept.clock < 2 ^ 64) × (kept.gateway < 2 ^ 8)
 
 -- each operation is a value of the program
 abbrev pub AreValues : List Op → Type 0

@@ -1,7 +1,8 @@
 //! Stamps, puts and operations.
 
-ghost use Rattle.std.specs.Prelude.{◌≡◌, IfOk};
-ghost use Rattle.rep_op.specs.Orders.{stamp_cmp, client_of};
+ghost use Rattle.std.specs.Prelude.{◌≡◌, true, IfOk};
+ghost use Rattle.rep_op.specs.Orders.{client_of};
+ghost use Rattle.rep_op.specs.Orders as spec;
 
 use super::client_id::ClientId;
 use octets::NoMemory;
@@ -14,13 +15,12 @@ use std::cmp::Ordering;
 /// The most operations of a session under one stamp: their counters are 0 to 255.
 pub const MAX_OPERATIONS: u16 = 256;
 
-/// Who writes a client's session, and since when: an epoch and the number of the only gateway that
-/// writes under this stamp. Stamps are ordered by epoch, then gateway.
+/// Who writes a client's session, and since when. Stamps are ordered by epoch, then gateway.
 #[derive(Clone, Copy, Debug, PartialEq, Eq, PartialOrd, Ord)]
 pub struct Stamp {
     /// Counts the owners of the client: the greater epoch wins.
     pub epoch: u64,
-    /// The gateway that writes under the stamp; of two with one epoch the greater wins.
+    /// The only gateway that writes under the stamp; of two with one epoch the greater wins.
     pub gateway: u8,
 }
 
@@ -35,11 +35,49 @@ pub struct Put {
     pub topic: TopicName,
     /// Its quality of service.
     pub qos: QosLevel,
+    /// Whether the client gets it since it was retained, and not since it was published.
+    pub retain: bool,
+    /// The moment from which on it need not wait; 0 for none.
+    pub expires: u64,
     /// What was published.
     pub body: Message,
 }
 
-/// An operation on the state of a client.
+/// What is retained of a topic, to be handed to whoever subscribes to it later.
+#[derive(Debug, Drop, PartialEq, Eq)]
+pub struct Retained {
+    /// Counts what was retained of the topic, from 1: the greatest counts.
+    pub clock: u64,
+    /// The gateway that retained it; of two with one clock the greater counts.
+    pub gateway: u8,
+    /// The quality of service that it was published at.
+    pub qos: QosLevel,
+    /// What was published; if it is empty, nothing is retained.
+    pub body: Message,
+}
+
+/// What an operation is about.
+#[derive(Debug, Drop, PartialEq, Eq)]
+pub enum Subject {
+    /// A client.
+    Client(ClientId),
+    /// A topic.
+    Topic(TopicName),
+}
+
+impl Subject {
+    /// An equal one.
+    pub fn copied(&self, alloc: Global) -> Result<Subject, NoMemory>
+        ensures { IfOk result (λ made. made ≡ self.now) }
+    {
+        match self {
+            Subject::Client(client) => Ok(Subject::Client(client.copied(alloc)?)),
+            Subject::Topic(topic) => Ok(Subject::Topic(topic.copied(alloc)?)),
+        }
+    }
+}
+
+/// An operation on the state of a client, or of a topic.
 #[derive(Debug, Drop, PartialEq, Eq)]
 pub enum Op {
     /// A change of the session, named by client, stamp and counter. Counter 0 is a Take.
@@ -61,6 +99,11 @@ pub enum Op {
         first: u64,
         last: u64,
     },
+    /// What is retained of a topic, named by topic, clock and gateway.
+    Retain {
+        topic: TopicName,
+        retained: Retained,
+    },
 }
 
 impl Put {
@@ -73,20 +116,60 @@ impl Put {
             seq: self.seq,
             topic: self.topic.copied(alloc)?,
             qos: self.qos,
+            retain: self.retain,
+            expires: self.expires,
+            body: self.body.copied(alloc)?,
+        })
+    }
+}
+
+impl Retained {
+    /// An equal one.
+    pub fn copied(&self, alloc: Global) -> Result<Retained, NoMemory>
+        ensures { IfOk result (λ made. made ≡ self.now) }
+    {
+        Ok(Retained {
+            clock: self.clock,
+            gateway: self.gateway,
+            qos: self.qos,
             body: self.body.copied(alloc)?,
         })
     }
 }
 
 impl Op {
-    /// Whose state it is an operation on.
+    /// Whose state it is an operation on, if it is not of a topic.
     pub fn client(&self) -> &ClientId
+        requires { spec.is_of_client self.now ≡ true }
         ensures { result.now ≡ client_of self.now }
     {
         match self {
             Op::Session { client, .. } => client,
             Op::Put { client, .. } => client,
             Op::Ack { client, .. } => client,
+            Op::Retain { .. } => unreachable!(),
+        }
+    }
+
+    /// Whether it is an operation of a client, and not of a topic.
+    pub fn is_of_client(&self) -> bool
+        ensures { result ≡ spec.is_of_client self.now }
+    {
+        match self {
+            Op::Session { .. } | Op::Put { .. } | Op::Ack { .. } => true,
+            Op::Retain { .. } => false,
+        }
+    }
+
+    /// The client or the topic that it is about.
+    pub fn subject(&self, alloc: Global) -> Result<Subject, NoMemory>
+        ensures { IfOk result (λ made. made ≡ spec.subject_of self.now) }
+    {
+        match self {
+            Op::Session { client, .. } => Ok(Subject::Client(client.copied(alloc)?)),
+            Op::Put { client, .. } => Ok(Subject::Client(client.copied(alloc)?)),
+            Op::Ack { client, .. } => Ok(Subject::Client(client.copied(alloc)?)),
+            Op::Retain { topic, .. } => Ok(Subject::Topic(topic.copied(alloc)?)),
         }
     }
 
@@ -120,6 +203,10 @@ impl Op {
                 origin: *origin,
                 first: *first,
                 last: *last,
+            }),
+            Op::Retain { topic, retained } => Ok(Op::Retain {
+                topic: topic.copied(alloc)?,
+                retained: retained.copied(alloc)?,
             }),
         }
     }

@@ -4,7 +4,7 @@ ghost use Rattle.std.specs.Prelude.{◌<◌, ◌^◌};
 ghost use Rattle.std.specs.List.{AllByRecursion};
 ghost use Rattle.rep_op.specs.Values.{IsEntryValue, IsSubscriptionValue, IsWillValue, IsWillTopicValue, IsExchangeValue, IsSessionValue, IsChangeValue, IsValue};
 
-use super::op::{Op, Put};
+use super::op::{Op, Put, Retained};
 use sn_session::{Outbound, Session, SessionOp, Will, WillTopic};
 use sn_tables::{Subscription, TopicEntry};
 
@@ -150,11 +150,13 @@ pub fn is_value(op: &Op)
                 origin,
                 seq,
                 topic,
+                expires,
                 ..
             } = put;
             let _topic = topic.bytes();
             let _origin = *origin;
             let _seq = *seq;
+            let _expires = *expires;
         }
         Op::Ack {
             client,
@@ -166,6 +168,12 @@ pub fn is_value(op: &Op)
             let _origin = *origin;
             let _first = *first;
             let _last = *last;
+        }
+        Op::Retain { topic, retained } => {
+            let _topic = topic.bytes();
+            let Retained { clock, gateway, .. } = retained;
+            let _clock = *clock;
+            let _gateway = *gateway;
         }
     }
 }

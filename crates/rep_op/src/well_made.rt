@@ -3,7 +3,7 @@
 ghost use Rattle.std.specs.Prelude.{◌≡◌};
 ghost use Rattle.rep_op.specs.WellMade as spec;
 
-use super::op::{Op, Put, Stamp};
+use super::op::{Op, Put, Retained, Stamp};
 use super::range::is_change;
 use sn_session::{MAX_MESSAGE, SessionOp};
 
@@ -29,7 +29,18 @@ fn is_counted(counter: u8, change: &SessionOp) -> bool
 fn is_put(put: &Put) -> bool
     ensures { result ≡ spec.is_put put.now }
 {
-    put.origin >= 1 && put.seq >= 1 && put.qos.number() <= 2 && put.body.len() <= MAX_MESSAGE
+    put.origin >= 1
+        && put.seq >= 1
+        && put.qos.number() <= 2
+        && put.body.len() <= MAX_MESSAGE
+        && put.expires == 0
+}
+
+/// Whether the values of what is retained are in range.
+fn is_retained(kept: &Retained) -> bool
+    ensures { result ≡ spec.is_retained kept.now }
+{
+    kept.clock >= 1 && kept.gateway >= 1 && kept.qos.number() <= 2 && kept.body.len() <= MAX_MESSAGE
 }
 
 /// Whether a delta may hold the operation.
@@ -50,5 +61,6 @@ pub fn is_well_made(op: &Op) -> bool
             last,
             ..
         } => *origin >= 1 && *first >= 1 && *first <= *last,
+        Op::Retain { retained, .. } => is_retained(retained),
     }
 }

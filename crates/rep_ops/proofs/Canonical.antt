@@ -11,16 +11,17 @@ use Rattle.sn_session.specs.declared.change.SessionOp.{SessionOp}
 use Rattle.rep_op.specs.declared.op.Stamp.{Stamp}
 use Rattle.rep_op.specs.declared.op.Put.{Put}
 use Rattle.rep_op.specs.declared.op.Op.{Op}
-use Rattle.rep_op.specs.declared.op.Op.TheVariants.{Session as OfSession, Put as OfPut, Ack}
+use Rattle.rep_op.specs.declared.op.Retained.{Retained}
+use Rattle.rep_op.specs.declared.op.Op.TheVariants.{Session as OfSession, Put as OfPut, Ack, Retain as OfRetain}
 use Rattle.rep_ops.specs.Deltas.{IsDelta}
-use Rattle.rep_op.specs.Orders.{HasTwice, client_cmp, name_cmp, operation_cmp, put_cmp}
+use Rattle.rep_op.specs.Orders.{HasTwice, client_cmp, name_cmp, operation_cmp, put_cmp, clock_cmp}
 use Rattle.rep_ops.specs.Making.{AreWellMade}
-use Rattle.rep_op.specs.Sets.{same_client, operation_of, put_of, acknowledges, is_acknowledged, Same}
+use Rattle.rep_op.specs.Sets.{same_client, operation_of, put_of, acknowledges, is_acknowledged, retain_of, Same}
 use Rattle.rep_op.specs.WellMade.{is_well_made}
 use Rattle.rep_ops.proofs.Joined.{rising_ascending}
 use Rattle.rep_op.proofs.Names.{name_total, name_irreflexive, made_range, then_equal, nat_equal, client_equal}
 use Rattle.rep_ops.proofs.Rising.{Past, Rising, ack_below, rising_apart}
-use Rattle.rep_op.proofs.Sets.{IsIn, find_in, find_of, operation_exact, put_exact, operation_shape, put_shape, operations_single, puts_single, any_in, any_found, Same-sym}
+use Rattle.rep_op.proofs.Sets.{IsIn, find_in, find_of, operation_exact, put_exact, clock_exact, operation_shape, put_shape, retain_shape, operations_single, puts_single, retains_single, any_in, any_found, Same-sym}
 
 -- ---- one list has what the other has
 
@@ -28,6 +29,7 @@ pub record Over (A B : List Op) : Type 0 where
   pub sessions : (c : List ℕ) (s : Stamp) (i : ℕ) (o : SessionOp) → IsIn (OfSession c s i o) A → IsIn (OfSession c s i o) B
   pub puts : (c : List ℕ) (p : Put) → IsIn (OfPut c p) A → IsIn (OfPut c p) B
   pub acks : (c : List ℕ) (name : ℕ × ℕ) → is_acknowledged c A name ≡ true → is_acknowledged c B name ≡ true
+  pub retains : (t : List ℕ) (k : Retained) → IsIn (OfRetain t k) A → IsIn (OfRetain t k) B
 
 same_itself : (c : List ℕ) → same_client c c ≡ true
 same_itself c = (bytes_eq-Decides c c).1 refl
@@ -45,6 +47,11 @@ over_same A B once h = record {
       let other = find_in put_cmp put_exact (put_of c) (p.seq, p.origin) p B (sym (h.puts_same c (p.seq, p.origin)) ∙ found) in
       subst (λ (x : Op). IsIn x B) (put_shape c other.0 (p.seq, p.origin) p other.2).0 other.1;
   acks = λ c name e. sym (h.acknowledgements_same c name) ∙ e;
+  retains = λ t k place.
+      let here : retain_of t (OfRetain t k) ≡ Some ((k.clock, k.gateway), k) = rw (same_itself t) refl in
+      let found = find_of clock_cmp clock_exact (retain_of t) (k.clock, k.gateway) k A (λ y w q is. retains_single t A once y (OfRetain t k) (k.clock, k.gateway) w k q place is here) (OfRetain t k) here place in
+      let other = find_in clock_cmp clock_exact (retain_of t) (k.clock, k.gateway) k B (sym (h.retains_same t (k.clock, k.gateway)) ∙ found) in
+      subst (λ (x : Op). IsIn x B) (retain_shape t other.0 (k.clock, k.gateway) k other.2).0 other.1;
 }
 
 -- ---- what covers an acknowledgement
@@ -81,6 +88,7 @@ below_all a b y us past less place =
 ack_of : (c : List ℕ) (name : ℕ × ℕ) (y : Op) → acknowledges c name y ≡ true → (f : ℕ) × (l : ℕ) × (y ≡ Ack c name.1 f l) × (f ≤ name.0) × (name.0 ≤ l)
 ack_of c name (OfSession d t j o) e = absurd cc
 ack_of c name (OfPut d q) e = absurd cc
+ack_of c name (OfRetain t k) e = absurd cc
 ack_of c name (Ack d r f l) e = let h = covers c d name r f l e in (f, l, (λ i. Ack (sym h.client i) (sym h.origin_is i) f l), h.from, h.upto)
 
 -- the first of the one is not below the first of the other
@@ -89,6 +97,8 @@ not_below a (OfSession c s i o) us vs made past over less =
     name_irreflexive (OfSession c s i o) (below_all a (OfSession c s i o) (OfSession c s i o) us past less (over.sessions c s i o (inl refl)))
 not_below a (OfPut c p) us vs made past over less =
     name_irreflexive (OfPut c p) (below_all a (OfPut c p) (OfPut c p) us past less (over.puts c p (inl refl)))
+not_below a (OfRetain t k) us vs made past over less =
+    name_irreflexive (OfRetain t k) (below_all a (OfRetain t k) (OfRetain t k) us past less (over.retains t k (inl refl)))
 not_below a (Ack d s g m) us vs made past over less =
     let range = made_range d s g m made in
     let there = over.acks d (g, s) (any_in (acknowledges d (g, s)) (Ack d s g m) (Ack d s g m ∷ vs) (covered d s g m g (omega arith) range.forward) (inl refl)) in
@@ -142,8 +152,11 @@ same_first a (OfSession d t j o) us vs ha hb pa pb over back e =
     elim (back.sessions d t j o (inl refl)) [ inl same ↦ same | inr behind ↦ absurd (let less = (all_in (Past 1 a) (OfSession d t j o) us pa behind).below in cc) ]
 same_first a (OfPut d q) us vs ha hb pa pb over back e =
     elim (back.puts d q (inl refl)) [ inl same ↦ same | inr behind ↦ absurd (let less = (all_in (Past 1 a) (OfPut d q) us pa behind).below in cc) ]
+same_first a (OfRetain t k) us vs ha hb pa pb over back e =
+    elim (back.retains t k (inl refl)) [ inl same ↦ same | inr behind ↦ absurd (let less = (all_in (Past 1 a) (OfRetain t k) us pa behind).below in cc) ]
 same_first (OfSession c s i o) (Ack d r g m) us vs ha hb pa pb over back e = absurd cc
 same_first (OfPut c p) (Ack d r g m) us vs ha hb pa pb over back e = absurd cc
+same_first (OfRetain t k) (Ack d r g m) us vs ha hb pa pb over back e = absurd cc
 same_first (Ack c r f l) (Ack d s g m) us vs ha hb pa pb over back e =
     let x = then_equal (client_cmp c d) (ordering_then (nat_cmp r s) (nat_cmp f g)) e in
     let y = then_equal (nat_cmp r s) (nat_cmp f g) x.1 in
@@ -157,8 +170,10 @@ same_first (Ack c r f l) (Ack d s g m) us vs ha hb pa pb over back e =
 both_cover : (c : List ℕ) (name : ℕ × ℕ) (a y : Op) → Past 1 a y → acknowledges c name a ≡ true → acknowledges c name y ≡ true → ⊥
 both_cover c name (OfSession d t j o) y past ea ey = absurd cc
 both_cover c name (OfPut d q) y past ea ey = absurd cc
+both_cover c name (OfRetain t k) y past ea ey = absurd cc
 both_cover c name (Ack d r f l) (OfSession e t j o) past ea ey = absurd cc
 both_cover c name (Ack d r f l) (OfPut e q) past ea ey = absurd cc
+both_cover c name (Ack d r f l) (OfRetain u k) past ea ey = absurd cc
 both_cover c name (Ack d r f l) (Ack e s g m) past ea ey =
     let x = covers c d name r f l ea in
     let y = covers c e name s g m ey in
@@ -179,11 +194,16 @@ over_behind a us vs past over = record {
     | inl here ↦ absurd (let y = any_found (acknowledges c name) us e in both_cover c name a y.0 (all_in (Past 1 a) y.0 us past y.1) here y.2)
     | inr behind ↦ behind
   ];
+  retains = λ t k place. elim (over.retains t k (inr place)) [
+    | inl same ↦ absurd (name_irreflexive a (subst (λ (x : Op). name_cmp a x ≡ Less) (sym same) (all_in (Past 1 a) (OfRetain t k) us past place).below))
+    | inr behind ↦ behind
+  ];
 }
 
 nothing_over : (b : Op) (vs : List Op) → IsTrue (is_well_made b) → Over (b ∷ vs) [] → ⊥
 nothing_over (OfSession c s i o) vs made over = over.sessions c s i o (inl refl)
 nothing_over (OfPut c p) vs made over = over.puts c p (inl refl)
+nothing_over (OfRetain t k) vs made over = over.retains t k (inl refl)
 nothing_over (Ack d s g m) vs made over =
     let range = made_range d s g m made in
     let there = over.acks d (g, s) (any_in (acknowledges d (g, s)) (Ack d s g m) (Ack d s g m ∷ vs) (covered d s g m g (omega arith) range.forward) (inl refl)) in

@@ -13,12 +13,13 @@ use Rattle.sn_session.specs.declared.change.SessionOp.{SessionOp}
 use Rattle.rep_op.specs.declared.op.Stamp.{Stamp}
 use Rattle.rep_op.specs.declared.op.Put.{Put}
 use Rattle.rep_op.specs.declared.op.Op.{Op}
-use Rattle.rep_op.specs.declared.op.Op.TheVariants.{Session as OfSession, Put as OfPut, Ack}
+use Rattle.rep_op.specs.declared.op.Retained.{Retained}
+use Rattle.rep_op.specs.declared.op.Op.TheVariants.{Session as OfSession, Put as OfPut, Ack, Retain as OfRetain}
 use Rattle.rep_ops.specs.Deltas.{IsDelta, IsAscending, IsBefore}
 use Rattle.rep_ops.specs.inner.Joining.{joins, united, united_from, joined}
 use Rattle.rep_ops.specs.Making.{AreWellMade}
-use Rattle.rep_op.specs.Orders.{name_cmp, operation_cmp, put_cmp}
-use Rattle.rep_op.specs.Sets.{same_client, operation_at, put_at, acknowledges, is_acknowledged, Same}
+use Rattle.rep_op.specs.Orders.{name_cmp, operation_cmp, put_cmp, clock_cmp}
+use Rattle.rep_op.specs.Sets.{same_client, operation_at, put_at, acknowledges, is_acknowledged, same_topic, retain_at, Same}
 use Rattle.rep_op.specs.WellMade.{is_well_made}
 use Rattle.rep_op.proofs.Names.{made_range, range_made, name_total, share_equal, less_nat, same_client_cmp, same_nat}
 use Rattle.rep_ops.proofs.Joining.{near_parts, near_joins, all_joined}
@@ -29,8 +30,10 @@ use Rattle.rep_ops.proofs.Rising.{Past, Rising, all_past}
 pub united_made : (a b : Op) → IsTrue (is_well_made a) → IsTrue (is_well_made b) → IsTrue (is_well_made (united a b))
 united_made (OfSession c s i o) b ha hb = ha
 united_made (OfPut c p) b ha hb = ha
+united_made (OfRetain t k) b ha hb = ha
 united_made (Ack c r f l) (OfSession d t j o) ha hb = ha
 united_made (Ack c r f l) (OfPut d q) ha hb = ha
+united_made (Ack c r f l) (OfRetain u k) ha hb = ha
 united_made (Ack c r f l) (Ack d s g m) ha hb =
     let x = made_range c r f l ha in
     let forward = x.forward in
@@ -55,10 +58,13 @@ weak = ranks_by name_total (λ a. a)
 united_not_above : (a b y : Op) → NotAbove a y → NotAbove (united a b) y
 united_not_above (OfSession c s i o) b y h = h
 united_not_above (OfPut c p) b y h = h
+united_not_above (OfRetain t k) b y h = h
 united_not_above (Ack c r f l) (OfSession d t j o) y h = h
 united_not_above (Ack c r f l) (OfPut d q) y h = h
+united_not_above (Ack c r f l) (OfRetain u k) y h = h
 united_not_above (Ack c r f l) (Ack d s g m) (OfSession e t j o) h = h
 united_not_above (Ack c r f l) (Ack d s g m) (OfPut e q) h = h
+united_not_above (Ack c r f l) (Ack d s g m) (OfRetain u k) h = h
 united_not_above (Ack c r f l) (Ack d s g m) (Ack e v k n) h = h
 
 ordered_united : (a b : Op) (rest : List Op) → NotAbove a b → Ordered b rest → Ordered (united a b) rest
@@ -69,8 +75,10 @@ ordered_united a b (y ∷ rest) ab h = (united_not_above a b y (weak.chain y b a
 equal_joins : (a b : Op) → IsTrue (is_well_made a) → IsTrue (is_well_made b) → name_cmp a b ≡ Equal → joins a b ≡ true
 equal_joins (OfSession c s i o) b ha hb e = ap is_eq e
 equal_joins (OfPut c p) b ha hb e = ap is_eq e
+equal_joins (OfRetain t k) b ha hb e = ap is_eq e
 equal_joins (Ack c r f l) (OfSession d t j o) ha hb e = ap is_eq e
 equal_joins (Ack c r f l) (OfPut d q) ha hb e = ap is_eq e
+equal_joins (Ack c r f l) (OfRetain u k) ha hb e = ap is_eq e
 equal_joins (Ack c r f l) (Ack d s g m) ha hb e =
     let h = share_equal (Ack c r f l) (Ack d s g m) ha hb e in
     let below = h.3 in
@@ -86,8 +94,10 @@ below_apart a b ha hb apart up Greater e =
 apart_before : (a b : Op) → joins a b ≡ false → name_cmp a b ≡ Less → IsBefore a b
 apart_before (OfSession c s i o) b apart less = (less, tt)
 apart_before (OfPut c p) b apart less = (less, tt)
+apart_before (OfRetain t k) b apart less = (less, tt)
 apart_before (Ack c r f l) (OfSession d t j o) apart less = (less, tt)
 apart_before (Ack c r f l) (OfPut d q) apart less = (less, tt)
+apart_before (Ack c r f l) (OfRetain u k) apart less = (less, tt)
 apart_before (Ack c r f l) (Ack d s g m) apart less = (
   less,
   λ client origin. elim (cases_lt (l + 1) g) [
@@ -102,10 +112,13 @@ before a b ha hb apart up = apart_before a b apart (below_apart a b ha hb apart 
 before_united : (a b y : Op) → IsBefore a b → IsBefore a (united b y)
 before_united a (OfSession c s i o) y h = h
 before_united a (OfPut c p) y h = h
+before_united a (OfRetain t k) y h = h
 before_united a (Ack c r f l) (OfSession d t j o) h = h
 before_united a (Ack c r f l) (OfPut d q) h = h
+before_united a (Ack c r f l) (OfRetain u k) h = h
 before_united (OfSession e v k n) (Ack c r f l) (Ack d s g m) h = h
 before_united (OfPut e v) (Ack c r f l) (Ack d s g m) h = h
+before_united (OfRetain e v) (Ack c r f l) (Ack d s g m) h = h
 before_united (Ack e v k n) (Ack c r f l) (Ack d s g m) h = h
 
 ascending_behind : (a b : Op) (rest : List Op) → IsBefore a b → IsTrue (is_well_made b) → AreWellMade rest → Ordered b rest → IsAscending (a ∷ united_from b rest)
@@ -143,15 +156,19 @@ ordered_sorted a rest sorted =
 before_past : (a b : Op) → Past 1 a b → IsBefore a b
 before_past (OfSession c s i o) b p = (p.below, tt)
 before_past (OfPut c u) b p = (p.below, tt)
+before_past (OfRetain t k) b p = (p.below, tt)
 before_past (Ack c r f l) (OfSession d t j o) p = (p.below, tt)
 before_past (Ack c r f l) (OfPut d u) p = (p.below, tt)
+before_past (Ack c r f l) (OfRetain u k) p = (p.below, tt)
 before_past (Ack c r f l) (Ack d s g m) p = (p.below, p.clear)
 
 pub past_before : (a b : Op) → IsBefore a b → Past 1 a b
 past_before (OfSession c s i o) b p = record { below = p.0; clear = tt }
 past_before (OfPut c u) b p = record { below = p.0; clear = tt }
+past_before (OfRetain t k) b p = record { below = p.0; clear = tt }
 past_before (Ack c r f l) (OfSession d t j o) p = record { below = p.0; clear = tt }
 past_before (Ack c r f l) (OfPut d u) p = record { below = p.0; clear = tt }
+past_before (Ack c r f l) (OfRetain u k) p = record { below = p.0; clear = tt }
 past_before (Ack c r f l) (Ack d s g m) p = record { below = p.0; clear = p.1 }
 
 pub ascending_rising : (xs : List Op) → Rising 1 xs → IsAscending xs
@@ -220,11 +237,18 @@ operation_pair c name (OfSession d t j o) (OfSession e u k p) S h =
     operation_once c name d t j o p S ∙ (λ i. operation_at c (OfSession d t j o ∷ OfSession (share.0 i) (share.1 i) (share.2 i) p ∷ S) name)
 operation_pair c name (OfSession d t j o) (OfPut e q) S h = absurd (let wrong = h.one in cc)
 operation_pair c name (OfSession d t j o) (Ack e s g m) S h = absurd (let wrong = h.one in cc)
+operation_pair c name (OfSession d t j o) (OfRetain u l) S h = absurd (let wrong = h.one in cc)
 operation_pair c name (OfPut d p) (OfSession e u k q) S h = absurd (let wrong = h.one in cc)
 operation_pair c name (OfPut d p) (OfPut e q) S h = refl
 operation_pair c name (OfPut d p) (Ack e s g m) S h = absurd (let wrong = h.one in cc)
+operation_pair c name (OfPut d p) (OfRetain u l) S h = absurd (let wrong = h.one in cc)
 operation_pair c name (Ack d r f l) (OfSession e u k q) S h = absurd (let wrong = h.one in cc)
 operation_pair c name (Ack d r f l) (OfPut e q) S h = absurd (let wrong = h.one in cc)
+operation_pair c name (Ack d r f l) (OfRetain u w) S h = absurd (let wrong = h.one in cc)
+operation_pair c name (OfRetain v k) (OfSession e u i p) S h = absurd (let wrong = h.one in cc)
+operation_pair c name (OfRetain v k) (OfPut e q) S h = absurd (let wrong = h.one in cc)
+operation_pair c name (OfRetain v k) (Ack e s g m) S h = absurd (let wrong = h.one in cc)
+operation_pair c name (OfRetain v k) (OfRetain u l) S h = refl
 operation_pair c name (Ack d r f l) (Ack e s g m) S h = refl
 
 put_once : (c : List ℕ) (name : ℕ × ℕ) (d e : List ℕ) (p q : Put) (S : List Op) → d ≡ e → p.origin ≡ q.origin → p.seq ≡ q.seq
@@ -241,14 +265,51 @@ put_pair : (c : List ℕ) (name : ℕ × ℕ) (a b : Op) (S : List Op) → IsPai
 put_pair c name (OfSession d t j o) (OfSession e u k p) S h = refl
 put_pair c name (OfSession d t j o) (OfPut e q) S h = absurd (let wrong = h.one in cc)
 put_pair c name (OfSession d t j o) (Ack e s g m) S h = absurd (let wrong = h.one in cc)
+put_pair c name (OfSession d t j o) (OfRetain u l) S h = absurd (let wrong = h.one in cc)
 put_pair c name (OfPut d p) (OfSession e u k q) S h = absurd (let wrong = h.one in cc)
 put_pair c name (OfPut d p) (OfPut e q) S h =
     let share = share_equal (OfPut d p) (OfPut e q) h.made_a h.made_b (equal_is (name_cmp (OfPut d p) (OfPut e q)) h.one) in
     put_once c name d e p q S share.0 share.1 share.2
 put_pair c name (OfPut d p) (Ack e s g m) S h = absurd (let wrong = h.one in cc)
+put_pair c name (OfPut d p) (OfRetain u l) S h = absurd (let wrong = h.one in cc)
 put_pair c name (Ack d r f l) (OfSession e u k q) S h = absurd (let wrong = h.one in cc)
 put_pair c name (Ack d r f l) (OfPut e q) S h = absurd (let wrong = h.one in cc)
+put_pair c name (Ack d r f l) (OfRetain u w) S h = absurd (let wrong = h.one in cc)
+put_pair c name (OfRetain v k) (OfSession e u i p) S h = absurd (let wrong = h.one in cc)
+put_pair c name (OfRetain v k) (OfPut e q) S h = absurd (let wrong = h.one in cc)
+put_pair c name (OfRetain v k) (Ack e s g m) S h = absurd (let wrong = h.one in cc)
+put_pair c name (OfRetain v k) (OfRetain u l) S h = refl
 put_pair c name (Ack d r f l) (Ack e s g m) S h = refl
+
+retain_once : (t : List ℕ) (name : ℕ × ℕ) (u v : List ℕ) (k l : Retained) (S : List Op) → u ≡ v → k.clock ≡ l.clock → k.gateway ≡ l.gateway
+    → retain_at t (OfRetain u k ∷ S) name ≡ retain_at t (OfRetain u k ∷ OfRetain v l ∷ S) name
+retain_once t name u v k l S topic clock gateway =
+    elim (cases_Bool (same_topic t u)) [
+      | inl same ↦ (let other : same_topic t v ≡ true = ap (same_topic t) (sym topic) ∙ same in
+          rw (same, other) (found_once (is_eq (clock_cmp name (k.clock, k.gateway))) k l (retain_at t S name)
+          ∙ (λ i. cond (is_eq (clock_cmp name (k.clock, k.gateway))) (Some k) (cond (is_eq (clock_cmp name (clock i, gateway i))) (Some l) (retain_at t S name)))))
+      | inr none ↦ (let other : same_topic t v ≡ false = ap (same_topic t) (sym topic) ∙ none in rw (none, other) refl)
+    ]
+
+retain_pair : (t : List ℕ) (name : ℕ × ℕ) (a b : Op) (S : List Op) → IsPair a b → retain_at t (united a b ∷ S) name ≡ retain_at t (a ∷ b ∷ S) name
+retain_pair t name (OfSession d s j o) (OfSession e u k p) S h = refl
+retain_pair t name (OfSession d s j o) (OfPut e q) S h = absurd (let wrong = h.one in cc)
+retain_pair t name (OfSession d s j o) (Ack e r g m) S h = absurd (let wrong = h.one in cc)
+retain_pair t name (OfSession d s j o) (OfRetain u l) S h = absurd (let wrong = h.one in cc)
+retain_pair t name (OfPut d p) (OfSession e u k q) S h = absurd (let wrong = h.one in cc)
+retain_pair t name (OfPut d p) (OfPut e q) S h = refl
+retain_pair t name (OfPut d p) (Ack e r g m) S h = absurd (let wrong = h.one in cc)
+retain_pair t name (OfPut d p) (OfRetain u l) S h = absurd (let wrong = h.one in cc)
+retain_pair t name (Ack d r f l) (OfSession e u k q) S h = absurd (let wrong = h.one in cc)
+retain_pair t name (Ack d r f l) (OfPut e q) S h = absurd (let wrong = h.one in cc)
+retain_pair t name (Ack d r f l) (Ack e s g m) S h = refl
+retain_pair t name (Ack d r f l) (OfRetain u w) S h = absurd (let wrong = h.one in cc)
+retain_pair t name (OfRetain v k) (OfSession e u i p) S h = absurd (let wrong = h.one in cc)
+retain_pair t name (OfRetain v k) (OfPut e q) S h = absurd (let wrong = h.one in cc)
+retain_pair t name (OfRetain v k) (Ack e s g m) S h = absurd (let wrong = h.one in cc)
+retain_pair t name (OfRetain v k) (OfRetain u l) S h =
+    let share = share_equal (OfRetain v k) (OfRetain u l) h.made_a h.made_b (equal_is (name_cmp (OfRetain v k) (OfRetain u l)) h.one) in
+    retain_once t name v u k l S share.0 share.1 share.2
 
 -- of two ranges the second does not begin before the first
 begins : (c d : List ℕ) (r s f l g m : ℕ) → c ≡ d → r ≡ s → NotAbove (Ack c r f l) (Ack d s g m) → f ≤ g
@@ -275,11 +336,18 @@ acknowledged_pair : (c : List ℕ) (name : ℕ × ℕ) (a b : Op) (S : List Op) 
 acknowledged_pair c name (OfSession d t j o) (OfSession e u k p) S h = refl
 acknowledged_pair c name (OfSession d t j o) (OfPut e q) S h = absurd (let wrong = h.one in cc)
 acknowledged_pair c name (OfSession d t j o) (Ack e s g m) S h = absurd (let wrong = h.one in cc)
+acknowledged_pair c name (OfSession d t j o) (OfRetain u l) S h = absurd (let wrong = h.one in cc)
 acknowledged_pair c name (OfPut d p) (OfSession e u k q) S h = absurd (let wrong = h.one in cc)
 acknowledged_pair c name (OfPut d p) (OfPut e q) S h = refl
 acknowledged_pair c name (OfPut d p) (Ack e s g m) S h = absurd (let wrong = h.one in cc)
+acknowledged_pair c name (OfPut d p) (OfRetain u l) S h = absurd (let wrong = h.one in cc)
 acknowledged_pair c name (Ack d r f l) (OfSession e u k q) S h = absurd (let wrong = h.one in cc)
 acknowledged_pair c name (Ack d r f l) (OfPut e q) S h = absurd (let wrong = h.one in cc)
+acknowledged_pair c name (Ack d r f l) (OfRetain u w) S h = absurd (let wrong = h.one in cc)
+acknowledged_pair c name (OfRetain v k) (OfSession e u i p) S h = absurd (let wrong = h.one in cc)
+acknowledged_pair c name (OfRetain v k) (OfPut e q) S h = absurd (let wrong = h.one in cc)
+acknowledged_pair c name (OfRetain v k) (Ack e s g m) S h = absurd (let wrong = h.one in cc)
+acknowledged_pair c name (OfRetain v k) (OfRetain u l) S h = refl
 acknowledged_pair c name (Ack d r f l) (Ack e s g m) S h =
     let n = near_parts d e r s f l g m h.one in
     let x = made_range d r f l h.made_a in
@@ -300,6 +368,7 @@ operation_front c name (OfSession d t j o) S T e =
     ]
 operation_front c name (OfPut d p) S T e = e
 operation_front c name (Ack d r f l) S T e = e
+operation_front c name (OfRetain u k) S T e = e
 
 pub put_front : (c : List ℕ) (name : ℕ × ℕ) (a : Op) (S T : List Op) → put_at c S name ≡ put_at c T name → put_at c (a ∷ S) name ≡ put_at c (a ∷ T) name
 put_front c name (OfSession d t j o) S T e = e
@@ -309,6 +378,17 @@ put_front c name (OfPut d p) S T e =
       | inr other ↦ rw other e
     ]
 put_front c name (Ack d r f l) S T e = e
+put_front c name (OfRetain u k) S T e = e
+
+pub retain_front : (t : List ℕ) (name : ℕ × ℕ) (a : Op) (S T : List Op) → retain_at t S name ≡ retain_at t T name → retain_at t (a ∷ S) name ≡ retain_at t (a ∷ T) name
+retain_front t name (OfSession d s j o) S T e = e
+retain_front t name (OfPut d p) S T e = e
+retain_front t name (Ack d r f l) S T e = e
+retain_front t name (OfRetain u k) S T e =
+    elim (cases_Bool (same_topic t u)) [
+      | inl same ↦ rw same (ap (cond (is_eq (clock_cmp name (k.clock, k.gateway))) (Some k)) e)
+      | inr other ↦ rw other e
+    ]
 
 -- joining changes nothing about the set
 pub same_joined : (xs : List Op) → AreWellMade xs → IsSortedByName xs → Same (joined xs) xs
@@ -316,4 +396,5 @@ same_joined xs made sorted = record {
   operations_same = λ c name. read_joined (λ S. operation_at c S name) (operation_front c name) (operation_pair c name) xs made sorted;
   puts_same = λ c name. read_joined (λ S. put_at c S name) (put_front c name) (put_pair c name) xs made sorted;
   acknowledgements_same = λ c name. read_joined (λ S. is_acknowledged c S name) (λ a S T e. ap (λ (b : Bool). acknowledges c name a || b) e) (acknowledged_pair c name) xs made sorted;
+  retains_same = λ t name. read_joined (λ S. retain_at t S name) (retain_front t name) (retain_pair t name) xs made sorted;
 }

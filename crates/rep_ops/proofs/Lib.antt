@@ -1,12 +1,15 @@
 pub mod Joining
 pub mod Rising
+pub mod Versions
 pub mod Sizes
 pub mod Joined
 pub mod Making
+pub mod Sides
 pub mod Splitting
 pub mod Stable
 pub mod Canonical
 pub mod Loop
+pub mod Whole
 pub mod Listed
 pub mod Format
 pub mod Examples

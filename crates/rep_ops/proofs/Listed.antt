@@ -1,17 +1,19 @@
 -- Texts of a version, a count and values of which each may stand after those before it: the law of their readers.
 use Rattle.std.proofs.Common.{◌≡◌, ◌≢◌, ℕ, zero, suc, ◌+◌, ◌<◌, ◌≤◌, ◌^◌, Bool, true, false, cond, List, [], ◌∷◌, ◌++◌, length, Result, Ok, Err, refl, sym, ap, subst, ◌∙◌, inl, inr, append_assoc, arith}
-use Rattle.std.specs.Prelude.{nat_lt, ◌==◌}
+use Rattle.std.specs.Prelude.{◌==◌}
 use Rattle.std.specs.Int.{w32, to_be_bytes}
 use Rattle.std.specs.List.{flat_map, AllByRecursion}
-use Rattle.std.proofs.lemmas.Bool.{cases_Bool, eqb-true, ne_eqb, ltb-false, le-ltb}
-use Rattle.std.proofs.lemmas.List.{append-nil, nil_from_length, length-append}
+use Rattle.std.proofs.lemmas.Bool.{cases_Bool, eqb-true}
+use Rattle.std.proofs.lemmas.List.{append-nil}
 use Rattle.byteorder.specs.Endian.{big_bytes}
 use Rattle.rep_op.specs.declared.fault.OpsFault.{OpsFault}
 use Rattle.rep_op.specs.declared.fault.OpsFault.TheVariants as faults
-use Rattle.rep_octets.specs.Reading.{Reader, ◌>>=◌, Fails, octet_at, number_at}
-use Rattle.rep_ops.specs.Reading.{AreOctets, listed_at, text_at, whole_at, reading_of}
+use Rattle.rep_op.specs.declared.version.Version.TheVariants.{One}
+use Rattle.rep_read.specs.Reading.{Reader, ◌>>=◌, Fails, octet_at, number_at}
+use Rattle.rep_ops.specs.Reading.{AreOctets, listed_at, values_at, text_at, reading_of}
 use Rattle.rep_ops.specs.Spelling.{text_of, max_octets}
-use Rattle.rep_octets.proofs.Laws.{IsBytes, Taken, IsStable, extended, Law, bind_ok, guard_ok, bind_stable, octet_law, wide32, number_law, ok_is}
+use Rattle.rep_ops.proofs.Whole.{takes, again, one, cut, behind}
+use Rattle.rep_read.proofs.Laws.{IsBytes, Taken, IsStable, Law, bind_ok, bind_stable, octet_law, wide32, number_law, ok_is}
 
 -- what reading values took
 record TakesListed {A : Type 0} (text : A → List ℕ) (Fits : A → Type 0) (Up : List A → Type 0) (n : ℕ) (front : List A) (bytes : List ℕ) (x : List A × List ℕ) : Type 0 where
@@ -94,13 +96,13 @@ module _ {A : Type 0} (p : Reader A) (text : A → List ℕ) (Fits : A → Type 
       bind_stable more (p bytes) (p (bytes ++ more)) (λ x. cond (follows front x.0) (listed_at p follows n (front ++ x.0 ∷ []) x.1) (Err faults.Order)) (lp.stable bytes more)
       (λ x. listed_step n front x.0 x.1 more (follows front x.0) (listed_stable n (front ++ x.0 ∷ []) x.1 more))
 
-  -- ---- the version and the count
+  -- ---- the count and the values
 
-  abbrev counted_at : Reader (List A)
-  counted_at bytes = number_at w32 bytes >>= λ count. listed_at p follows count.0 [] count.1
+  abbrev values_text : List A → List ℕ
+  values_text d = big_bytes 4 (length d) ++ flat_map text d
 
-  counted_takes : (bytes : List ℕ) (x : List A × List ℕ) → IsBytes bytes → counted_at bytes ≡ Ok x → Taken (λ d. big_bytes 4 (length d) ++ flat_map text d) (FitsText Fits Up) bytes x
-  counted_takes bytes x fits e =
+  values_take : (bytes : List ℕ) (x : List A × List ℕ) → IsBytes bytes → values_at p follows bytes ≡ Ok x → Taken values_text (FitsText Fits Up) bytes x
+  values_take bytes x fits e =
       let b = bind_ok (number_at w32 bytes) (λ count. listed_at p follows count.0 [] count.1) x e in
       let t = four_law.takes bytes b.0 fits b.1 in
       let o = listed_takes b.0.0 [] b.0.1 x t.rest order.none b.2 in
@@ -113,26 +115,31 @@ module _ {A : Type 0} (p : Reader A) (text : A → List ℕ) (Fits : A → Type 
         fits = record { few = subst (λ (n : ℕ). n < 2 ^ 32) len t.fits; fits = subst (AllByRecursion Fits) all o.fits; ascending = subst Up all o.ascending };
       }
 
-  counted_again : (d : List A) (rest : List ℕ) → FitsText Fits Up d → counted_at ((big_bytes 4 (length d) ++ flat_map text d) ++ rest) ≡ Ok (d, rest)
-  counted_again d rest h =
-      ap counted_at (append_assoc (to_be_bytes w32 (length d)) (flat_map text d) rest)
+  values_again : (d : List A) (rest : List ℕ) → FitsText Fits Up d → values_at p follows (values_text d ++ rest) ≡ Ok (d, rest)
+  values_again d rest h =
+      ap (values_at p follows) (append_assoc (to_be_bytes w32 (length d)) (flat_map text d) rest)
       ∙ rw (four_law.again (length d) (flat_map text d ++ rest) h.few) (listed_again d [] rest h.fits h.ascending)
 
-  counted_stable : (bytes more : List ℕ) → IsStable more (counted_at bytes) (counted_at (bytes ++ more))
-  counted_stable bytes more =
+  values_stable : (bytes more : List ℕ) → IsStable more (values_at p follows bytes) (values_at p follows (bytes ++ more))
+  values_stable bytes more =
       bind_stable more (number_at w32 bytes) (number_at w32 (bytes ++ more)) (λ count. listed_at p follows count.0 [] count.1) (four_law.stable bytes more) (λ x. listed_stable x.0 [] x.1 more)
 
+  pub values_law : Law (values_at p follows) (λ d. big_bytes 4 (length d) ++ flat_map text d) (FitsText Fits Up)
+  values_law = record { takes = values_take; again = values_again; stable = values_stable }
+
+  -- ---- version 1, the count and the values
+
   abbrev by_version : ℕ → Reader (List A)
-  by_version version bytes = cond (version == 1) (counted_at bytes) (Err faults.Version)
+  by_version version bytes = cond (version == 1) (values_at p follows bytes) (Err faults.Version)
 
   version_stable : (version : ℕ) (after more : List ℕ) → IsStable more (by_version version after) (by_version version (after ++ more))
   version_stable version after more =
       elim (cases_Bool (version == 1)) [
-        | inl known ↦ rw known (counted_stable after more)
+        | inl known ↦ rw known (values_stable after more)
         | inr not ↦ rw not (inr refl)
       ]
 
-  pub text_law : Law (text_at p follows) (text_of text) (FitsText Fits Up)
+  pub text_law : Law (text_at p follows) (text_of One text) (FitsText Fits Up)
   unfolding text_at
   text_law = record {
     takes = λ bytes x fits e.
@@ -140,79 +147,37 @@ module _ {A : Type 0} (p : Reader A) (text : A → List ℕ) (Fits : A → Type 
         let t = octet_law.takes bytes b.0 fits b.1 in
         elim (cases_Bool (b.0.0 == 1)) [
           | inl known ↦
-              let read : counted_at b.0.1 ≡ Ok x = rw known at b.2 in
-              let c = counted_takes b.0.1 x t.rest read in
+              let read : values_at p follows b.0.1 ≡ Ok x = rw known at b.2 in
+              let c = values_take b.0.1 x t.rest read in
               let is : b.0.0 ≡ 1 = eqb-true _ _ known in
               record { parts = t.parts ∙ (λ i. is i ∷ c.parts i); rest = c.rest; fits = c.fits }
           | inr not ↦ absurd (let wrong : Err faults.Version ≡ Ok x = rw not at b.2 in cc)
         ];
-    again = λ d rest h. counted_again d rest h;
+    again = λ d rest h. values_again d rest h;
     stable = λ bytes more. bind_stable more (octet_at bytes) (octet_at (bytes ++ more)) (λ version. by_version version.0 version.1) (octet_law.stable bytes more) (λ x. version_stable x.0 x.1 more);
   }
 
   -- ---- the whole
 
-  ended : (x : List A × List ℕ) (d : List A) → cond (length x.1 == 0) (Ok x.0) (Err faults.Trailing) ≡ Ok d → (x.0 ≡ d) × (x.1 ≡ [])
-  ended x d e = let g = guard_ok (length x.1 == 0) faults.Trailing x.0 d e in (g.1, nil_from_length x.1 (eqb-true _ _ g.0))
-
   -- what is read is written so
-  pub whole_takes : (bytes : List ℕ) (d : List A) → AreOctets bytes → reading_of p follows bytes ≡ Ok d → (bytes ≡ text_of text d) × FitsText Fits Up d × (length (text_of text d) ≤ max_octets)
-  unfolding whole_at
-  whole_takes bytes d octets e =
-      elim (cases_Bool (nat_lt max_octets (length bytes))) [
-        | inl long ↦ absurd (let wrong : Err faults.Limit ≡ Ok d = rw long at e in cc)
-        | inr short ↦
-            let size : length bytes ≤ max_octets = ltb-false _ _ short in
-            let read : (text_at p follows bytes >>= λ x. cond (length x.1 == 0) (Ok x.0) (Err faults.Trailing)) ≡ Ok d = rw short at e in
-            let b = bind_ok (text_at p follows bytes) (λ x. cond (length x.1 == 0) (Ok x.0) (Err faults.Trailing)) d read in
-            let t = text_law.takes bytes b.0 octets b.1 in
-            let g = ended b.0 d b.2 in
-            let whole : bytes ≡ text_of text d = t.parts ∙ (ap (λ (z : List ℕ). text_of text b.0.0 ++ z) g.1 ∙ (append-nil (text_of text b.0.0) ∙ ap (text_of text) g.0)) in
-            (whole, subst (FitsText Fits Up) g.0 t.fits, subst (λ (z : List ℕ). length z ≤ max_octets) whole size)
-      ]
+  pub whole_takes : (bytes : List ℕ) (d : List A) → AreOctets bytes → reading_of p follows bytes ≡ Ok d → (bytes ≡ text_of One text d) × FitsText Fits Up d × (length (text_of One text d) ≤ max_octets)
+  whole_takes = takes (text_at p follows) (text_of One text) (FitsText Fits Up) text_law
 
   -- what is written is read again
-  pub whole_again : (d : List A) → FitsText Fits Up d → length (text_of text d) ≤ max_octets → reading_of p follows (text_of text d) ≡ Ok d
-  unfolding whole_at
-  whole_again d h size =
-      let short : nat_lt max_octets (length (text_of text d)) ≡ false = le-ltb _ _ size in
-      let front : text_at p follows (text_of text d) ≡ Ok (d, []) = ap (text_at p follows) (sym (append-nil (text_of text d))) ∙ text_law.again d [] h in
-      rw (short, front) refl
+  pub whole_again : (d : List A) → FitsText Fits Up d → length (text_of One text d) ≤ max_octets → reading_of p follows (text_of One text d) ≡ Ok d
+  whole_again = again (text_at p follows) (text_of One text) (FitsText Fits Up) text_law
 
   -- no text begins another
-  pub one_text : (a b : List A) (x y : List ℕ) → FitsText Fits Up a → FitsText Fits Up b → text_of text a ++ x ≡ text_of text b ++ y → (a ≡ b) × (x ≡ y)
-  one_text a b x y fa fb e =
-      let both : Ok (a, x) ≡ Ok (b, y) = sym (text_law.again a x fa) ∙ (ap (text_at p follows) e ∙ text_law.again b y fb) in
-      let pair : (a, x) ≡ (b, y) = ok_is (a, x) (b, y) both in
-      (ap (λ (p : List A × List ℕ). p.0) pair, ap (λ (p : List A × List ℕ). p.1) pair)
-
-  cut_short : (d : List A) (front rest : List ℕ) (r : Result (List A × List ℕ) OpsFault) → rest ≢ [] → Ok (d, []) ≡ extended rest r → ⊥
-  cut_short d front rest (Ok x) ne e =
-      let pair : (d, []) ≡ (x.0, x.1 ++ rest) = ok_is _ _ e in
-      let none : [] ≡ x.1 ++ rest = ap (λ (p : List A × List ℕ). p.1) pair in
-      let len : 0 ≡ length (x.1 ++ rest) = ap length none in
-      ne (nil_from_length rest (omega (arith, length-append x.1 rest)))
-  cut_short d front rest (Err f) ne e = absurd cc
+  pub one_text : (a b : List A) (x y : List ℕ) → FitsText Fits Up a → FitsText Fits Up b → text_of One text a ++ x ≡ text_of One text b ++ y → (a ≡ b) × (x ≡ y)
+  one_text = one (text_at p follows) (text_of One text) (FitsText Fits Up) text_law
 
   -- what is cut is told so
-  pub text_cut : (d : List A) (front rest : List ℕ) → FitsText Fits Up d → length (text_of text d) ≤ max_octets → text_of text d ≡ front ++ rest → rest ≢ [] → reading_of p follows front ≡ Err faults.Truncated
-  unfolding whole_at
-  text_cut d front rest fits size e ne =
-      let len : length (text_of text d) ≡ length front + length rest = ap length e ∙ length-append front rest in
-      let short : nat_lt max_octets (length front) ≡ false = le-ltb _ _ (omega arith) in
-      let whole : text_at p follows (front ++ rest) ≡ Ok (d, []) = ap (text_at p follows) (sym e ∙ sym (append-nil (text_of text d))) ∙ text_law.again d [] fits in
-      elim (text_law.stable front rest) [
-        | inl cut ↦ rw (short, cut) refl
-        | inr same ↦ absurd (cut_short d front rest (text_at p follows front) ne (sym whole ∙ same))
-      ]
+  pub text_cut : (d : List A) (front rest : List ℕ) → FitsText Fits Up d → length (text_of One text d) ≤ max_octets → text_of One text d ≡ front ++ rest → rest ≢ [] → reading_of p follows front ≡ Err faults.Truncated
+  text_cut = cut (text_at p follows) (text_of One text) (FitsText Fits Up) text_law
 
   -- and so is what stands after
-  pub text_behind : (d : List A) (rest : List ℕ) → FitsText Fits Up d → length (text_of text d ++ rest) ≤ max_octets → rest ≢ [] → reading_of p follows (text_of text d ++ rest) ≡ Err faults.Trailing
-  unfolding whole_at
-  text_behind d rest fits size ne =
-      let short : nat_lt max_octets (length (text_of text d ++ rest)) ≡ false = le-ltb _ _ size in
-      let some : (length rest == 0) ≡ false = ne_eqb _ _ (λ z. ne (nil_from_length rest z)) in
-      rw (short, text_law.again d rest fits, some) refl
+  pub text_behind : (d : List A) (rest : List ℕ) → FitsText Fits Up d → length (text_of One text d ++ rest) ≤ max_octets → rest ≢ [] → reading_of p follows (text_of One text d ++ rest) ≡ Err faults.Trailing
+  text_behind = behind (text_at p follows) (text_of One text) (FitsText Fits Up) text_law
 
 -- what a call answered that did not give what is read: that memory ran out
 pub only_memory : {A : Type 0} (fault : OpsFault) (d : A) (r : Result A OpsFault) → r ≡ Ok d → Fails fault r → fault ≡ faults.Memory

@@ -3,7 +3,7 @@ use Rattle.std.proofs.Common.{◌≡◌, ℕ, zero, suc, ◌+◌, ◌-◌, ◌<�
 use Rattle.std.specs.Prelude.{slice_get}
 use Rattle.rep_op.specs.declared.fault.OpsFault.{OpsFault}
 use Rattle.rep_op.specs.declared.fault.OpsFault.TheVariants as faults
-use Rattle.rep_octets.specs.Reading.{Reader, Fails}
+use Rattle.rep_read.specs.Reading.{Reader, Fails}
 use Rattle.rep_ops.specs.Reading.{follows_last, listed_at}
 
 module _ {A : Type 0} (next : A → A → Bool) where

@@ -12,7 +12,7 @@ use Rattle.rep_op.specs.declared.fault.OpsFault.{OpsFault}
 use Rattle.rep_op.specs.declared.fault.OpsFault.TheVariants.{Memory, Twice}
 use Rattle.rep_op.specs.declared.op.Op.{Op}
 use Rattle.rep_op.specs.Orders.{ShareName, name_cmp}
-use Rattle.rep_op.specs.declared.op.Op.TheVariants.{Session as OfSession, Put as OfPut, Ack}
+use Rattle.rep_op.specs.declared.op.Op.TheVariants.{Session as OfSession, Put as OfPut, Ack, Retain as OfRetain}
 use Rattle.rep_ops.specs.inner.Joining.{united, joined}
 use Rattle.rep_ops.specs.Making.{AreWellMade, AreApart, IsDeltaOf}
 use Rattle.rep_op.specs.Values.{IsValue, AreValues}
@@ -32,8 +32,10 @@ values_permutation xs ys p h = recursion_from_All IsValue ys (All-permutation Is
 united_value : (a b : Op) → IsValue a → IsValue b → IsValue (united a b)
 united_value (OfSession c s i o) b ha hb = ha
 united_value (OfPut c p) b ha hb = ha
+united_value (OfRetain t k) b ha hb = ha
 united_value (Ack c r f l) (OfSession d t j o) ha hb = ha
 united_value (Ack c r f l) (OfPut d q) ha hb = ha
+united_value (Ack c r f l) (OfRetain u k) ha hb = ha
 united_value (Ack c r f l) (Ack d s g m) ha hb = (ha.0, ha.1, ha.2, let x = ha.3 in let y = hb.3 in omega arith)
 
 pub record Sorted (xs ys : List Op) : Type 0 where

@@ -10,7 +10,7 @@ use Rattle.std.proofs.lemmas.Bool.{cases_lt}
 use Rattle.std.proofs.lemmas.Cmp.{nat_cmp_total, nat_list_cmp_total}
 use Rattle.rep_op.specs.declared.op.Stamp.{Stamp}
 use Rattle.rep_op.specs.declared.op.Op.{Op}
-use Rattle.rep_op.specs.declared.op.Op.TheVariants.{Session as OfSession, Put as OfPut, Ack}
+use Rattle.rep_op.specs.declared.op.Op.TheVariants.{Session as OfSession, Put as OfPut, Ack, Retain as OfRetain}
 use Rattle.rep_op.specs.Orders.{ShareName, HasTwice, client_cmp, name_cmp}
 use Rattle.rep_ops.specs.Making.{AreWellMade}
 use Rattle.rep_op.specs.WellMade.{is_well_made}
@@ -43,10 +43,13 @@ all_at P (y ∷ ys) (suc i) x h e = all_at P ys i x h.1 e
 clear_trans : (k : ℕ) (a b y : Op) → IsTrue (is_well_made b) → name_cmp a b ≡ Less → name_cmp b y ≡ Less → IsClear k a b → IsClear k b y → IsClear k a y
 clear_trans k (OfSession c s i o) b y made ab by p q = tt
 clear_trans k (OfPut c u) b y made ab by p q = tt
+clear_trans k (OfRetain t u) b y made ab by p q = tt
 clear_trans k (Ack c r f l) b (OfSession d t j o) made ab by p q = tt
 clear_trans k (Ack c r f l) b (OfPut d u) made ab by p q = tt
+clear_trans k (Ack c r f l) b (OfRetain t u) made ab by p q = tt
 clear_trans k (Ack c r f l) (OfSession d t j o) (Ack e v g m) made ab by p q = absurd cc
 clear_trans k (Ack c r f l) (OfPut d u) (Ack e v g m) made ab by p q = absurd cc
+clear_trans k (Ack c r f l) (OfRetain t u) (Ack e v g m) made ab by p q = absurd cc
 clear_trans k (Ack c r f l) (Ack d s h n) (Ack e v g m) made ab by p q =
     λ client origin.
     let to_c : name_cmp (Ack d s h n) (Ack c v g m) ≡ Less = subst (λ (x : List ℕ). name_cmp (Ack d s h n) (Ack x v g m) ≡ Less) (sym client) by in
@@ -88,15 +91,25 @@ past_apart k (OfSession c s i o) (OfSession d t j p) h e =
     let less = h.below in cc
 past_apart k (OfSession c s i o) (OfPut d q) h e = e
 past_apart k (OfSession c s i o) (Ack d r first last) h e = e
+past_apart k (OfSession c s i o) (OfRetain u l) h e = e
 past_apart k (OfPut c p) (OfSession d t j o) h e = e
 past_apart k (OfPut c p) (OfPut d q) h e =
     let same : name_cmp (OfPut c p) (OfPut d q) ≡ Equal =
     rw (same_client_cmp c d e.0, same_nat p.origin q.origin e.1, same_nat p.seq q.seq e.2) refl in
     let less = h.below in cc
 past_apart k (OfPut c p) (Ack d r first last) h e = e
+past_apart k (OfPut c p) (OfRetain u l) h e = e
 past_apart k (Ack c r first last) (OfSession d t j o) h e = e
 past_apart k (Ack c r first last) (OfPut d q) h e = e
 past_apart k (Ack c r first last) (Ack d s start end) h e = let far : last + k < start = h.clear e.0 e.1 in let near = e.3 in omega arith
+past_apart k (Ack c r first last) (OfRetain u l) h e = e
+past_apart k (OfRetain t v) (OfSession d i j o) h e = e
+past_apart k (OfRetain t v) (OfPut d q) h e = e
+past_apart k (OfRetain t v) (Ack d r first last) h e = e
+past_apart k (OfRetain t v) (OfRetain u l) h e =
+    let same : name_cmp (OfRetain t v) (OfRetain u l) ≡ Equal =
+    rw (same_client_cmp t u e.0, same_nat v.clock l.clock e.1, same_nat v.gateway l.gateway e.2) refl in
+    let less = h.below in cc
 
 rising_once : (k : ℕ) (S : List Op) → Rising k S → (i j : ℕ) (a b : Op) → i < j → slice_get S i ≡ Some a → slice_get S j ≡ Some b → ShareName a b → ⊥
 rising_once k [] h i j a b lt p q e = absurd cc
@@ -125,8 +138,10 @@ next_below a b ha hb h Greater e =
 next_clear : (a b : Op) → IsTrue (is_well_made a) → IsTrue (is_well_made b) → name_cmp a b ≡ Less → ¬ (ShareName a b) → IsClear 0 a b
 next_clear (OfSession c s i o) b ha hb e h = tt
 next_clear (OfPut c p) b ha hb e h = tt
+next_clear (OfRetain t k) b ha hb e h = tt
 next_clear (Ack c r f l) (OfSession d t j o) ha hb e h = tt
 next_clear (Ack c r f l) (OfPut d q) ha hb e h = tt
+next_clear (Ack c r f l) (OfRetain u k) ha hb e h = tt
 next_clear (Ack c r f l) (Ack d s g m) ha hb e h =
     λ client origin.
     let up : f < g = ack_below c d r s f l g m e client origin in

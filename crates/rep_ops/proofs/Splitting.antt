@@ -1,20 +1,25 @@
 -- A delta in parts: what is there of them while operations are added.
-use Rattle.std.proofs.Common.{◌≡◌, ◌≢◌, ℕ, ◌+◌, ◌<◌, ◌≤◌, List, [], ◌∷◌, ◌++◌, length, refl, sym, ap, subst, ◌∙◌, append_assoc, append-nil, arith, true, false}
-use Rattle.std.specs.Prelude.{IsTrue, ◌==◌}
-use Rattle.std.proofs.lemmas.Bool.{eqb-true, eq-eqb, both_ways}
-use Rattle.std.specs.List.{AllByRecursion, flat_map}
+use Rattle.std.proofs.Common.{◌≡◌, ◌≢◌, ℕ, ◌+◌, ◌<◌, ◌≤◌, Bool, List, [], ◌∷◌, ◌++◌, length, refl, sym, ap, subst, ◌∙◌, append_assoc, append-nil, arith, true, false, inl, inr}
+use Rattle.std.specs.Prelude.{IsTrue, ◌==◌, ◌||◌}
+use Rattle.std.proofs.lemmas.Bool.{cases_Bool, eqb-true, eq-eqb, both_ways}
+use Rattle.std.specs.List.{AllByRecursion, flat_map, list_any}
 use Rattle.std.proofs.lemmas.Grind.{flat_map-append}
-use Rattle.std.proofs.lemmas.List.{length-append}
+use Rattle.std.proofs.lemmas.List.Folds.{list_any-append}
 use Rattle.rep_op.specs.declared.op.Op.{Op}
 use Rattle.rep_ops.specs.Deltas.{IsDelta}
 use Rattle.rep_ops.specs.Making.{AreWellMade}
-use Rattle.rep_octets.specs.Spelling.{op_octets}
+use Rattle.rep_op.specs.Spelling.{op_octets}
+use Rattle.rep_op.specs.declared.version.Version.TheVariants.{One, Two}
+use Rattle.rep_op.specs.Versions.{needs_two}
+use Rattle.rep_ops.specs.declared.measure.Measure.{Measure}
+use Rattle.rep_ops.specs.inner.Measures.{IsMeasure}
 use Rattle.rep_ops.specs.Spelling.{spelling, IsWithinLimit}
 use Rattle.rep_ops.specs.Splitting.{all_of, IsPart, IsFull, AreFull, IsSplit}
 use Rattle.rep_op.specs.Values.{IsValue, AreValues}
 use Rattle.rep_op.specs.WellMade.{is_well_made}
 use Rattle.rep_ops.proofs.Joined.{rising_ascending, ascending_rising}
 use Rattle.rep_ops.proofs.Rising.{Past, Rising}
+use Rattle.rep_ops.proofs.Sizes.{spelled, octets_more, most_octets, spelled_one, spelled_two, spelled_least}
 
 -- ---- the front and the back of a list
 
@@ -74,98 +79,136 @@ no_parts (x ∷ y ∷ ds) h = absurd (let none = no_parts (y ∷ ds) h.1 in cc)
 pub all_of_more : (ds : List (List Op)) (d : List Op) → all_of (ds ++ d ∷ []) ≡ all_of ds ++ d
 all_of_more ds d = flat_map-append (λ (x : List Op). x) ds (d ∷ []) ∙ ap (λ (xs : List Op). all_of ds ++ xs) (append-nil d)
 
-pub octets : List Op → ℕ
-octets ops = length (flat_map op_octets ops)
+-- ---- the measure of a part
 
-octets_more : (ops : List Op) (op : Op) → octets (ops ++ op ∷ []) ≡ octets ops + length (op_octets op)
-unfolding octets
-octets_more ops op =
-    ap length (flat_map-append op_octets ops (op ∷ []))
-    ∙ length-append (flat_map op_octets ops) (flat_map op_octets (op ∷ []))
-    ∙ ap (λ (n : ℕ). octets ops + n) (ap length (append-nil (op_octets op)))
+pub no_measure : (m : Measure) → m.one ≡ 5 → m.two ≡ 5 → m.is_two ≡ false → IsMeasure m []
+no_measure m e f g = record { one = e; two = f; needed = g }
 
-one_octets : (op : Op) → octets (op ∷ []) ≡ length (op_octets op)
-unfolding octets
-one_octets op = ap length (append-nil (op_octets op))
+any_more : (b c : Bool) → (b || (c || false)) ≡ (b || c)
+any_more true c = refl
+any_more false true = refl
+any_more false false = refl
 
-spelled : (ops : List Op) → length (spelling ops) ≡ 5 + octets ops
-unfolding octets
-spelled ops = omega arith
+pub more_measure : (m n : Measure) (ops : List Op) (op : Op) → IsMeasure m ops → n.one ≡ m.one + length (op_octets One op) → n.two ≡ m.two + length (op_octets Two op)
+    → n.is_two ≡ (m.is_two || needs_two op) → IsMeasure n (ops ++ op ∷ [])
+more_measure m n ops op h e f g =
+    let one = spelled One ops in
+    let two = spelled Two ops in
+    let more_one = spelled One (ops ++ op ∷ []) in
+    let more_two = spelled Two (ops ++ op ∷ []) in
+    let sum_one = octets_more One ops op in
+    let sum_two = octets_more Two ops op in
+    let was_one = h.one in
+    let was_two = h.two in
+    record {
+      one = omega (arith, one, more_one, sum_one, was_one, e);
+      two = omega (arith, two, more_two, sum_two, was_two, f);
+      needed = g ∙ ap (λ (b : Bool). b || needs_two op) h.needed ∙ sym (list_any-append needs_two ops (op ∷ []) ∙ any_more (list_any needs_two ops) (needs_two op));
+    }
+
+pub measured_two : (m : Measure) (ops : List Op) → IsMeasure m ops → m.is_two ≡ true → m.two ≡ length (spelling ops)
+measured_two m ops h e =
+    let size = spelled_two ops (sym h.needed ∙ e) in
+    let two = spelled Two ops in
+    let was = h.two in
+    omega (arith, size, two, was)
+
+pub measured_one : (m : Measure) (ops : List Op) → IsMeasure m ops → m.is_two ≡ false → m.one ≡ length (spelling ops)
+measured_one m ops h e =
+    let size = spelled_one ops (sym h.needed ∙ e) in
+    let one = spelled One ops in
+    let was = h.one in
+    omega (arith, size, one, was)
+
+-- a delta has at least the octets of version 1, and version 2 has at most twice as many
+pub roomy : (m : Measure) (ops : List Op) → IsMeasure m ops → length (spelling ops) ≤ 8388608 → (m.one ≤ 16777216) × (m.two ≤ 16777216)
+roomy m ops h size =
+    let least = spelled_least ops in
+    let most = most_octets ops in
+    let one = spelled One ops in
+    let two = spelled Two ops in
+    let was_one = h.one in
+    let was_two = h.two in
+    (omega (arith, size, least, one, was_one), omega (arith, size, least, most, two, was_two))
+
+-- the delta of one operation is far below the limit
+pub alone_small : (none m : Measure) (op : Op) → IsMeasure none [] → IsMeasure m (op ∷ []) → m.one ≤ none.one + 150000 → m.two ≤ none.two + 150000 → length (spelling (op ∷ [])) ≤ 150005
+alone_small none m op h k one two =
+    let first : none.one ≡ 5 = h.one in
+    let second : none.two ≡ 5 = h.two in
+    elim (cases_Bool m.is_two) [
+      | inl is ↦ let size = measured_two m (op ∷ []) k is in omega (arith, size, two, second)
+      | inr not ↦ let size = measured_one m (op ∷ []) k not in omega (arith, size, one, first)
+    ]
+
+-- ---- parts
 
 -- operations in full parts, one that is not finished, and the operations that are left
-pub record AreParts (ops : List Op) (ds : List (List Op)) (part rest : List Op) (size : ℕ) : Type 0 where
+pub record AreParts (ops : List Op) (ds : List (List Op)) (part rest : List Op) (measure : Measure) : Type 0 where
   pub whole : all_of ds ++ (part ++ rest) ≡ ops
   pub parts : AllByRecursion IsPart ds
   pub full : AreFull (ds ++ part ∷ [])
   pub values : AreValues part
-  pub size_is : size ≡ 5 + octets part
-  pub small : size ≤ 8388608
+  pub measured : IsMeasure measure part
+  pub small : length (spelling part) ≤ 8388608
 
-pub no_part : (ops rest : List Op) → rest ≡ ops → AreParts ops [] [] rest 5
-unfolding octets
-no_part ops rest e = record { whole = e; parts = tt; full = tt; values = tt; size_is = refl; small = omega arith }
+pub no_part : (ops rest : List Op) (none : Measure) → rest ≡ ops → IsMeasure none [] → AreParts ops [] [] rest none
+no_part ops rest none e h = record { whole = e; parts = tt; full = tt; values = tt; measured = h; small = omega arith }
 
-pub next_made : (ops : List Op) (ds : List (List Op)) (part rest : List Op) (size : ℕ) (op : Op) (left : List Op) → IsDelta ops → AreParts ops ds part rest size → rest ≡ op ∷ left → IsTrue (is_well_made op)
-next_made ops ds part rest size op left d h e =
+pub next_made : (ops : List Op) (ds : List (List Op)) (part rest : List Op) (measure : Measure) (op : Op) (left : List Op) → IsDelta ops → AreParts ops ds part rest measure → rest ≡ op ∷ left → IsTrue (is_well_made op)
+next_made ops ds part rest measure op left d h e =
     let whole : AreWellMade (all_of ds ++ (part ++ rest)) = subst AreWellMade (sym h.whole) d.well_made in
     let behind = all_back (λ op. IsTrue (is_well_made op)) part rest (all_back (λ op. IsTrue (is_well_made op)) (all_of ds) (part ++ rest) whole) in
     (subst AreWellMade e behind).0
 
-pub part_delta : (ops : List Op) (ds : List (List Op)) (part rest : List Op) (size : ℕ) → IsDelta ops → AreParts ops ds part rest size → IsDelta part × IsWithinLimit part × AreValues part
-part_delta ops ds part rest size d h =
-    let len = spelled part in
-    let is = h.size_is in
-    let small = h.small in
-    (delta_between (all_of ds) part rest (subst IsDelta (sym h.whole) d), omega (arith, len, is, small), h.values)
+-- what a delta promises of its operations
+abbrev pub IsMade : List Op → Type 0
+IsMade part = IsDelta part × IsWithinLimit part × AreValues part
 
-some_part : (part : List Op) (size more : ℕ) → size ≡ 5 + octets part → more ≤ 150000 → 8388608 < size + more → part ≢ []
-unfolding octets
-some_part part size more is few full e = let none : octets part ≡ 0 = ap octets e in omega (arith, none, is)
+pub part_delta : (ops : List Op) (ds : List (List Op)) (part rest : List Op) (measure : Measure) → IsDelta ops → AreParts ops ds part rest measure → IsMade part
+part_delta ops ds part rest measure d h = (delta_between (all_of ds) part rest (subst IsDelta (sym h.whole) d), h.small, h.values)
 
-within : (part : List Op) (size : ℕ) → size ≡ 5 + octets part → size ≤ 8388608 → IsWithinLimit part
-within part size is small = let len = spelled part in omega (arith, len, is)
+some_part : (part : List Op) (op : Op) → length (spelling (op ∷ [])) ≤ 150005 → 8388608 < length (spelling (part ++ op ∷ [])) → part ≢ []
+some_part part op few full e =
+    let alone : 8388608 < length (spelling (op ∷ [])) = subst (λ (d : List Op). 8388608 < length (spelling (d ++ op ∷ []))) e full in
+    omega (arith, alone, few)
 
 -- the operation begins a part
-pub next_part : (ops : List Op) (ds : List (List Op)) (part rest : List Op) (size more : ℕ) (op : Op) (left : List Op) → AreParts ops ds part rest size → rest ≡ op ∷ left
-    → more ≡ length (op_octets op) → more ≤ 150000 → 8388608 < size + more → IsValue op → AreParts ops (ds ++ part ∷ []) (op ∷ []) left (5 + more)
-next_part ops ds part rest size more op left h e len few full value =
-    let is = h.size_is in
-    let sum = octets_more part op in
-    let spelled_more = spelled (part ++ op ∷ []) in
+pub next_part : (ops : List Op) (ds : List (List Op)) (part rest : List Op) (measure : Measure) (op : Op) (left : List Op) (alone : Measure) → AreParts ops ds part rest measure → rest ≡ op ∷ left
+    → 8388608 < length (spelling (part ++ op ∷ [])) → IsMeasure alone (op ∷ []) → length (spelling (op ∷ [])) ≤ 150005 → IsValue op → AreParts ops (ds ++ part ∷ []) (op ∷ []) left alone
+next_part ops ds part rest measure op left alone h e full measured few value =
     record {
       whole = ap (λ (xs : List Op). xs ++ (op ∷ left)) (all_of_more ds part) ∙ append_assoc (all_of ds) part (op ∷ left) ∙ ap (λ (xs : List Op). all_of ds ++ (part ++ xs)) (sym e) ∙ h.whole;
-      parts = all_more IsPart ds part h.parts (record { some = some_part part size more is few full; within = within part size is h.small });
-      full = full_more ds part (op ∷ []) h.full (omega (arith, spelled_more, sum, is, len));
+      parts = all_more IsPart ds part h.parts (record { some = some_part part op few full; within = h.small });
+      full = full_more ds part (op ∷ []) h.full full;
       values = (value, tt);
-      size_is = ap (λ (n : ℕ). 5 + n) (len ∙ sym (one_octets op));
-      small = omega arith;
+      measured = measured;
+      small = omega (arith, few);
     }
 
 -- the operation goes into the part
-pub longer_part : (ops : List Op) (ds : List (List Op)) (part rest : List Op) (size more : ℕ) (op : Op) (left : List Op) → AreParts ops ds part rest size → rest ≡ op ∷ left
-    → more ≡ length (op_octets op) → size + more ≤ 8388608 → IsValue op → AreParts ops ds (part ++ op ∷ []) left (size + more)
-longer_part ops ds part rest size more op left h e len fits value =
-    let is = h.size_is in
-    let sum = octets_more part op in
+pub longer_part : (ops : List Op) (ds : List (List Op)) (part rest : List Op) (measure : Measure) (op : Op) (left : List Op) (longer : Measure) → AreParts ops ds part rest measure → rest ≡ op ∷ left
+    → length (spelling (part ++ op ∷ [])) ≤ 8388608 → IsMeasure longer (part ++ op ∷ []) → IsValue op → AreParts ops ds (part ++ op ∷ []) left longer
+longer_part ops ds part rest measure op left longer h e fits measured value =
     record {
       whole = ap (λ (xs : List Op). all_of ds ++ xs) (append_assoc part (op ∷ []) left ∙ ap (λ (xs : List Op). part ++ xs) (sym e)) ∙ h.whole;
       parts = h.parts;
       full = full_longer ds part op h.full;
       values = all_more IsValue part op h.values value;
-      size_is = omega (arith, is, sum, len);
+      measured = measured;
       small = fits;
     }
 
 -- nothing is left
-pub last_part : (ops : List Op) (ds : List (List Op)) (part rest : List Op) (size : ℕ) → AreParts ops ds part rest size → rest ≡ [] → part ≢ [] → IsSplit ops (ds ++ part ∷ [])
-last_part ops ds part rest size h e some = record {
+pub last_part : (ops : List Op) (ds : List (List Op)) (part rest : List Op) (measure : Measure) → AreParts ops ds part rest measure → rest ≡ [] → part ≢ [] → IsSplit ops (ds ++ part ∷ [])
+last_part ops ds part rest measure h e some = record {
   whole = all_of_more ds part ∙ ap (λ (xs : List Op). all_of ds ++ xs) (sym (append-nil part) ∙ ap (λ (xs : List Op). part ++ xs) (sym e)) ∙ h.whole;
-  parts = all_more IsPart ds part h.parts (record { some = some; within = within part size h.size_is h.small });
+  parts = all_more IsPart ds part h.parts (record { some = some; within = h.small });
   full = h.full;
 }
 
-pub no_last_part : (ops : List Op) (ds : List (List Op)) (part rest : List Op) (size : ℕ) → AreParts ops ds part rest size → rest ≡ [] → part ≡ [] → IsSplit ops ds
-no_last_part ops ds part rest size h e none =
+pub no_last_part : (ops : List Op) (ds : List (List Op)) (part rest : List Op) (measure : Measure) → AreParts ops ds part rest measure → rest ≡ [] → part ≡ [] → IsSplit ops ds
+no_last_part ops ds part rest measure h e none =
     let nothing = no_parts ds (subst (λ (d : List Op). AreFull (ds ++ d ∷ [])) none h.full) in
     record {
       whole = sym (append-nil (all_of ds)) ∙ ap (λ (xs : List Op). all_of ds ++ xs) (λ i. sym none i ++ sym e i) ∙ h.whole;
@@ -174,8 +217,8 @@ no_last_part ops ds part rest size h e none =
     }
 
 -- the same under other names
-pub parts_are : (ops : List Op) (these ds : List (List Op)) (this part rest : List Op) (n size : ℕ) → these ≡ ds → this ≡ part → n ≡ size → AreParts ops ds part rest size → AreParts ops these this rest n
-parts_are ops these ds this part rest n size e f g h =
+pub parts_are : (ops : List Op) (these ds : List (List Op)) (this part rest : List Op) (n measure : Measure) → these ≡ ds → this ≡ part → n ≡ measure → AreParts ops ds part rest measure → AreParts ops these this rest n
+parts_are ops these ds this part rest n measure e f g h =
     subst (λ (x : List (List Op)). AreParts ops x this rest n) (sym e) (subst (λ (x : List Op). AreParts ops ds x rest n) (sym f) (subst (AreParts ops ds part rest) (sym g) h))
 
 pub no_items : (n : ℕ) (xs : List Op) → n ≡ 0 → n ≡ length xs → xs ≡ []

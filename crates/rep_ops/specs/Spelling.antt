@@ -1,18 +1,30 @@
--- The one spelling of a delta as octets, version 1. Numbers have the most significant octet first.
-use Rattle.std.specs.Prelude.{ℕ, ◌≤◌, List, ◌∷◌, ◌++◌, length}
-use Rattle.std.specs.List.{flat_map}
+-- The one spelling of a delta as octets. Numbers have the most significant octet first.
+use Rattle.std.specs.Prelude.{ℕ, ◌≤◌, if◌then◌else◌, List, ◌∷◌, ◌++◌, length}
+use Rattle.std.specs.List.{flat_map, list_any}
 use Rattle.byteorder.specs.Endian.{big_bytes}
 use Rattle.rep_ops.specs.declared.size.TheConstants.{MAX_OCTETS}
 use Rattle.rep_op.specs.declared.op.Op.{Op}
-use Rattle.rep_octets.specs.Spelling.{op_octets}
+use Rattle.rep_op.specs.declared.version.Version.{Version}
+use Rattle.rep_op.specs.declared.version.Version.TheVariants.{One, Two}
+use Rattle.rep_op.specs.Versions.{octet_of, needs_two}
+use Rattle.rep_op.specs.Spelling.{op_octets}
 
 -- a text of the format: the version, how many values there are, and the values
-abbrev pub text_of : {A : Type 0} → (A → List ℕ) → List A → List ℕ
-text_of octets values = (1 ∷ big_bytes 4 (length values)) ++ flat_map octets values
+abbrev pub text_of : {A : Type 0} → Version → (A → List ℕ) → List A → List ℕ
+text_of version octets values =
+    (octet_of version ∷ big_bytes 4 (length values)) ++ flat_map octets values
 
--- a delta is the text of its operations
+-- the text of operations in this version
+abbrev pub spelled_in : Version → List Op → List ℕ
+spelled_in version ops = text_of version (op_octets version) ops
+
+-- version 2 if one of the operations needs it, else version 1
+abbrev pub version_of : List Op → Version
+version_of ops = if list_any needs_two ops then Two else One
+
+-- a delta is the text of its operations, in the version that they need
 abbrev pub spelling : List Op → List ℕ
-spelling ops = text_of op_octets ops
+spelling ops = spelled_in (version_of ops) ops
 
 -- the most octets of a delta, 8 MiB
 abbrev pub max_octets : ℕ

@@ -2,22 +2,23 @@
 
 ghost use Rattle.std.specs.Prelude.{◌≡◌, ◌≢◌, ◌⊎◌, ◌<◌, ◌≤◌, ◌==◌, ℕ, List, [], Ok, Err, ◌++◌, length, IfOk, IfErr, OnOk, OnErr, ◌↔◌};
 ghost use Rattle.rep_ops.specs.Deltas.{IsDelta};
-ghost use Rattle.rep_op.specs.Orders.{HasTwice};
+ghost use Rattle.rep_op.specs.Orders.{HasTwice, AreOfClients, AreOfTopics};
 ghost use Rattle.rep_ops.specs.inner.Joining.{joined};
 ghost use Rattle.rep_ops.specs.Making.{AreWellMade, AreApart, IsDeltaOf, IsRefusal};
 ghost use Rattle.rep_ops.specs.Formats.{IsSpelled};
-ghost use Rattle.rep_octets.specs.Reading.{Gives};
-ghost use Rattle.rep_ops.specs.Reading.{reading, AreOctets};
+ghost use Rattle.rep_read.specs.Reading.{Gives};
+ghost use Rattle.rep_ops.specs.Reading.{reading, reading_one, AreOctets};
 ghost use Rattle.rep_op.specs.Sets.{Same};
 ghost use Rattle.rep_op.specs.Values.{AreValues};
-ghost use Rattle.rep_ops.specs.Spelling.{spelling, max_octets, IsWithinLimit};
+ghost use Rattle.rep_ops.specs.Spelling.{version_of, spelling, max_octets, IsWithinLimit};
 ghost use Rattle.rep_op.specs.declared.op.Op.{Op};
 
 use super::join::{has_twice, join_names, sort_by_name};
 use super::read::read_delta;
+use super::side::clients_in_front;
 use super::size::{are_well_made, is_within_limit};
 use super::write::write_delta;
-use rep_op::{Op, OpsFault};
+use rep_op::{Op, OpsFault, Version};
 use sn_session::octets::NoMemory;
 use std::alloc::Global;
 use std::marker::Model;
@@ -101,10 +102,11 @@ impl Delta {
     /// The delta that octets spell.
     ///
     /// `Limit` for more than 8,388,608 octets; else the first of these from the left: `Version` for
-    /// a version other than 1, `Truncated` where the octets end, `Kind` for a value out of range (a
-    /// length, count or tag as soon as it is read, any other value when it is whole), `Order` for
-    /// an operation that may not stand after the one before it, and last `Trailing` for octets
-    /// after the delta.
+    /// a version other than 1 and 2, `Truncated` where the octets end, `Kind` for a value out of
+    /// range (a length, count or tag as soon as it is read, any other value when it is whole),
+    /// `Order` for an operation that may not stand after the one before it, after the operations
+    /// `Version` for a version 2 that none of them needs, and last `Trailing` for octets after the
+    /// delta.
     pub fn decode(alloc: Global, bytes: &[u8]) -> Result<Delta, OpsFault>
         // What is read is spelled so.
         ensures ok { IfOk result (IsSpelled bytes.now) }
@@ -117,7 +119,27 @@ impl Delta {
         ensures limit { max_octets < length bytes.now → result ≡ Err OpsFault.Limit }
     {
         Ok(Delta {
-            ops: read_delta(alloc, bytes)?,
+            ops: read_delta(alloc, Version::Two, bytes)?,
+        })
+    }
+
+    /// The delta that octets spell in version 1, as a gateway reads them that knows no other.
+    ///
+    /// The faults are those of `decode`, and `Version` for every other version.
+    pub fn decode_one(alloc: Global, bytes: &[u8]) -> Result<Delta, OpsFault>
+        // What is read is spelled so, and needs no other version.
+        ensures ok { IfOk result (λ d. IsSpelled bytes.now d × (version_of d ≡ Version.One)) }
+        // What is spelled so, and needs no other version, is read, unless memory runs out.
+        ensures only { (d : List Op) → AreValues d → IsSpelled bytes.now d
+            → version_of d ≡ Version.One
+            → (result ≡ Ok d) ⊎ (result ≡ Err OpsFault.Memory) }
+        // Which fault it is.
+        ensures exact { Gives (λ d. d) result (reading_one bytes.now) }
+        // Too many octets are told whatever memory there is.
+        ensures limit { max_octets < length bytes.now → result ≡ Err OpsFault.Limit }
+    {
+        Ok(Delta {
+            ops: read_delta(alloc, Version::One, bytes)?,
         })
     }
 
@@ -129,6 +151,17 @@ impl Delta {
         ensures values { AreValues self.now }
     {
         self.ops.as_slice()
+    }
+
+    /// The operations of clients, and those of topics, which stand after them.
+    pub fn parts(&self) -> (&[Op], &[Op])
+        ensures parts { self.now ≡ result.0.now ++ result.1.now }
+        ensures clients { AreOfClients result.0.now }
+        ensures topics { AreOfTopics result.1.now }
+        ensures made { AreWellMade self.now }
+    {
+        let ops = self.ops();
+        ops.split_at(clients_in_front(ops))
     }
 
     /// Whether there is no operation.
@@ -201,6 +234,17 @@ pub fn one_reading()
     // What is read off octets is spelled so.
     ensures spelled { (bytes : List ℕ) (d : List Op) → AreOctets bytes → reading bytes ≡ Ok d
         → IsSpelled bytes d × AreValues d }
+{}
+
+/// What reads version 1 alone reads the deltas that need no other version.
+pub fn one_older_reading()
+    // A delta that needs no other version is read off its spelling.
+    ensures again { (d : List Op) → IsDelta d → AreValues d → IsWithinLimit d
+        → version_of d ≡ Version.One
+        → reading_one (spelling d) ≡ Ok d }
+    // What is read off octets is spelled so, and needs no other version.
+    ensures spelled { (bytes : List ℕ) (d : List Op) → AreOctets bytes → reading_one bytes ≡ Ok d
+        → IsSpelled bytes d × AreValues d × (version_of d ≡ Version.One) }
 {}
 
 /// No spelling begins another.

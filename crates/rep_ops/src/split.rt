@@ -7,14 +7,12 @@ ghost use Rattle.rep_ops.specs.Splitting.{IsSplit, AreDeltasOf};
 
 use super::delta::Delta;
 use super::join::{join_names, sort_stably};
-use super::size::{MAX_OCTETS, op_size};
+use super::measure::Measure;
+use super::size::MAX_OCTETS;
 use rep_op::{Op, is_value};
 use sn_session::octets::NoMemory;
 use std::alloc::Global;
 use std::mem;
-
-/// The octets of a delta without operations.
-const NO_OCTETS: usize = 5;
 
 /// The deltas that together are the set of these operations, in the order of their names: of one
 /// name the first counts, and ranges of acknowledgements that overlap or touch are one. A new delta
@@ -47,17 +45,18 @@ fn split(alloc: Global, ops: Vec<Op>) -> Result<Vec<Delta>, NoMemory>
 {
     let mut deltas = Vec::new(alloc);
     let mut part = Vec::new(alloc);
-    let mut size = NO_OCTETS;
+    let mut measure = Measure::of_none();
     for op in ops {
         is_value(&op);
-        let more = op_size(&op);
-        if size + more > MAX_OCTETS {
+        let mut longer = measure.with_op(&op);
+        let size = longer.octets();
+        if size > MAX_OCTETS {
             let full = mem::replace(&mut part, Vec::new(alloc));
             deltas.push(Delta { ops: full })?;
-            size = NO_OCTETS;
+            longer = Measure::of_one(&op);
         }
         part.push(op)?;
-        size += more;
+        measure = longer;
     }
     if !part.is_empty() {
         deltas.push(Delta { ops: part })?;

@@ -27,7 +27,8 @@ use Rattle.rep_model.specs.declared.view.ClientView.{ClientView}
 use Rattle.rep_plain.proofs.Found.{find_rows}
 use Rattle.rep_shared.proofs.Single.{pending_own, parked_own, exceptions_own}
 use Rattle.rep_shared.proofs.Flat.{of_flat, find_in_moved, rows_moved, count_clients, named_flat}
-use Rattle.rep_shared.proofs.Counting.{all_found, count_moved}
+use Rattle.rep_shared.proofs.Counting.{all_found, count_moved, passed_of_clients}
+use Rattle.rep_shared.proofs.Kept.{rows_of_clients}
 
 -- ---- limits of single clients
 
@@ -145,7 +146,7 @@ module _ (es fs : List (List ℕ × Entry)) (are : AreRows (rows_of es)) (each :
       let except = passed_one 16384 exceptions too_many_exceptions exceptions_own (λ c. no_exceptions c)
       (λ c e i. sym (above_capped (exceptions c e.ops.items)) ∙ not_above 16384 (capped (exceptions c e.ops.items)) (subst (λ n. n ≤ 16384) i.worked_out.exceptions i.exceptions))
       (λ f w. sym (above_capped (exceptions f.0 f.1.ops.items)) ∙ ap (nat_lt 16384) (sym w.exceptions)) in
-      ap (λ n. passed_of n (list_any too_many_pending fs) (list_any too_many_parked fs) (list_any too_many_exceptions fs)) all ∙ sym (λ i. passed_of (length (clients (flat after))) (pend i) (park i) (except i))
+      ap (λ n. passed_of n (list_any too_many_pending fs) (list_any too_many_parked fs) (list_any too_many_exceptions fs)) all ∙ sym (λ i. passed_of (length (clients (flat after))) (pend i) (park i) (except i)) ∙ passed_of_clients (flat after) (rows_of_clients after are_after.owned)
     where
       not_above : (limit n : ℕ) → n ≤ limit → nat_lt limit n ≡ false
       not_above limit n h = grind (arith, nat_tests)

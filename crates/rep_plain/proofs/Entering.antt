@@ -6,7 +6,7 @@ use Rattle.std.specs.BTreeMap.{insert_entry}
 use Rattle.std.specs.FinMap.{put as place}
 use Rattle.rep_op.specs.declared.op.Put.{Put}
 use Rattle.rep_op.specs.declared.op.Op.{Op}
-use Rattle.rep_op.specs.declared.op.Op.TheVariants.{Session as OfSession, Put as OfPut, Ack}
+use Rattle.rep_op.specs.declared.op.Op.TheVariants.{Session as OfSession, Put as OfPut, Ack, Retain as OfRetain}
 use Rattle.rep_op.specs.Orders.{put_cmp}
 use Rattle.rep_op.specs.Sets.{same_client, puts, is_acknowledged}
 use Rattle.rep_model.specs.Views.{in_order, pending}
@@ -34,6 +34,7 @@ covers_acknowledged c (Ack d origin first last ∷ S) name =
       | true ↦ ap (λ rest. ((name.1 == origin) && nat_le first name.0 && nat_le name.0 last) || rest) (covers_acknowledged c S name)
       | false ↦ covers_acknowledged c S name
     ]
+covers_acknowledged c (OfRetain t k ∷ S) name = covers_acknowledged c S name
 
 -- what no range covers waits
 pub waiting_is_pending : (c : List ℕ) (S : List Op) (ranges : List Range) → ranges ≡ filter_map (range_in c) S → map (λ e. e.1) (in_order put_cmp (unacknowledged_by ranges c S)) ≡ pending c S
@@ -51,3 +52,4 @@ numbers_acknowledged c (Ack d o first last ∷ S) origin =
       | true ↦ ap (λ rest. cons_option (if (origin == o) && nat_le first last then Some (first, last) else None) rest) (numbers_acknowledged c S origin)
       | false ↦ numbers_acknowledged c S origin
     ]
+numbers_acknowledged c (OfRetain t k ∷ S) origin = numbers_acknowledged c S origin

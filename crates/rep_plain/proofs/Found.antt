@@ -6,7 +6,7 @@ use Rattle.std.specs.Map.{lookup}
 use Rattle.std.specs.BTreeMap.{is_at}
 use Rattle.std.specs.FinMap.{find}
 use Rattle.rep_op.specs.declared.op.Op.{Op}
-use Rattle.rep_op.specs.declared.op.Op.TheVariants.{Session as OfSession, Put as OfPut, Ack}
+use Rattle.rep_op.specs.declared.op.Op.TheVariants.{Session as OfSession, Put as OfPut, Ack, Retain as OfRetain}
 use Rattle.rep_op.specs.Orders.{client_cmp, client_of}
 use Rattle.rep_op.specs.Sets.{same_client}
 use Rattle.rep_plain.specs.declared.entry.Entry.{Entry}
@@ -44,6 +44,7 @@ module _ (c : List ℕ) (S : List Op) where
   other_has_range origin first last (OfSession d stamp counter change) e = refl
   other_has_range origin first last (OfPut d put) e = refl
   other_has_range origin first last (Ack d o start end) e = ap (λ b. b && (origin == o) && nat_le start first && nat_le last end) e
+  other_has_range origin first last (OfRetain t k) e = refl
 
   pub has_range_own : (origin first last : ℕ) → list_any (has_range c origin first last) S ≡ list_any (has_range c origin first last) (of_client c S)
   has_range_own origin first last = tests_own c (has_range c origin first last) (other_has_range origin first last) S
@@ -53,3 +54,4 @@ module _ (rows : List (List ℕ × List Op)) (are : AreRows rows) where
   known_row (OfSession c stamp counter change) = ap is_some (sym (operation_row rows are c (stamp, counter)))
   known_row (OfPut c p) = ap is_some (sym (put_row rows are c (p.seq, p.origin)))
   known_row (Ack c origin low high) = sym (has_range_own c (flat rows) origin low high ∙ ap (λ S. list_any (has_range c origin low high) S) (of_flat c rows are))
+  known_row (OfRetain t k) = refl

@@ -5,11 +5,11 @@ use Rattle.std.specs.FinMap.{find, is_sorted}
 use Rattle.std.proofs.lemmas.Option.{same_Some}
 use Rattle.std.proofs.lemmas.Bool.Decides.{nat_tests}
 use Rattle.rep_op.specs.declared.op.Op.{Op}
-use Rattle.rep_op.specs.declared.op.Op.TheVariants.{Session as OfSession, Put as OfPut, Ack}
-use Rattle.rep_op.specs.Orders.{client_cmp, client_of}
+use Rattle.rep_op.specs.declared.op.Op.TheVariants.{Session as OfSession, Put as OfPut, Ack, Retain as OfRetain}
+use Rattle.rep_op.specs.Orders.{client_cmp, client_of, is_of_client, AreOfClients}
 use Rattle.rep_op.specs.Sets.{same_client, Same}
 use Rattle.rep_op.specs.WellMade.{is_well_made}
-use Rattle.rep_ops.specs.Deltas.{IsDelta}
+use Rattle.rep_ops.specs.Making.{AreWellMade}
 use Rattle.rep_model.specs.declared.fault.Limit.TheVariants.{Clients, Pending, Parked, Exceptions}
 use Rattle.rep_model.specs.Views.{named}
 use Rattle.rep_model.specs.Limits.{first_passed}
@@ -42,11 +42,16 @@ and_last false b h = absurd (true≢false (sym h))
 named_forward : (c : List ℕ) (origin low high : ℕ) → IsTrue (is_well_made (Ack c origin low high)) → named (Ack c origin low high) ≡ Some (c, c)
 named_forward c origin low high h = ap (λ b. if◌then◌else◌ {A = Option (List ℕ × List ℕ)} b (Some (c, c)) None) (and_last (nat_le 1 origin && nat_le 1 low) (nat_le low high) h)
 
-well_named : (op : Op) → IsTrue (is_well_made op) → IsNamed op
+well_named : (op : Op) → is_of_client op ≡ true → IsTrue (is_well_made op) → IsNamed op
 unfolding IsNamed
-well_named (OfSession c stamp counter change) h = (refl, h)
-well_named (OfPut c p) h = (refl, h)
-well_named (Ack c origin low high) h = (named_forward c origin low high h, h)
+well_named (OfSession c stamp counter change) e h = (refl, h)
+well_named (OfPut c p) e h = (refl, h)
+well_named (Ack c origin low high) e h = (named_forward c origin low high h, h)
+well_named (OfRetain t k) e h = absurd (true≢false (sym e))
+
+all_well_named : (D : List Op) → AreOfClients D → AreWellMade D → AllByRecursion IsNamed D
+all_well_named [] e h = tt
+all_well_named (op ∷ D) e h = (well_named op e.0 h.0, all_well_named D e.1 h.1)
 
 own_of : (c : List ℕ) (N : List Op) → AllByRecursion IsNamed N → IsOwn c (of_client c N)
 unfolding IsNamed
@@ -78,7 +83,7 @@ grown_some rows N c ops are each is =
 
 -- ---- the fresh entries
 
-module _ (es : List (List ℕ × Entry)) (n : ℕ) (t : IsTable es n) (D : List Op) (delta : IsDelta D) (N : List Op)
+module _ (es : List (List ℕ × Entry)) (n : ℕ) (t : IsTable es n) (D : List Op) (made : AreWellMade D) (clients : AreOfClients D) (N : List Op)
     (news : N ≡ filter (λ op. not (is_known (flat (rows_of es)) op)) D) (fs : List (List ℕ × Entry))
     (g : IsGrown (rows_of es) N (rows_of fs)) (sorted : T (is_sorted client_cmp (rows_of fs)))
     (worked : AllByRecursion (λ f. IsWorkedOut f.0 f.1) fs) where
@@ -86,7 +91,7 @@ module _ (es : List (List ℕ × Entry)) (n : ℕ) (t : IsTable es n) (D : List 
   are = table_rows es n t
 
   all_named : AllByRecursion IsNamed N
-  all_named = subst (AllByRecursion IsNamed) (sym news) (all_filter IsNamed (λ op. not (is_known (flat (rows_of es)) op)) D (all-weaker (λ op. IsTrue (is_well_made op)) IsNamed well_named D delta.well_made))
+  all_named = subst (AllByRecursion IsNamed) (sym news) (all_filter IsNamed (λ op. not (is_known (flat (rows_of es)) op)) D (all_well_named D clients made))
 
   each_row : AllByRecursion (λ row. IsOwn row.0 row.1 × (has_any row.1 ≡ true)) (rows_of fs)
   each_row = all-weaker (λ row. find client_cmp row.0 (rows_of fs) ≡ Some row.1) (λ row. IsOwn row.0 row.1 × (has_any row.1 ≡ true))

@@ -8,19 +8,21 @@ use Rattle.std.proofs.lemmas.List.Elements.{filter-append}
 use Rattle.sn_session.specs.declared.change.SessionOp.{SessionOp}
 use Rattle.rep_op.specs.declared.op.Stamp.{Stamp}
 use Rattle.rep_op.specs.declared.op.Put.{Put}
+use Rattle.rep_op.specs.declared.op.Retained.{Retained}
 use Rattle.rep_op.specs.declared.op.Op.{Op}
-use Rattle.rep_op.specs.declared.op.Op.TheVariants.{Session as OfSession, Put as OfPut, Ack}
-use Rattle.rep_op.specs.Orders.{client_cmp, client_of, operation_cmp, put_cmp}
-use Rattle.rep_op.specs.Sets.{same_client, operation_of, operation_at, put_of, put_at, acknowledges, is_acknowledged, Same}
+use Rattle.rep_op.specs.declared.op.Op.TheVariants.{Session as OfSession, Put as OfPut, Ack, Retain as OfRetain}
+use Rattle.rep_op.specs.Orders.{client_cmp, client_of, operation_cmp, put_cmp, clock_of, clock_cmp}
+use Rattle.rep_op.specs.Sets.{same_client, operation_of, operation_at, put_of, put_at, acknowledges, is_acknowledged, same_topic, retain_of, retain_at, Same}
 use Rattle.rep_model.specs.Views.{visible}
-use Rattle.rep_model.specs.Keep.{is_below, IsKeptOf}
+use Rattle.rep_model.specs.Topics.{latest}
+use Rattle.rep_model.specs.Keep.{is_below, is_outdone, IsKeptOf}
 use Rattle.rep_model.proofs.Lookup.{or_else, filter_map-filter, list_any-filter, list_any-weaker}
-use Rattle.rep_model.proofs.Readers.{operation_exact, put_exact, same_client-true, operation_at_both, put_at_both, is_acknowledged_both, operation_at_keep, put_at_keep, is_acknowledged_keep}
+use Rattle.rep_model.proofs.Readers.{operation_exact, put_exact, same_client-true, operation_at_both, put_at_both, is_acknowledged_both, retain_at_both, operation_at_keep, put_at_keep, is_acknowledged_keep, retain_at_keep}
 use Rattle.rep_shared.specs.Rows.{flat, own, or_nothing, moved, has_any, IsOwn}
 use Rattle.rep_shared.specs.inner.Rows.{AreRows, of_client}
 use Rattle.rep_plain.specs.inner.Rows.{IsGrown}
 use Rattle.rep_plain.specs.inner.Tables.{has_range, is_known}
-use Rattle.rep_shared.proofs.Single.{operation_at_own, put_at_own, is_acknowledged_own}
+use Rattle.rep_shared.proofs.Single.{operation_at_own, put_at_own, is_acknowledged_own, retain_at_own}
 use Rattle.rep_shared.proofs.Flat.{of_flat, find_in_moved, rows_moved}
 
 -- ---- what is kept of a set
@@ -39,11 +41,13 @@ kept_same A S same = record {
     operations_in = λ c name change e. same.operations_same c name ∙ some_kept (not (is_below name.0 (visible c S))) (operation_at c S name) change (sym (operation_at_keep c S name) ∙ e);
     puts_in = λ c name put e. same.puts_same c name ∙ some_kept (not (is_acknowledged c S name)) (put_at c S name) put (sym (put_at_keep c S name) ∙ e);
     acknowledgements_in = λ c name e. same.acknowledgements_same c name ∙ sym (is_acknowledged_keep c S name) ∙ e;
+    retains_in = λ t name kept e. same.retains_same t name ∙ some_kept (not (is_outdone name (latest t S))) (retain_at t S name) kept (sym (retain_at_keep t S name) ∙ e);
   };
   upper = record {
     operations_in = λ c name change e. sym (same.operations_same c name) ∙ e;
     puts_in = λ c name put e. sym (same.puts_same c name) ∙ e;
     acknowledgements_in = λ c name e. sym (same.acknowledgements_same c name) ∙ e;
+    retains_in = λ t name kept e. sym (same.retains_same t name) ∙ e;
   };
 }
 
@@ -53,6 +57,7 @@ same_by_client A B h = record {
   operations_same = λ c name. operation_at_own c A name ∙ ap (λ S. operation_at c S name) (h c) ∙ sym (operation_at_own c B name);
   puts_same = λ c name. put_at_own c A name ∙ ap (λ S. put_at c S name) (h c) ∙ sym (put_at_own c B name);
   acknowledgements_same = λ c name. is_acknowledged_own c A name ∙ ap (λ S. is_acknowledged c S name) (h c) ∙ sym (is_acknowledged_own c B name);
+  retains_same = λ t name. retain_at_own A t name ∙ ap (λ S. retain_at t S name) (h []) ∙ sym (retain_at_own B t name);
 }
 
 -- ---- what is known is not needed
@@ -80,6 +85,7 @@ module _ (K D : List Op) where
       ] refl
   new_operation c (OfPut d p) = tt
   new_operation c (Ack d origin low high) = tt
+  new_operation c (OfRetain t k) = tt
 
   new_put : (c : List ℕ) (op : Op) → IfSome (put_of c op) (λ e. not (is_known K op) ≡ not (is_some (put_at c K e.0)))
   new_put c (OfSession d stamp counter change) = tt
@@ -89,15 +95,28 @@ module _ (K D : List Op) where
         | false ↦ λ _. tt
       ] refl
   new_put c (Ack d origin low high) = tt
+  new_put c (OfRetain t k) = tt
+
+  -- what is retained is new, whatever is known
+  new_retain : (t : List ℕ) (op : Op) → IfSome (retain_of t op) (λ e. not (is_known K op) ≡ true)
+  new_retain t (OfSession d stamp counter change) = tt
+  new_retain t (OfPut d p) = tt
+  new_retain t (Ack d origin low high) = tt
+  new_retain t (OfRetain u k) = elim (same_topic t u) as (λ b. IfSome {T = (ℕ × ℕ) × Retained} (if b then Some (clock_of k, k) else None) (λ e. true ≡ true)) [ true ↦ refl | false ↦ tt ]
 
   found_first : {X : Type 0} (a x y : Option X) → x ≡ cond (not (is_some a)) y None → or_else a x ≡ or_else a y
   found_first None x y e = e
   found_first (Some v) x y e = refl
 
+  all_stay : {A : Type 0} (xs : List A) → filter (λ x. true) xs ≡ xs
+  all_stay [] = refl
+  all_stay (x ∷ xs) = ap (λ rest. x ∷ rest) (all_stay xs)
+
   -- a range in the set acknowledges what a range within it does
   wider : (c d : List ℕ) (name : ℕ × ℕ) (origin low high : ℕ) → acknowledges c name (Ack d origin low high) ≡ true → (op : Op) → has_range d origin low high op ≡ true → acknowledges c name op ≡ true
   wider c d name origin low high e (OfSession x stamp counter change) h = absurd (true≢false (sym h))
   wider c d name origin low high e (OfPut x p) h = absurd (true≢false (sym h))
+  wider c d name origin low high e (OfRetain t k) h = absurd (true≢false (sym h))
   wider c d name origin low high e (Ack x o start end) h =
       let c-d : same_client c d ≡ true = and_first _ _ (and_first _ _ (and_first _ _ e)) in
       let d-x : same_client d x ≡ true = and_first _ _ (and_first _ _ (and_first _ _ h)) in
@@ -116,6 +135,7 @@ module _ (K D : List Op) where
   known_acknowledged : (c : List ℕ) (name : ℕ × ℕ) → is_acknowledged c K name ≡ false → (op : Op) → acknowledges c name op ≡ true → not (is_known K op) ≡ true
   known_acknowledged c name none (OfSession d stamp counter change) e = absurd (true≢false (sym e))
   known_acknowledged c name none (OfPut d p) e = absurd (true≢false (sym e))
+  known_acknowledged c name none (OfRetain t k) e = absurd (true≢false (sym e))
   known_acknowledged c name none (Ack d origin low high) e =
       elim (list_any (has_range d origin low high) K) as (λ b. list_any (has_range d origin low high) K ≡ b → not b ≡ true) [
         | true ↦ λ h. absurd (true≢false (sym (list_any-weaker (has_range d origin low high) (acknowledges c name) (wider c d name origin low high e) K h) ∙ none))
@@ -143,6 +163,11 @@ module _ (K D : List Op) where
           | false ↦ λ none. list_any-filter (acknowledges c name) (λ op. not (is_known K op)) (known_acknowledged c name none) D
         ] refl
         ∙ sym (is_acknowledged_both c K D name);
+    retains_same = λ t name.
+        retain_at_both t K (filter (λ op. not (is_known K op)) D) name
+        ∙ ap (λ (es : List ((ℕ × ℕ) × Retained)). or_else (retain_at t K name) (find clock_cmp name es))
+        (filter_map-filter (retain_of t) (λ op. not (is_known K op)) (λ n. true) (new_retain t) D ∙ all_stay (filter_map (retain_of t) D))
+        ∙ sym (retain_at_both t K D name);
   }
 
 -- ---- what is grown of each client

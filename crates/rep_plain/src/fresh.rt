@@ -1,12 +1,12 @@
 //! Fresh entries for the clients that a delta names.
 
-ghost use Rattle.std.specs.Prelude.{◌≡◌, ◌++◌, ◌∷◌, [], List, T, IfOk, OnOk, ℕ, false};
+ghost use Rattle.std.specs.Prelude.{◌≡◌, ◌++◌, ◌∷◌, [], List, T, IfOk, OnOk, ℕ, false, true};
 ghost use Rattle.std.specs.Option.{unwrap_or};
 ghost use Rattle.std.specs.Ordering.{is_eq};
 ghost use Rattle.std.specs.List.{AllByRecursion};
 ghost use Rattle.std.specs.FinMap.{find, is_sorted};
 ghost use Rattle.rep_op.specs.declared.op.Op.{Op};
-ghost use Rattle.rep_op.specs.Orders.{client_cmp};
+ghost use Rattle.rep_op.specs.Orders.{client_cmp, is_of_client, AreOfClients};
 ghost use Rattle.rep_plain.specs.Entries.{IsWorkedOut};
 ghost use Rattle.rep_shared.specs.Rows.{own};
 ghost use Rattle.rep_plain.specs.inner.Rows.{IsGrown};
@@ -27,6 +27,7 @@ pub(crate) fn grown(
     table: &Table,
     news: Vec<Op>,
 ) -> Result<BTreeMap<ClientId, Vec<Op>>, NoMemory>
+    requires { AreOfClients news.items }
     ensures { IfOk result (λ groups. IsGrown (rows_of table.now.entries) news.items
         (groups_of groups.entries)) }
 {
@@ -44,6 +45,7 @@ fn add_to_group(
     groups: &mut BTreeMap<ClientId, Vec<Op>>,
     op: Op,
 ) -> Result<(), NoMemory>
+    requires { is_of_client op ≡ true }
     ensures { (D : List Op)
         → IsGrown (rows_of table.now.entries) D (groups_of groups.old.entries)
         → OnOk result (IsGrown (rows_of table.now.entries) (D ++ op ∷ [])

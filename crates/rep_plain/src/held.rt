@@ -1,12 +1,9 @@
-//! What must be kept of all clients, as deltas.
+//! What must be kept of all clients.
 
 ghost use Rattle.std.specs.Prelude.{◌≡◌, ◌++◌, filter, IfOk, OnOk};
-ghost use Rattle.rep_model.specs.Held.{IsHeld};
 ghost use Rattle.rep_model.specs.Keep.{keep};
 ghost use Rattle.rep_model.specs.Keep as keeps;
-ghost use Rattle.rep_shared.specs.Rows.{flat};
 ghost use Rattle.rep_plain.specs.inner.Rows.{kept_rows};
-ghost use Rattle.rep_shared.specs.inner.Rows.{AreRows};
 ghost use Rattle.rep_plain.specs.inner.Steps as spec;
 ghost use Rattle.rep_plain.specs.Tables.{rows_of, IsEntry, AreEntries};
 
@@ -15,21 +12,11 @@ use super::news::push_copy;
 use super::ranges::{Range, is_covered, ranges_of};
 use super::table::Table;
 use octets::NoMemory;
-use rep_ops::{ClientId, Delta, Op, Stamp, deltas_of};
+use rep_ops::{ClientId, Op, Stamp};
 use std::alloc::Global;
 
-/// The operations that must be kept, as deltas.
-pub(crate) fn held(alloc: Global, table: &Table) -> Result<Vec<Delta>, NoMemory>
-    requires entries { AreEntries table.now.entries }
-    requires rows { AreRows (rows_of table.now.entries) }
-    ensures { IfOk result (λ deltas. IsHeld (flat (rows_of table.now.entries)) deltas.items) }
-{
-    let kept = kept_ops(alloc, table)?;
-    Ok(deltas_of(alloc, kept)?)
-}
-
 /// The operations that must be kept, client by client.
-fn kept_ops(alloc: Global, table: &Table) -> Result<Vec<Op>, NoMemory>
+pub(crate) fn kept_ops(alloc: Global, table: &Table) -> Result<Vec<Op>, NoMemory>
     requires { AreEntries table.now.entries }
     ensures { IfOk result (λ kept. kept.items ≡ kept_rows (rows_of table.now.entries)) }
 {
@@ -81,7 +68,7 @@ fn must_stay(op: &Op, visible: Option<Stamp>, ranges: &[Range]) -> bool
     match op {
         Op::Session { stamp, .. } => !is_below(*stamp, visible),
         Op::Put { put, .. } => !is_covered(ranges, put.seq, put.origin),
-        Op::Ack { .. } => true,
+        Op::Ack { .. } | Op::Retain { .. } => true,
     }
 }
 

@@ -1,15 +1,15 @@
 //! The plain replica of a set of operations (`Plain`).
 //!
-//! It keeps every operation that it has taken, client by client, and beside them the view that they
-//! give. A delta is taken in two steps: `prepare` finds out what of it is new, works out fresh
-//! entries for the clients of the new operations, and makes places for clients that had none;
-//! `commit` moves the entries into their places, for which no memory is needed. A delta that brings
-//! nothing new costs nothing but the look-ups.
+//! It keeps every operation of a client that it has taken, client by client, and beside them the
+//! view that they give; of topics what was retained last (`rep_whole`). Operations are taken in two
+//! steps: `prepare` finds out what of it is new, works out fresh entries for the clients of the new
+//! operations, and makes places for clients that had none; `commit` moves the entries into their
+//! places, for which no memory is needed. What brings nothing new costs nothing but the look-ups.
 //!
-//! - `plain`: the replica and what it promises (`Plain`, `Staged`).
+//! - `plain`: the replica of clients, and what it promises (`PlainClients`, `Staged`).
 //! - `table`, `room`: the table of clients, the limits, and the move of fresh entries.
-//! - `news`, `fresh`: what of a delta is new, and the entries that it makes.
-//! - `held`: what must be kept, as deltas.
+//! - `news`, `fresh`: what is new, and the entries that it makes.
+//! - `held`: what must be kept.
 //! - `entry`: a client's operations and what they come to.
 //! - `reading`, `replay`, `waiting`, `ranges`: visible stamp, prefix and session, messages that
 //!   wait, acknowledgements.
@@ -31,5 +31,9 @@ mod room;
 mod table;
 mod waiting;
 
-pub use plain::{Plain, Staged};
+pub use plain::{PlainClients, Staged};
 pub use rep_model::{ClientView, Limit, Puts, Replica, TakeFault};
+pub use rep_whole::Whole;
+
+/// The plain replica: the plain one of clients, and a table of topics.
+pub type Plain = Whole<PlainClients>;

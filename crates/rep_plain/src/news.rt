@@ -1,7 +1,8 @@
 //! What of a delta is new.
 
-ghost use Rattle.std.specs.Prelude.{◌≡◌, ◌⊎◌, ◌++◌, ◌∷◌, [], not, filter, List, IfOk, OnOk, IfErr};
+ghost use Rattle.std.specs.Prelude.{◌≡◌, ◌⊎◌, ◌++◌, ◌∷◌, [], true, not, filter, List, IfOk, OnOk, IfErr};
 ghost use Rattle.std.specs.List.{list_any};
+ghost use Rattle.rep_op.specs.Orders.{is_of_client, AreOfClients, subject_of};
 ghost use Rattle.rep_op.specs.Sets.{Agrees};
 ghost use Rattle.rep_model.specs.Taking.{AllAgree, IsFaultOf};
 ghost use Rattle.rep_shared.specs.Rows.{flat};
@@ -20,7 +21,8 @@ use std::alloc::Global;
 
 /// The operations of a delta that are not there yet, if none contradicts what is there.
 pub(crate) fn news(alloc: Global, table: &Table, delta: &[Op]) -> Result<Vec<Op>, TakeFault>
-    requires { AreRows (rows_of table.now.entries) }
+    requires rows { AreRows (rows_of table.now.entries) }
+    requires clients { AreOfClients delta.now }
     ensures agree { OnOk result (AllAgree (flat (rows_of table.now.entries)) delta.now) }
     ensures news { IfOk result (λ news. news.items
         ≡ filter (λ op. not (spec.is_known (flat (rows_of table.now.entries)) op)) delta.now) }
@@ -35,7 +37,8 @@ pub(crate) fn news(alloc: Global, table: &Table, delta: &[Op]) -> Result<Vec<Op>
 
 /// Puts an operation after the others, if it is not there yet and contradicts nothing.
 fn add_new(alloc: Global, table: &Table, news: &mut Vec<Op>, op: &Op) -> Result<(), TakeFault>
-    requires { AreRows (rows_of table.now.entries) }
+    requires rows { AreRows (rows_of table.now.entries) }
+    requires client { is_of_client op.now ≡ true }
     ensures agrees { OnOk result (Agrees (flat (rows_of table.now.entries)) op.now) }
     ensures added { OnOk result (news.new.items ≡ news.old.items ++ one_new
         (flat (rows_of table.now.entries)) op.now) }
@@ -43,7 +46,7 @@ fn add_new(alloc: Global, table: &Table, news: &mut Vec<Op>, op: &Op) -> Result<
 {
     let kept = own_ops(table, op.client());
     if !agrees(kept, op) {
-        return Err(conflict(alloc, op.client()));
+        return Err(conflict(alloc, op));
     }
     if !is_known(kept, op) {
         push_copy(alloc, news, op)?;
@@ -51,12 +54,12 @@ fn add_new(alloc: Global, table: &Table, news: &mut Vec<Op>, op: &Op) -> Result<
     Ok(())
 }
 
-/// The refusal of a delta that contradicts an operation of the client.
-fn conflict(alloc: Global, client: &ClientId) -> TakeFault
-    ensures { (result ≡ TakeFault.Conflict client.now) ⊎ (result ≡ TakeFault.Memory) }
+/// The refusal of a delta with an operation that contradicts another.
+fn conflict(alloc: Global, op: &Op) -> TakeFault
+    ensures { (result ≡ TakeFault.Conflict (subject_of op.now)) ⊎ (result ≡ TakeFault.Memory) }
 {
-    match client.copied(alloc) {
-        Ok(client) => TakeFault::Conflict { client },
+    match op.subject(alloc) {
+        Ok(of) => TakeFault::Conflict { of },
         Err(_) => TakeFault::Memory,
     }
 }
@@ -79,6 +82,7 @@ fn is_known(ops: &[Op], op: &Op) -> bool
             first,
             last,
         } => any_has_range(ops, client, *origin, (*first, *last)),
+        Op::Retain { .. } => false,
     }
 }
 

@@ -1,31 +1,33 @@
-//! The plain replica.
+//! The plain replica of the operations of clients.
 
 ghost use Rattle.std.specs.Prelude.{◌≡◌};
 
 use super::entry::Entry;
 use super::fresh::{grown, worked_out};
-use super::held::held;
+use super::held::kept_ops;
 use super::news::news;
 use super::reading::{greatest_epoch, greatest_seq};
 use super::room::{make_room, move_in};
 use super::table::{Table, count_new, named_at, named_clients, own_ops, passed};
-use rep_model::{ClientView, Replica, TakeFault};
-use rep_ops::{ClientId, Delta};
+use octets::NoMemory;
+use rep_model::{ClientView, TakeFault};
+use rep_ops::{ClientId, Op};
+use rep_shared::ClientSet;
 use sn_topic::TopicName;
 use std::alloc::Global;
 use std::collections::BTreeMap;
 use std::marker::Model;
 
-/// The plain replica: a table of clients, each with its operations and the view that they give.
+/// A table of clients, each with its operations and the view that they give.
 #[derive(Debug, Drop)]
-pub struct Plain {
+pub struct PlainClients {
     /// The clients. A place without operations is seen by no query.
     table: Table,
     /// How many clients have operations.
     named: usize,
 }
 
-impl Model for Plain {
+impl Model for PlainClients {
     ghost use Rattle.std.specs.Prelude.{List, ℕ};
     ghost use Rattle.rep_op.specs.declared.op.Op.{Op};
 
@@ -38,7 +40,7 @@ impl Model for Plain {
     ghost invariant = { λ p. IsTable p.table.entries p.named };
 }
 
-/// A delta that fits: the entries of the clients that it names, with its operations.
+/// Operations that fit: the entries of the clients that they name, with them.
 #[derive(Debug, Drop)]
 pub struct Staged {
     /// The entries, in the order of the clients.
@@ -61,7 +63,7 @@ impl Model for Staged {
     ghost invariant = { λ s. AreEntries s.fresh.items × (s.named ≤ MOST_CLIENTS) };
 }
 
-impl Replica for Plain {
+impl ClientSet for PlainClients {
     ghost use Rattle.std.specs.Prelude.{◌≡◌};
     ghost use Rattle.rep_shared.specs.Rows.{flat, moved, count_named};
     ghost use Rattle.rep_plain.specs.Tables.{HaveRoom};
@@ -75,15 +77,15 @@ impl Replica for Plain {
     ghost ready = { λ rows staged. HaveRoom rows staged.0
         × (staged.1 ≡ count_named (moved rows staged.0)) };
 
-    fn empty(alloc: Global) -> Result<Plain, TakeFault> {
-        Ok(Plain {
+    fn empty(alloc: Global) -> Result<PlainClients, TakeFault> {
+        Ok(PlainClients {
             table: BTreeMap::new(alloc),
             named: 0,
         })
     }
 
-    fn prepare(&mut self, alloc: Global, delta: &Delta) -> Result<Staged, TakeFault> {
-        let news = news(alloc, &self.table, delta.ops())?;
+    fn prepare(&mut self, alloc: Global, ops: &[Op]) -> Result<Staged, TakeFault> {
+        let news = news(alloc, &self.table, ops)?;
         let groups = grown(alloc, &self.table, news)?;
         let fresh = worked_out(alloc, groups)?;
         let named = self.named + count_new(&self.table, fresh.as_slice());
@@ -134,7 +136,7 @@ impl Replica for Plain {
         greatest_seq(own_ops(&self.table, client), client, gateway).checked_add(1)
     }
 
-    fn held(&self, alloc: Global) -> Result<Vec<Delta>, TakeFault> {
-        Ok(held(alloc, &self.table)?)
+    fn to_keep(&self, alloc: Global) -> Result<Vec<Op>, NoMemory> {
+        kept_ops(alloc, &self.table)
     }
 }

@@ -1,10 +1,10 @@
 //! What the operations of a client say, read one after the other.
 
-ghost use Rattle.std.specs.Prelude.{◌≡◌, ◌+◌, ◌↔◌, IsTrue, List, ◌∷◌, map, max};
+ghost use Rattle.std.specs.Prelude.{◌≡◌, ◌+◌, ◌↔◌, true, IsTrue, List, ◌∷◌, map, max};
 ghost use Rattle.std.specs.Option.{option_copied};
 ghost use Rattle.std.specs.Ordering.{is_eq};
 ghost use Rattle.rep_op.specs.declared.op.Op.{Op};
-ghost use Rattle.rep_op.specs.Orders.{operation_cmp, put_cmp};
+ghost use Rattle.rep_op.specs.Orders.{operation_cmp, put_cmp, is_of_client};
 ghost use Rattle.rep_op.specs.Sets.{is_acknowledged, acknowledges, Agrees};
 ghost use Rattle.rep_op.specs.Sets as sets;
 ghost use Rattle.rep_model.specs.Views.{visible};
@@ -124,6 +124,7 @@ fn put_named<'a>(op: &'a Op, client: &ClientId, name: (u64, u8)) -> Option<&'a P
 
 /// Whether an operation contradicts none of these under its name.
 pub(crate) fn agrees(ops: &[Op], op: &Op) -> bool
+    requires { is_of_client op.now ≡ true }
     ensures { IsTrue result ↔ Agrees ops.now op.now }
 {
     match op {
@@ -141,6 +142,7 @@ pub(crate) fn agrees(ops: &[Op], op: &Op) -> bool
             None => true,
         },
         Op::Ack { .. } => true,
+        Op::Retain { .. } => unreachable!(),
     }
 }
 

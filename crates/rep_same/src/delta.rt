@@ -4,10 +4,32 @@ ghost use Rattle.std.specs.Prelude.{◌≡◌, ◌↔◌, IsTrue};
 
 use super::change::same_change;
 use super::view::same_put;
-use rep_model::rep_ops::{ClientId, Delta, Op};
+use rep_model::rep_ops::{ClientId, Delta, Op, Retained, Subject};
+use sn_topic::TopicName;
 
 /// Whether two clients are one.
 pub fn same_client(a: &ClientId, b: &ClientId) -> bool
+    ensures { IsTrue result ↔ (a.now ≡ b.now) }
+{
+    a == b
+}
+
+/// Whether two topics are one.
+pub fn same_topic(a: &TopicName, b: &TopicName) -> bool
+    ensures { IsTrue result ↔ (a.now ≡ b.now) }
+{
+    a == b
+}
+
+/// Whether what is retained of two topics is equal.
+pub fn same_retained(a: &Retained, b: &Retained) -> bool
+    ensures { IsTrue result ↔ (a.now ≡ b.now) }
+{
+    a == b
+}
+
+/// Whether two refusals are about the same client or topic.
+pub fn same_subject(a: &Subject, b: &Subject) -> bool
     ensures { IsTrue result ↔ (a.now ≡ b.now) }
 {
     a == b
@@ -55,6 +77,13 @@ fn same_op(a: &Op, b: &Op) -> bool
                 last: to,
             },
         ) => same_client(client, of) && origin == by && first == from && last == to,
+        (
+            Op::Retain { topic, retained },
+            Op::Retain {
+                topic: of,
+                retained: other,
+            },
+        ) => same_topic(topic, of) && same_retained(retained, other),
         _ => false,
     }
 }

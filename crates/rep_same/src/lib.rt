@@ -16,6 +16,6 @@ mod delta;
 mod view;
 
 pub use change::{same_change, same_session};
-pub use delta::{same_client, same_delta, same_deltas};
+pub use delta::{same_client, same_delta, same_deltas, same_retained, same_subject, same_topic};
 pub use rep_model;
 pub use view::{same_put, same_view};

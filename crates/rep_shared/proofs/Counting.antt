@@ -1,16 +1,23 @@
--- Entries of lists in order are found; how many clients have operations after a move.
-use Rattle.std.proofs.Common.{◌≡◌, ℕ, suc, ◌+◌, Bool, true, false, not, cond, ◌&&◌, List, [], ◌∷◌, length, filter, count_by, Some, T, refl, sym, ap, ◌∙◌, arith, Ordering, Less, Equal, Greater, is_eq}
-use Rattle.std.specs.List.{AllByRecursion}
+-- Entries of lists in order are found; how many clients have operations after a move; and which
+-- limit operations of clients pass.
+use Rattle.std.proofs.Common.{◌≡◌, ℕ, suc, ◌+◌, Bool, true, false, not, cond, ◌&&◌, nat_lt, if◌then◌else◌, List, [], ◌∷◌, length, filter, count_by, Some, None, T, refl, sym, ap, ◌∙◌, arith, Ordering, Less, Equal, Greater, is_eq}
+use Rattle.std.specs.List.{list_any, AllByRecursion}
 use Rattle.std.specs.Ordering.{is_lt, ordering_reverse}
 use Rattle.std.specs.Cmp.{IsTotalOrder, tied_itself}
 use Rattle.std.specs.FinMap.{find, is_sorted}
 use Rattle.std.specs.FinMap.Entries.{below_all}
 use Rattle.std.proofs.lemmas.List.Sums.{length-filter}
 use Rattle.rep_op.specs.declared.op.Op.{Op}
-use Rattle.rep_op.specs.Orders.{client_cmp}
+use Rattle.rep_op.specs.Orders.{client_cmp, AreOfClients}
+use Rattle.rep_model.specs.declared.fault.Limit.TheVariants.{Clients, Pending, Parked, Exceptions, Retained as OfRetained}
+use Rattle.rep_model.specs.Views.{clients, pending}
+use Rattle.rep_model.specs.Topics.{topics}
+use Rattle.rep_model.specs.Limits.{parked, exceptions, first_passed}
 use Rattle.rep_model.proofs.Lookup.{or_else}
+use Rattle.rep_model.proofs.Beside.{no_topics_of}
 use Rattle.rep_shared.specs.Rows.{own, or_nothing, moved, has_any, count_named, IsOwn}
 use Rattle.rep_shared.specs.inner.Rows.{count_new, AreRows}
+use Rattle.rep_shared.specs.inner.Tables.{passed_of}
 use Rattle.rep_shared.proofs.Flat.{find_in_moved, rows_moved, count_put, find_below, one_if}
 
 first : (a b : Bool) → T (a && b) → T a
@@ -60,3 +67,20 @@ count_moved rows (row ∷ fresh) are sorted owned any =
     let head = count_head (λ (row : List ℕ × List Op). not (has_any (own row.0 rows))) row fresh in
     let turned : one_if (not (has_any (own row.0 rows))) + one_if (has_any (own row.0 rows)) ≡ 1 = elim (has_any (own row.0 rows)) as (λ b. one_if (not b) + one_if b ≡ 1) [ true ↦ refl | false ↦ refl ] in
     omega (arith, rest, more, here, before, head, turned)
+
+-- ---- limits
+
+-- operations of clients pass one of the first four limits, or none
+pub passed_of_clients : (S : List Op) → AreOfClients S
+    → passed_of (length (clients S)) (list_any (λ c. nat_lt 16384 (length (pending c S))) (clients S)) (list_any (λ c. nat_lt 4096 (length (parked c S))) (clients S)) (list_any (λ c. nat_lt 16384 (exceptions c S)) (clients S)) ≡ first_passed S
+passed_of_clients S h = go (nat_lt 4096 (length (clients S))) (list_any (λ c. nat_lt 16384 (length (pending c S))) (clients S)) (list_any (λ c. nat_lt 4096 (length (parked c S))) (clients S)) (list_any (λ c. nat_lt 16384 (exceptions c S)) (clients S))
+  where
+    few : nat_lt 4096 (length (topics S)) ≡ false
+    few = ap (λ (ts : List (List ℕ)). nat_lt 4096 (length ts)) (no_topics_of S h)
+
+    go : (p q s v : Bool) → (if p then Some Clients else (if q then Some Pending else (if s then Some Parked else (if v then Some Exceptions else None)))) ≡ (if p then Some Clients else (if q then Some Pending else (if s then Some Parked else (if v then Some Exceptions else (if nat_lt 4096 (length (topics S)) then Some OfRetained else None)))))
+    go true q s v = refl
+    go false true s v = refl
+    go false false true v = refl
+    go false false false true = refl
+    go false false false false = sym (ap (λ b. if b then Some OfRetained else None) few)

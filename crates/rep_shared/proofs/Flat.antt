@@ -10,7 +10,7 @@ use Rattle.std.proofs.lemmas.Map.Lookups.{CmpEqualImpliesEq}
 use Rattle.std.proofs.lemmas.Map.Views.{tells_apart}
 use Rattle.std.proofs.lemmas.Map.Text.{is_eq-slice_cmp}
 use Rattle.rep_op.specs.declared.op.Op.{Op}
-use Rattle.rep_op.specs.declared.op.Op.TheVariants.{Session as OfSession, Put as OfPut, Ack}
+use Rattle.rep_op.specs.declared.op.Op.TheVariants.{Session as OfSession, Put as OfPut, Ack, Retain as OfRetain}
 use Rattle.rep_op.specs.Orders.{client_cmp, client_of}
 use Rattle.rep_op.specs.Sets.{same_client}
 use Rattle.rep_model.specs.Views.{named, in_order, names, clients, names_client, is_named}
@@ -81,6 +81,7 @@ named_client d (Ack c origin low high) e =
       | true ↦ λ e. ap (λ (x : Option (List ℕ × List ℕ)). elim x [ None ↦ c | Some p ↦ p.0 ]) e
       | false ↦ λ e. none_some (d, d) e
     ] e
+named_client d (OfRetain t k) e = none_some (d, d) e
 
 same_itself : (c : List ℕ) → same_client c c ≡ true
 same_itself c = sym (is_eq-slice_cmp c c) ∙ ap is_eq (tied_itself client_total c)
@@ -178,6 +179,7 @@ names_own c (Ack d origin low high) e =
     ap (λ x. same_client c x && nat_le low high) (named_client c (Ack d origin low high) e)
     ∙ ap (λ b. b && nat_le low high) (same_itself c)
     ∙ elim (nat_le low high) as (λ b. (if b then twice d else None) ≡ twice c → b ≡ true) [ true ↦ λ _. refl | false ↦ λ e. none_some (c, c) e ] e
+names_own c (OfRetain t k) e = none_some (c, c) e
 
 pub named_any : (c : List ℕ) (ops : List Op) → IsOwn c ops → is_named c ops ≡ has_any ops
 named_any c [] h = refl

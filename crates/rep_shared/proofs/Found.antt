@@ -10,16 +10,16 @@ use Rattle.std.specs.FinMap.Entries.{below_all, by_order}
 use Rattle.std.proofs.lemmas.Map.Keys.{sorted_head, sorted_tail}
 use Rattle.rep_op.specs.declared.op.Op.{Op}
 use Rattle.rep_op.specs.declared.op.Stamp.{Stamp}
-use Rattle.rep_op.specs.declared.op.Op.TheVariants.{Session as OfSession, Put as OfPut, Ack}
-use Rattle.rep_op.specs.Orders.{client_of}
-use Rattle.rep_op.specs.Sets.{operation_at, put_at, Agrees}
+use Rattle.rep_op.specs.declared.op.Op.TheVariants.{Session as OfSession, Put as OfPut, Ack, Retain as OfRetain}
+use Rattle.rep_op.specs.Orders.{client_of, clock_of}
+use Rattle.rep_op.specs.Sets.{operation_at, put_at, retain_at, Agrees}
 use Rattle.rep_model.specs.Taking.{IsFaultOf}
 use Rattle.rep_model.specs.declared.fault.TakeFault.{TakeFault}
 use Rattle.rep_model.specs.declared.fault.TakeFault.TheVariants.{Conflict, Full, Memory}
 use Rattle.rep_shared.specs.Rows.{flat, own}
 use Rattle.rep_shared.specs.inner.Rows.{AreRows}
 use Rattle.rep_shared.specs.inner.Tables.{IsRefusalOf}
-use Rattle.rep_shared.proofs.Single.{operation_at_own, put_at_own}
+use Rattle.rep_shared.proofs.Single.{operation_at_own, put_at_own, retain_at_own}
 use Rattle.rep_shared.proofs.Flat.{of_flat}
 
 pub none_there : {X : Type 0} (o : Option X) → is_some o ≡ false → o ≡ None
@@ -75,18 +75,23 @@ module _ (rows : List (List ℕ × List Op)) (are : AreRows rows) where
   pub put_row : (c : List ℕ) (name : ℕ × ℕ) → put_at c (flat rows) name ≡ put_at c (own c rows) name
   put_row c name = put_at_own c (flat rows) name ∙ ap (λ S. put_at c S name) (of_flat c rows are)
 
+  pub retain_row : (t : List ℕ) (name : ℕ × ℕ) → retain_at t (flat rows) name ≡ retain_at t (own [] rows) name
+  retain_row t name = retain_at_own (flat rows) t name ∙ ap (λ S. retain_at t S name) (of_flat [] rows are)
+
   pub agrees_flat : (op : Op) → Agrees (own (client_of op) rows) op → Agrees (flat rows) op
   agrees_flat (OfSession c stamp counter change) h = subst (λ o. IfSome o (λ kept. kept ≡ change)) (sym (operation_row c (stamp, counter))) h
   agrees_flat (OfPut c p) h = subst (λ o. IfSome o (λ kept. kept ≡ p)) (sym (put_row c (p.seq, p.origin))) h
   agrees_flat (Ack c origin low high) h = tt
+  agrees_flat (OfRetain t k) h = subst (λ o. IfSome o (λ stood. stood ≡ k)) (sym (retain_row t (clock_of k))) h
 
   pub agrees_own : (op : Op) → Agrees (flat rows) op → Agrees (own (client_of op) rows) op
   agrees_own (OfSession c stamp counter change) h = subst (λ o. IfSome o (λ kept. kept ≡ change)) (operation_row c (stamp, counter)) h
   agrees_own (OfPut c p) h = subst (λ o. IfSome o (λ kept. kept ≡ p)) (put_row c (p.seq, p.origin)) h
   agrees_own (Ack c origin low high) h = tt
+  agrees_own (OfRetain t k) h = subst (λ o. IfSome o (λ stood. stood ≡ k)) (retain_row t (clock_of k)) h
 
 -- a refusal of one operation refuses the delta
 pub refused : (K D : List Op) (op : Op) (fault : TakeFault) → Contains D op → IsRefusalOf K op fault → IsFaultOf K D fault
-refused K D op (Conflict c) here h = (op, here, h.0, h.1)
+refused K D op (Conflict about) here h = (op, here, h.0, h.1)
 refused K D op (Full limit) here h = absurd h
 refused K D op Memory here h = tt

@@ -1,13 +1,14 @@
 -- What is said of a client is said by the client's own operations.
-use Rattle.std.proofs.Common.{◌≡◌, ℕ, Bool, true, false, not, cond, ◌&&◌, ◌||◌, ◌==◌, if◌then◌else◌, nat_le, List, [], ◌∷◌, length, map, filter, Option, Some, None, max, refl, ap, ◌∙◌, arith}
+use Rattle.std.proofs.Common.{◌≡◌, ℕ, Bool, true, false, not, cond, ◌&&◌, ◌||◌, ◌==◌, if◌then◌else◌, nat_le, List, [], ◌∷◌, length, map, filter, Option, Some, None, max, refl, sym, ap, ◌∙◌, true≢false, arith}
 use Rattle.std.specs.List.{filter_map, list_any, cons_option}
 use Rattle.std.specs.FinMap.{find}
+use Rattle.std.proofs.lemmas.Slice.Eq.{bytes_eq-Decides}
 use Rattle.sn_session.specs.declared.change.SessionOp.{SessionOp}
 use Rattle.rep_op.specs.declared.op.Stamp.{Stamp}
 use Rattle.rep_op.specs.declared.op.Op.{Op}
-use Rattle.rep_op.specs.declared.op.Op.TheVariants.{Session as OfSession, Put as OfPut, Ack}
-use Rattle.rep_op.specs.Orders.{stamp_cmp, operation_cmp, put_cmp, client_of}
-use Rattle.rep_op.specs.Sets.{same_client, operation_of, operations, operation_at, put_of, puts, put_at, acknowledges, is_acknowledged}
+use Rattle.rep_op.specs.declared.op.Op.TheVariants.{Session as OfSession, Put as OfPut, Ack, Retain as OfRetain}
+use Rattle.rep_op.specs.Orders.{stamp_cmp, operation_cmp, put_cmp, clock_cmp, client_of}
+use Rattle.rep_op.specs.Sets.{same_client, operation_of, operations, operation_at, put_of, puts, put_at, acknowledges, is_acknowledged, retain_of, retains, retain_at}
 use Rattle.rep_model.specs.Views.{greatest, take_stamp, names, visible, history, history_at, session_of, in_order, pending, view, names_client, is_named}
 use Rattle.rep_model.specs.Fresh.{largest, seq_of, greatest_epoch}
 use Rattle.rep_model.specs.Limits.{is_parked, parked, range_of, joined, above_a_gap, sum_to, exceptions}
@@ -51,31 +52,37 @@ module _ (c : List ℕ) (S : List Op) where
   other_operation (OfSession d stamp counter change) e = ap (λ b. if b then Some ((stamp, counter), change) else None) e
   other_operation (OfPut d put) e = refl
   other_operation (Ack d origin first last) e = refl
+  other_operation (OfRetain t k) e = refl
 
   other_put : (op : Op) → same_client c (client_of op) ≡ false → put_of c op ≡ None
   other_put (OfSession d stamp counter change) e = refl
   other_put (OfPut d put) e = ap (λ b. if b then Some ((put.seq, put.origin), put) else None) e
   other_put (Ack d origin first last) e = refl
+  other_put (OfRetain t k) e = refl
 
   other_acknowledges : (name : ℕ × ℕ) (op : Op) → same_client c (client_of op) ≡ false → acknowledges c name op ≡ false
   other_acknowledges name (OfSession d stamp counter change) e = refl
   other_acknowledges name (OfPut d put) e = refl
   other_acknowledges name (Ack d origin first last) e = ap (λ b. b && (name.1 == origin) && nat_le first name.0 && nat_le name.0 last) e
+  other_acknowledges name (OfRetain t k) e = refl
 
   other_named : (op : Op) → same_client c (client_of op) ≡ false → names_client c op ≡ false
   other_named (OfSession d stamp counter change) e = e
   other_named (OfPut d put) e = e
   other_named (Ack d origin first last) e = ap (λ b. b && nat_le first last) e
+  other_named (OfRetain t k) e = refl
 
   other_range : (origin : ℕ) (op : Op) → same_client c (client_of op) ≡ false → range_of c origin op ≡ None
   other_range origin (OfSession d stamp counter change) e = refl
   other_range origin (OfPut d put) e = refl
   other_range origin (Ack d o first last) e = ap (λ b. if b && (origin == o) && nat_le first last then Some (first, last) else None) e
+  other_range origin (OfRetain t k) e = refl
 
   other_seq : (gateway : ℕ) (op : Op) → same_client c (client_of op) ≡ false → seq_of c gateway op ≡ 0
   other_seq gateway (OfSession d stamp counter change) e = refl
   other_seq gateway (OfPut d put) e = ap (λ b. if b && (gateway == put.origin) then put.seq else 0) e
   other_seq gateway (Ack d origin first last) e = ap (λ b. if b && (gateway == origin) && nat_le first last then last else 0) e
+  other_seq gateway (OfRetain t k) e = refl
 
   pub operations_own : operations c S ≡ operations c (of_client c S)
   operations_own = reads_own c (operation_of c) other_operation S
@@ -119,3 +126,17 @@ module _ (c : List ℕ) (S : List Op) where
   pub exceptions_own : exceptions c S ≡ exceptions c (of_client c S)
   unfolding exceptions
   exceptions_own = λ i. sum_to (λ origin. above_a_gap (joined (reads_own c (range_of c origin) (other_range origin) S i))) 255
+
+-- what is retained is of no client: it stands under the name of none
+module _ (S : List Op) where
+  other_retain : (t : List ℕ) (op : Op) → same_client [] (client_of op) ≡ false → retain_of t op ≡ None
+  other_retain t (OfSession d stamp counter change) e = refl
+  other_retain t (OfPut d put) e = refl
+  other_retain t (Ack d origin first last) e = refl
+  other_retain t (OfRetain u kept) e = absurd (true≢false (sym ((bytes_eq-Decides [] []).1 refl) ∙ e))
+
+  pub retains_own : (t : List ℕ) → retains t S ≡ retains t (of_client [] S)
+  retains_own t = reads_own [] (retain_of t) (other_retain t) S
+
+  pub retain_at_own : (t : List ℕ) (name : ℕ × ℕ) → retain_at t S name ≡ retain_at t (of_client [] S) name
+  retain_at_own t name = ap (find clock_cmp name) (retains_own t)

@@ -6,6 +6,7 @@
 //! steps are code that both run: a range among others, numbers above a gap, and a session after one
 //! more operation.
 //!
+//! - `client_set`: what a replica of the operations of clients promises (`ClientSet`).
 //! - `ranges`: numbers as ranges (`with_range`, `above_gap`).
 //! - `replay`: session operations in order, those that wait, and what one of them makes of a
 //!   session (`operations_in_order`, `count_parked`, `changed`).
@@ -16,8 +17,10 @@
 //! `Flat`, `Kept`, `Walks`; of session operations `Entering`, `Workings`; `Numbers`.
 #![tactic(auto)]
 
+mod client_set;
 mod ranges;
 mod replay;
 
+pub use client_set::ClientSet;
 pub use ranges::{above_gap, with_range};
 pub use replay::{changed, count_parked, operations_in_order};

@@ -5,7 +5,7 @@ use Rattle.sn_session.specs.declared.change.SessionOp.{SessionOp}
 use Rattle.rep_op.specs.declared.op.Stamp.{Stamp}
 use Rattle.rep_op.specs.declared.op.Put.{Put}
 use Rattle.rep_op.specs.declared.op.Op.{Op}
-use Rattle.rep_op.specs.declared.op.Op.TheVariants.{Session as OfSession, Put as OfPut, Ack}
+use Rattle.rep_op.specs.declared.op.Op.TheVariants.{Session as OfSession, Put as OfPut, Ack, Retain as OfRetain}
 use Rattle.rep_op.specs.Orders.{operation_cmp, put_cmp, client_of}
 use Rattle.rep_op.specs.Sets.{operation_at, put_at, Agrees}
 use Rattle.rep_entry.specs.declared.entry.Entry.{Entry}
@@ -37,3 +37,4 @@ pub agrees_nothing : (op : Op) → Agrees [] op
 agrees_nothing (OfSession c s k x) = tt
 agrees_nothing (OfPut c p) = tt
 agrees_nothing (Ack c origin first last) = tt
+agrees_nothing (OfRetain t k) = tt

@@ -7,16 +7,18 @@ use Rattle.std.specs.FinMap.{find}
 use Rattle.std.proofs.lemmas.Map.Views.{tells_apart}
 use Rattle.std.proofs.lemmas.List.Elements.{filter-append}
 use Rattle.rep_op.specs.declared.op.Op.{Op}
-use Rattle.rep_op.specs.Orders.{client_cmp, client_of}
+use Rattle.rep_op.specs.declared.op.Retained.{Retained}
+use Rattle.rep_op.specs.Orders.{client_cmp, client_of, clock_cmp}
 use Rattle.rep_op.specs.Sets.{same_client, Same}
-use Rattle.rep_model.specs.Keep.{keep, is_below}
+use Rattle.rep_model.specs.Views.{greatest, names}
+use Rattle.rep_model.specs.Keep.{keep, is_below, is_outdone}
 use Rattle.rep_model.proofs.Lookup.{or_else}
-use Rattle.rep_model.proofs.Readers.{client_exact, operation_at_keep, put_at_keep, is_acknowledged_keep}
+use Rattle.rep_model.proofs.Readers.{client_exact, operation_at_keep, put_at_keep, is_acknowledged_keep, retain_at_keep}
 use Rattle.rep_model.proofs.Joins.{counts-between}
 use Rattle.rep_model.proofs.Named.{is_named-counts}
 use Rattle.rep_shared.specs.Rows.{flat, own, or_nothing, moved, has_any, IsOwn}
 use Rattle.rep_shared.specs.inner.Rows.{of_client, AreRows}
-use Rattle.rep_shared.proofs.Single.{operation_at_own, put_at_own, is_acknowledged_own, visible_own}
+use Rattle.rep_shared.proofs.Single.{operation_at_own, put_at_own, is_acknowledged_own, visible_own, retains_own, retain_at_own}
 use Rattle.rep_shared.proofs.Flat.{of_flat, find_in_moved, rows_moved, named_any}
 use Rattle.rep_entry.specs.declared.entry.Entry.{Entry}
 use Rattle.rep_entry.specs.declared.fresh.Fresh.{Fresh}
@@ -79,7 +81,7 @@ pub own_keeps : (c : List ℕ) (es : List (List ℕ × Entry)) → AreKept es �
 own_keeps c es each = subst (λ o. Same (or_nothing o) (keep (or_nothing o))) (sym (find_rows c es)) (at (find client_cmp c es) refl)
   where
     at : (o : Option Entry) → find client_cmp c es ≡ o → Same (or_nothing (option_map (row_of c) o)) (keep (or_nothing (option_map (row_of c) o)))
-    at None e = record { operations_same = λ c name. refl; puts_same = λ c name. refl; acknowledgements_same = λ c name. refl }
+    at None e = record { operations_same = λ c name. refl; puts_same = λ c name. refl; acknowledgements_same = λ c name. refl; retains_same = λ t name. refl }
     at (Some x) e = keeps_row c x (found_holds client_cmp client_exact IsKept c x es each e).entry_is
 
 module _ (es : List (List ℕ × Entry)) (D : List Op) (rows : List (List ℕ × List Op)) (each : AreKept es) (h : AreRowsOf es D rows) where
@@ -100,6 +102,8 @@ same_kept_by_client A W h = record {
       ∙ (λ i. cond (not (sym (is_acknowledged_own c W name) i)) (sym (put_at_own c W name) i) None) ∙ sym (put_at_keep c W name);
   acknowledgements_same = λ c name. is_acknowledged_own c A name ∙ (h c).acknowledgements_same c name ∙ is_acknowledged_keep c (of_client c W) name
       ∙ sym (is_acknowledged_own c W name) ∙ sym (is_acknowledged_keep c W name);
+  retains_same = λ t name. retain_at_own A t name ∙ (h []).retains_same t name ∙ retain_at_keep t (of_client [] W) name
+      ∙ sym (ap (λ (es : List ((ℕ × ℕ) × Retained)). cond (not (is_outdone name (greatest clock_cmp (names es)))) (find clock_cmp name es) None) (retains_own W t)) ∙ sym (retain_at_keep t W name);
 }
 
 -- what is kept after the commit

@@ -20,7 +20,8 @@ use Rattle.rep_shared.specs.Steps.{capped}
 use Rattle.rep_shared.specs.Rows.{flat, own, or_nothing, moved, has_any, count_named, IsOwn}
 use Rattle.rep_shared.specs.inner.Rows.{count_new, AreRows, of_client}
 use Rattle.rep_shared.specs.inner.Tables.{passed_of}
-use Rattle.rep_shared.proofs.Counting.{all_found, count_moved}
+use Rattle.rep_shared.proofs.Counting.{all_found, count_moved, passed_of_clients}
+use Rattle.rep_shared.proofs.Kept.{rows_of_clients}
 use Rattle.rep_shared.proofs.Single.{pending_own, parked_own, exceptions_own}
 use Rattle.rep_shared.proofs.Flat.{of_flat, find_in_moved, rows_moved, count_clients, named_flat}
 use Rattle.rep_entry.specs.declared.entry.Entry.{Entry}
@@ -146,7 +147,7 @@ module _ (es fs : List (List ℕ × Entry)) (are : AreRows (rows_of es)) (each :
       let except = passed_one 16384 exceptions too_many_exceptions exceptions_own (λ c. no_exceptions c)
       (λ c e i. sym (above_capped (exceptions c (row_of c e))) ∙ not_above 16384 (capped (exceptions c (row_of c e))) (subst (λ n. n ≤ 16384) i.entry_is.exceptions i.exceptions))
       (λ f w. sym (above_capped (exceptions f.0 (row_of f.0 f.1))) ∙ ap (nat_lt 16384) (sym w.exceptions)) in
-      ap (λ n. passed_of n (list_any too_many_pending fs) (list_any too_many_parked fs) (list_any too_many_exceptions fs)) all ∙ sym (λ i. passed_of (length (clients (flat after))) (pend i) (park i) (except i))
+      ap (λ n. passed_of n (list_any too_many_pending fs) (list_any too_many_parked fs) (list_any too_many_exceptions fs)) all ∙ sym (λ i. passed_of (length (clients (flat after))) (pend i) (park i) (except i)) ∙ passed_of_clients (flat after) (rows_of_clients after are_after.owned)
     where
       not_above : (limit n : ℕ) → n ≤ limit → nat_lt limit n ≡ false
       not_above limit n h = grind (arith, nat_tests)

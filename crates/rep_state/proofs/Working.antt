@@ -8,14 +8,13 @@ use Rattle.std.specs.FinMap.Entries.{below_all, find-put}
 use Rattle.std.proofs.lemmas.Map.Text.{is_eq-slice_cmp}
 use Rattle.std.proofs.lemmas.Map.Views.{tells_apart}
 use Rattle.rep_op.specs.declared.op.Op.{Op}
-use Rattle.rep_op.specs.declared.op.Op.TheVariants.{Session as OfSession, Put as OfPut, Ack}
+use Rattle.rep_op.specs.declared.op.Op.TheVariants.{Session as OfSession, Put as OfPut, Ack, Retain as OfRetain}
 use Rattle.rep_ops.specs.Making.{AreWellMade}
-use Rattle.rep_op.specs.Orders.{client_cmp, client_of}
+use Rattle.rep_op.specs.Orders.{client_cmp, client_of, is_of_client, AreOfClients}
 use Rattle.rep_op.specs.Sets.{same_client, Same}
-use Rattle.rep_ops.specs.Splitting.{AreDeltasOf}
 use Rattle.rep_op.specs.WellMade.{is_well_made}
 use Rattle.rep_model.specs.Keep.{keep}
-use Rattle.rep_model.proofs.Joins.{same_trans, all-both, all-weaker}
+use Rattle.rep_model.proofs.Joins.{all-both, all-weaker}
 use Rattle.rep_model.proofs.Readers.{client_total, client_exact, same_client-true}
 use Rattle.rep_shared.specs.Rows.{flat, own, or_nothing, has_any, IsOwn, IsOwnOp}
 use Rattle.rep_shared.specs.inner.Rows.{of_client}
@@ -59,17 +58,18 @@ and_last : (a b : Bool) → IsTrue (a && b) → b ≡ true
 and_last true b h = h
 and_last false b h = absurd (true≢false (sym h))
 
-pub names_client : (op : Op) → IsTrue (is_well_made op) → IsOwnOp (client_of op) op
-names_client (OfSession c stamp counter change) h = (refl, h)
-names_client (OfPut c p) h = (refl, h)
-names_client (Ack c origin low high) h = (ap (λ b. if◌then◌else◌ {A = Option (List ℕ × List ℕ)} b (Some (c, c)) None) (and_last (nat_le 1 origin && nat_le 1 low) (nat_le low high) h), h)
+pub names_client : (op : Op) → is_of_client op ≡ true → IsTrue (is_well_made op) → IsOwnOp (client_of op) op
+names_client (OfSession c stamp counter change) e h = (refl, h)
+names_client (OfPut c p) e h = (refl, h)
+names_client (OfRetain t k) e h = absurd (true≢false (sym e))
+names_client (Ack c origin low high) e h = (ap (λ b. if◌then◌else◌ {A = Option (List ℕ × List ℕ)} b (Some (c, c)) None) (and_last (nat_le 1 origin && nat_le 1 low) (nat_le low high) h), h)
 
-own_of : (c : List ℕ) (N : List Op) → AllByRecursion (λ op. IsTrue (is_well_made op)) N → IsOwn c (of_client c N)
-own_of c [] h = tt
-own_of c (op ∷ N) h =
-    let rest = own_of c N h.1 in
+own_of : (c : List ℕ) (N : List Op) → AreOfClients N → AllByRecursion (λ op. IsTrue (is_well_made op)) N → IsOwn c (of_client c N)
+own_of c [] e h = tt
+own_of c (op ∷ N) e h =
+    let rest = own_of c N e.1 h.1 in
     elim (same_client c (client_of op)) as (λ b. same_client c (client_of op) ≡ b → IsOwn c (cond b (op ∷ of_client c N) (of_client c N))) [
-      | true ↦ λ t. (subst (λ x. IsOwnOp x op) (sym (same_client-true c (client_of op) t)) (names_client op h.0), rest)
+      | true ↦ λ t. (subst (λ x. IsOwnOp x op) (sym (same_client-true c (client_of op) t)) (names_client op e.0 h.0), rest)
       | false ↦ λ _. rest
     ] refl
 
@@ -113,7 +113,7 @@ owned_entries : (fs : List (List ℕ × Entry)) → AreWorkedOut fs → AllByRec
 owned_entries [] h = tt
 owned_entries (f ∷ fs) h = (own_entry f.0 f.1 h.0, owned_entries fs h.1)
 
-module _ (es : List (List ℕ × Entry)) (n : ℕ) (t : IsTable es n) (D : List Op) (made : AllByRecursion (λ op. IsTrue (is_well_made op)) D) (fs : List (List ℕ × Entry)) (groups : List (List ℕ × Fresh)) (h : AreGroups es D groups) (sorted : T (is_sorted client_cmp groups)) (is : rows_of fs ≡ fresh_rows es groups) (worked : AreWorkedOut fs) where
+module _ (es : List (List ℕ × Entry)) (n : ℕ) (t : IsTable es n) (D : List Op) (clients : AreOfClients D) (made : AllByRecursion (λ op. IsTrue (is_well_made op)) D) (fs : List (List ℕ × Entry)) (groups : List (List ℕ × Fresh)) (h : AreGroups es D groups) (sorted : T (is_sorted client_cmp groups)) (is : rows_of fs ≡ fresh_rows es groups) (worked : AreWorkedOut fs) where
   pub fresh_rows_of : AreRowsOf es D (rows_of fs)
   fresh_rows_of = subst (AreRowsOf es D) (sym is) (rows_of_groups es D groups h)
 
@@ -121,7 +121,7 @@ module _ (es : List (List ℕ × Entry)) (n : ℕ) (t : IsTable es n) (D : List 
   any_rows [] owned found = tt
   any_rows (row ∷ rows) owned found =
       let r = subst (IsRowOf row.0 es D) found.0 (fresh_rows_of row.0) in (
-        any_taken row.0 es D row.1 owned.0 (all-both (IsOwnOp row.0) (own row.0 (rows_of es)) (of_client row.0 D) (found_own row.0 (rows_of es) (table_rows es n t).owned) (own_of row.0 D made)) r.1 r.0,
+        any_taken row.0 es D row.1 owned.0 (all-both (IsOwnOp row.0) (own row.0 (rows_of es)) (of_client row.0 D) (found_own row.0 (rows_of es) (table_rows es n t).owned) (own_of row.0 D clients made)) r.1 r.0,
         any_rows rows owned.1 found.1,
       )
 
@@ -143,8 +143,5 @@ module _ (es : List (List ℕ × Entry)) (n : ℕ) (t : IsTable es n) where
   made_flat = made_rows (rows_of es) (table_rows es n t).owned
 
   -- what is kept keeps itself
-  keeps_flat : Same (flat (rows_of es)) (keep (flat (rows_of es)))
+  pub keeps_flat : Same (flat (rows_of es)) (keep (flat (rows_of es)))
   keeps_flat = same_kept_by_client (flat (rows_of es)) (flat (rows_of es)) (λ c. subst (λ S. Same S (keep S)) (sym (of_flat c (rows_of es) (table_rows es n t))) (own_keeps c es t.each))
-
-  pub held_deltas : (deltas : List (List Op)) → AreDeltasOf (flat (rows_of es)) deltas → AreDeltasOf (keep (flat (rows_of es))) deltas
-  held_deltas deltas h = (h.0, record { delta = h.1.delta; same = same_trans h.1.same keeps_flat }, h.2)

@@ -1,7 +1,7 @@
 //! Whether a delta contradicts what is kept.
 
-ghost use Rattle.std.specs.Prelude.{◌≡◌, ◌⊎◌, ◌↔◌, IsTrue, OnOk, IfErr, ℕ, List};
-ghost use Rattle.rep_op.specs.Orders.{client_of};
+ghost use Rattle.std.specs.Prelude.{◌≡◌, ◌⊎◌, ◌↔◌, true, IsTrue, OnOk, IfErr, ℕ, List};
+ghost use Rattle.rep_op.specs.Orders.{client_of, is_of_client, AreOfClients, subject_of};
 ghost use Rattle.rep_op.specs.Sets.{Agrees};
 ghost use Rattle.rep_model.specs.Taking.{AllAgree, IsFaultOf};
 ghost use Rattle.rep_shared.specs.Rows.{flat, own};
@@ -14,7 +14,7 @@ ghost use Rattle.rep_state.specs.Tables.{by_client, rows_of, AreKept};
 use super::table::{Table, entry_of};
 use rep_entry::{Entry, find_put};
 use rep_model::TakeFault;
-use rep_ops::{ClientId, Op, Put};
+use rep_ops::{Op, Put};
 use rep_same::same_change;
 use std::alloc::Global;
 
@@ -22,6 +22,7 @@ use std::alloc::Global;
 pub(crate) fn check(alloc: Global, table: &Table, delta: &[Op]) -> Result<(), TakeFault>
     requires rows { AreRows (rows_of (by_client table.now.entries)) }
     requires kept { AreKept (by_client table.now.entries) }
+    requires clients { AreOfClients delta.now }
     ensures agree { OnOk result (AllAgree (flat (rows_of (by_client table.now.entries)))
         delta.now) }
     ensures fault { IfErr result (IsFaultOf (flat (rows_of (by_client table.now.entries)))
@@ -37,29 +38,31 @@ pub(crate) fn check(alloc: Global, table: &Table, delta: &[Op]) -> Result<(), Ta
 fn check_one(alloc: Global, table: &Table, op: &Op) -> Result<(), TakeFault>
     requires rows { AreRows (rows_of (by_client table.now.entries)) }
     requires kept { AreKept (by_client table.now.entries) }
+    requires client { is_of_client op.now ≡ true }
     ensures agrees { OnOk result (Agrees (flat (rows_of (by_client table.now.entries))) op.now) }
     ensures fault { IfErr result (IsRefusalOf
         (flat (rows_of (by_client table.now.entries))) op.now) }
 {
     if !agrees(table, op) {
-        return Err(conflict(alloc, op.client()));
+        return Err(conflict(alloc, op));
     }
     Ok(())
 }
 
-/// The refusal of a delta that contradicts an operation of the client.
-fn conflict(alloc: Global, client: &ClientId) -> TakeFault
-    ensures { (result ≡ TakeFault.Conflict client.now) ⊎ (result ≡ TakeFault.Memory) }
+/// The refusal of a delta with an operation that contradicts another.
+fn conflict(alloc: Global, op: &Op) -> TakeFault
+    ensures { (result ≡ TakeFault.Conflict (subject_of op.now)) ⊎ (result ≡ TakeFault.Memory) }
 {
-    match client.copied(alloc) {
-        Ok(client) => TakeFault::Conflict { client },
+    match op.subject(alloc) {
+        Ok(of) => TakeFault::Conflict { of },
         Err(_) => TakeFault::Memory,
     }
 }
 
 /// Whether an operation contradicts nothing that is kept of its client.
 fn agrees(table: &Table, op: &Op) -> bool
-    requires { AreKept (by_client table.now.entries) }
+    requires kept { AreKept (by_client table.now.entries) }
+    requires client { is_of_client op.now ≡ true }
     ensures { IsTrue result
         ↔ Agrees (own (client_of op.now) (rows_of (by_client table.now.entries))) op.now }
 {
@@ -71,7 +74,8 @@ fn agrees(table: &Table, op: &Op) -> bool
 
 /// Whether an operation contradicts nothing that is kept of its client, which is this.
 fn agrees_with(entry: &Entry, op: &Op) -> bool
-    requires { Rising entry.now.seen.pending }
+    requires rising { Rising entry.now.seen.pending }
+    requires client { is_of_client op.now ≡ true }
     ensures { IsTrue result ↔ Agrees (row_of (client_of op.now) entry.now) op.now }
 {
     match op {
@@ -89,6 +93,7 @@ fn agrees_with(entry: &Entry, op: &Op) -> bool
             None => true,
         },
         Op::Ack { .. } => true,
+        Op::Retain { .. } => unreachable!(),
     }
 }
 

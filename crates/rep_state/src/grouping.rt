@@ -1,11 +1,11 @@
 //! What a delta changes of each client that it names.
 
-ghost use Rattle.std.specs.Prelude.{◌≡◌, ◌++◌, ◌∷◌, [], IsTrue, IfOk, OnOk, List, T};
+ghost use Rattle.std.specs.Prelude.{◌≡◌, ◌++◌, ◌∷◌, [], true, IsTrue, IfOk, OnOk, List, T};
 ghost use Rattle.std.specs.List.{AllByRecursion};
 ghost use Rattle.std.specs.FinMap.{is_sorted};
 ghost use Rattle.sn_tables.specs.inner.Tables.{IsPlace};
 ghost use Rattle.rep_op.specs.declared.op.Op.{Op};
-ghost use Rattle.rep_op.specs.Orders.{client_cmp, client_of};
+ghost use Rattle.rep_op.specs.Orders.{client_cmp, client_of, is_of_client, AreOfClients};
 ghost use Rattle.rep_op.specs.WellMade.{is_well_made};
 ghost use Rattle.rep_entry.specs.Entries.{IsEntry, IsFresh, fresh_row};
 ghost use Rattle.rep_state.specs.Tables.{by_client, rows_of, AreKept};
@@ -27,6 +27,7 @@ pub(crate) type Group = (ClientId, Fresh);
 /// For each client that the operations name: what they change of it, in the order of the clients.
 pub(crate) fn grown(alloc: Global, table: &Table, ops: &[Op]) -> Result<Vec<Group>, NoMemory>
     requires kept { AreKept (by_client table.now.entries) }
+    requires clients { AreOfClients ops.now }
     requires made { AllByRecursion (λ op. IsTrue (is_well_made op)) ops.now }
     ensures groups { IfOk result (λ groups.
         AreGroups (by_client table.now.entries) ops.now groups.items) }
@@ -49,6 +50,7 @@ fn groups_of(
 ) -> Result<Vec<Group>, NoMemory>
     requires kept { AreKept (by_client table.now.entries) }
     requires nothing { nothing.now ≡ nothing_held }
+    requires clients { AreOfClients ops.now }
     requires made { AllByRecursion (λ op. IsTrue (is_well_made op)) ops.now }
     ensures groups { IfOk result (λ groups.
         AreGroups (by_client table.now.entries) ops.now groups.items) }
@@ -73,6 +75,7 @@ fn add_to_group(
 ) -> Result<(), NoMemory>
     requires kept { AreKept (by_client table.now.entries) }
     requires nothing { nothing.now ≡ nothing_held }
+    requires client { is_of_client op.now ≡ true }
     requires made { IsTrue (is_well_made op.now) }
     requires groups { (D : List Op) × AreGroups (by_client table.now.entries) D groups.old.items }
     requires sorted { T (is_sorted client_cmp groups.old.items) }
@@ -100,6 +103,7 @@ fn add_to_group(
 /// The group of a client with its first operation.
 fn begun(alloc: Global, entry: &Entry, op: &Op) -> Result<Group, NoMemory>
     requires entry { IsEntry (client_of op.now) entry.now }
+    requires client { is_of_client op.now ≡ true }
     requires made { IsTrue (is_well_made op.now) }
     ensures client { IfOk result (λ group. group.0 ≡ client_of op.now) }
     ensures fresh { IfOk result (λ group. IsBegun (client_of op.now) entry.now group.1 op.now) }

@@ -4,13 +4,12 @@ ghost use Rattle.std.specs.Prelude.{◌≡◌, ◌+◌, ◌++◌, ◌∷◌, ◌
 ghost use Rattle.std.specs.FinMap.{find};
 ghost use Rattle.rep_op.specs.Orders.{client_cmp};
 ghost use Rattle.rep_op.specs.declared.op.Op.TheVariants.{Session as OfSession, Put as OfPut};
-ghost use Rattle.rep_model.specs.Held.{IsHeld};
 ghost use Rattle.rep_model.specs.declared.fault.TheConstants.{MOST_CLIENTS};
 ghost use Rattle.rep_shared.specs.Rows.{flat, own, has_any, count_named};
 ghost use Rattle.rep_shared.specs.inner.Rows.{named_rows};
 ghost use Rattle.rep_entry.specs.Entries.{row_of};
 ghost use Rattle.rep_log.specs.Kept.{of_log, of_mail};
-ghost use Rattle.rep_state.specs.Tables.{by_client, rows_of, IsTable, ArePlaces};
+ghost use Rattle.rep_state.specs.Tables.{by_client, rows_of, ArePlaces};
 ghost use Rattle.rep_state.specs.inner.Tables.{own_of_all};
 ghost use Rattle.rep_state.specs.Interests.{AreMarked};
 ghost use Rattle.rep_state.specs.inner.Interests.{AreSilent, IsNext};
@@ -20,7 +19,7 @@ use super::table::{Table, entry_of, has_operations};
 use octets::NoMemory;
 use rep_entry::{Entry, mark_of};
 use rep_log::NamedOp;
-use rep_ops::{ClientId, Delta, Op, Put, Stamp, deltas_of};
+use rep_ops::{ClientId, Op, Put, Stamp};
 use sn_session::SessionOp;
 use sn_topic::TopicName;
 use std::alloc::Global;
@@ -135,19 +134,8 @@ pub(crate) fn next_asking<'a>(
     Some((at + 1, client, entry))
 }
 
-/// What is kept, as deltas.
-pub(crate) fn held(alloc: Global, table: &Table, places: &[Place]) -> Result<Vec<Delta>, NoMemory>
-    requires places { ArePlaces table.now.entries places.now }
-    requires table { (n : ℕ) × IsTable (by_client table.now.entries) n }
-    ensures { IfOk result (λ deltas.
-        IsHeld (flat (rows_of (by_client table.now.entries))) deltas.items) }
-{
-    let kept = kept_ops(alloc, table, places)?;
-    Ok(deltas_of(alloc, kept)?)
-}
-
 /// What is kept, client by client.
-fn kept_ops(alloc: Global, table: &Table, places: &[Place]) -> Result<Vec<Op>, NoMemory>
+pub(crate) fn kept_ops(alloc: Global, table: &Table, places: &[Place]) -> Result<Vec<Op>, NoMemory>
     requires { ArePlaces table.now.entries places.now }
     ensures { IfOk result (λ kept. kept.items ≡ flat (rows_of (by_client table.now.entries))) }
 {

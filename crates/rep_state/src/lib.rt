@@ -1,17 +1,18 @@
 //! The folded replica of a set of operations (`Folded`): it forgets what no answer needs.
 //!
-//! Of a client only what must be kept is held (`rep_entry`): the session operations of the visible
-//! stamp and those above it, which wait for their Take; the messages that wait, in the order of
-//! delivery; and per origin the acknowledged numbers as ranges. The view and the counts stand
-//! beside them, and are never worked out from the past again.
+//! Of topics what was retained last is held (`rep_whole`). Of a client only what must be kept is
+//! held (`rep_entry`): the session operations of the visible stamp and those above it, which wait
+//! for their Take; the messages that wait, in the order of delivery; and per origin the
+//! acknowledged numbers as ranges. The view and the counts stand beside them, and are never worked
+//! out from the past again.
 //!
-//! A delta is taken in two steps. `prepare` tests it against what is kept, before it changes
+//! Operations are taken in two steps. `prepare` tests it against what is kept, before it changes
 //! anything; works out what it makes of each client that it names; counts what the limits speak of;
 //! and makes places for new clients, and room for new messages and session operations. `commit`
 //! moves what was worked out into its places, or after what is there, for which no memory is
 //! needed.
 //!
-//! - `replica`: the replica and what it promises (`Folded`, `Staged`).
+//! - `replica`: the replica of clients and what it promises (`FoldedClients`, `Staged`).
 //! - `table`, `room`: the table of clients, the limits, room for fresh entries and their move.
 //! - `places`: the clients in order, each with the marks of what it asks for; the next that a
 //!   publication may be for.
@@ -37,4 +38,8 @@ mod table;
 
 pub use octets::NoMemory;
 pub use rep_model::{ClientView, Limit, Puts, Replica, TakeFault};
-pub use replica::{Folded, Staged};
+pub use rep_whole::Whole;
+pub use replica::{FoldedClients, Staged};
+
+/// The folded replica: the folded one of clients, and a table of topics.
+pub type Folded = Whole<FoldedClients>;

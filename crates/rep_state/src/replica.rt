@@ -1,25 +1,27 @@
-//! The folded replica.
+//! The folded replica of the operations of clients.
 
 ghost use Rattle.std.specs.Prelude.{◌≡◌};
 
 use super::agreeing::check;
 use super::grouping::{grown, worked_out};
-use super::held::{held, named_at, named_clients, next_asking};
+use super::held::{kept_ops, named_at, named_clients, next_asking};
 use super::numbers::{last_epoch, last_seq};
 use super::places::Place;
 use super::room::{make_room, move_in};
 use super::table::{Table, count_new, entry_of, passed};
 use indexmap::IndexMap;
+use octets::NoMemory;
 use rep_entry::Change;
-use rep_model::{ClientView, Replica, TakeFault};
-use rep_ops::{ClientId, Delta};
+use rep_model::{ClientView, TakeFault};
+use rep_ops::{ClientId, Op};
+use rep_shared::ClientSet;
 use sn_topic::TopicName;
 use std::alloc::Global;
 use std::marker::Model;
 
-/// The folded replica: of each client what must be kept, and what it comes to.
+/// Of each client what must be kept, and what it comes to.
 #[derive(Debug, Drop)]
-pub struct Folded {
+pub struct FoldedClients {
     /// The clients. An empty place is seen by no query.
     table: Table,
     /// Their names in ascending order, each with the index of its entry and the marks of what it
@@ -29,7 +31,7 @@ pub struct Folded {
     named: usize,
 }
 
-impl Model for Folded {
+impl Model for FoldedClients {
     ghost use Rattle.std.specs.Prelude.{List, ℕ};
     ghost use Rattle.rep_op.specs.declared.op.Op.{Op};
 
@@ -45,7 +47,7 @@ impl Model for Folded {
         × AreMarked (by_client p.table.entries) p.places.items };
 }
 
-/// A delta that fits: what becomes of the clients that it names once it is taken.
+/// Operations that fit: what becomes of the clients that they name once they are taken.
 #[derive(Debug, Drop)]
 pub struct Staged {
     /// The changes, each under the octets of its client.
@@ -67,7 +69,7 @@ impl Model for Staged {
     ghost invariant = { λ s. AreStaged (staged_of s.changes.items) × (s.named ≤ MOST_CLIENTS) };
 }
 
-impl Replica for Folded {
+impl ClientSet for FoldedClients {
     ghost use Rattle.std.specs.Prelude.{◌≡◌};
     ghost use Rattle.rep_shared.specs.Rows.{flat, moved, count_named};
     ghost use Rattle.rep_entry.specs.Staging.{planned, AreReady};
@@ -81,16 +83,15 @@ impl Replica for Folded {
     ghost ready = { λ rows staged. AreReady rows staged.0
         × (staged.1 ≡ count_named (moved rows (planned rows staged.0))) };
 
-    fn empty(alloc: Global) -> Result<Folded, TakeFault> {
-        Ok(Folded {
+    fn empty(alloc: Global) -> Result<FoldedClients, TakeFault> {
+        Ok(FoldedClients {
             table: IndexMap::new(alloc),
             places: Vec::new(alloc),
             named: 0,
         })
     }
 
-    fn prepare(&mut self, alloc: Global, delta: &Delta) -> Result<Staged, TakeFault> {
-        let ops = delta.ops();
+    fn prepare(&mut self, alloc: Global, ops: &[Op]) -> Result<Staged, TakeFault> {
         check(alloc, &self.table, ops)?;
         let groups = grown(alloc, &self.table, ops)?;
         let changes = worked_out(alloc, &self.table, groups)?;
@@ -144,7 +145,7 @@ impl Replica for Folded {
         last_seq(&self.table, client, gateway).checked_add(1)
     }
 
-    fn held(&self, alloc: Global) -> Result<Vec<Delta>, TakeFault> {
-        Ok(held(alloc, &self.table, self.places.as_slice())?)
+    fn to_keep(&self, alloc: Global) -> Result<Vec<Op>, NoMemory> {
+        kept_ops(alloc, &self.table, self.places.as_slice())
     }
 }

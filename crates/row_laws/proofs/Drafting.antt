@@ -1,5 +1,5 @@
 -- The plan of a row is the plan of a draft; the rows of connections and topics make no message.
-use Rattle.std.proofs.Common.{◌≡◌, ℕ, ◌==◌, Bool, true, false, if◌then◌else◌, nat_lt, List, [], length, Option, Some, None, refl, sym, subst}
+use Rattle.std.proofs.Common.{◌≡◌, ℕ, ◌==◌, Bool, true, false, if◌then◌else◌, nat_lt, List, [], length, Option, Some, None, refl, inl}
 use Rattle.sn_topic.specs.Table.{Entries}
 use Rattle.sn_session.specs.declared.session.Session.{Session}
 use Rattle.sn_session.specs.declared.will.WillTopic.{WillTopic}
@@ -17,7 +17,7 @@ use Rattle.sn_local.specs.declared.local.WillDialog.{WillDialog}
 use Rattle.sn_plan.specs.declared.plan.Plan.{Plan}
 use Rattle.sn_plan.specs.declared.row.Row.{Row}
 use Rattle.sn_plan.specs.declared.row.Follow.TheVariants.{Nothing, Resend}
-use Rattle.sn_plan.specs.Drafts.{Drafted}
+use Rattle.sn_plan.specs.Drafts.{Drafted, nothing}
 use Rattle.sn_plan.specs.Numbering.{planned}
 use Rattle.sn_local.specs.Seen.{Seen}
 use Rattle.sn_plan.specs.Plans.{plan_of_puts}
@@ -30,152 +30,168 @@ use Rattle.sn_flow.specs.Accept.{accept, has_no_room}
 use Rattle.sn_flow.specs.Connection.{has_bit, request_of, refusal_of, ask_topic, connect_row, connect, leave, fall_asleep, disconnect_draft, disconnect_of, disconnect}
 use Rattle.sn_flow.specs.Wills.{congestion, not_supported, will_of, dismissed, concluded, topic_given, topic_row, message_row, topic_in, topic_at, will_topic, message_in, message_at, will_msg, topic_update_of, will_topic_update as update_topic, message_update_of, will_msg_update as update_message}
 use Rattle.sn_flow.specs.WillUpdate.{topic_asked}
+use Rattle.sn_subscribe.specs.Handing.{waiting_for}
 use Rattle.sn_subscribe.specs.TopicRows.{register_of, register as register_topic, subscribe_of, subscribe as subscribe_topics, unsubscribe_of, unsubscribe as unsubscribe_topics}
 use Rattle.sn_plan.specs.Others.{other}
-use Rattle.sn_plan.specs.Own.{IsOneEach, IsOfDraft, MakesNoMessage}
+use Rattle.sn_plan.specs.Own.{IsApart, IsOfDraft, MakesNoMessage}
+use Rattle.sn_plan.proofs.Made.{SameMade, for_nobody, no_puts, no_handed, no_retain}
+use Rattle.row_laws.specs.RequestLaws.{HandsNothing}
 use Rattle.row_laws.proofs.Keeping.{of_register, of_subscribe, of_unsubscribe, of_will_topic_update, of_will_msg_update}
 
 module _ (g : ℕ) (seen : Seen) (plan : Plan) where
-  -- messages, frames and local changes are the plan of a draft for any client
-  puts-drafted : (d : Drafted) → IsOneEach d.puts → plan_of_puts g seen d ≡ Some plan → IsOfDraft g seen plan
+  -- what is retained, messages, frames and local changes are the plan of a draft for any client
+  puts-drafted : (d : Drafted) → IsApart d → plan_of_puts g seen d ≡ Some plan → IsOfDraft g seen plan
   unfolding planned
-  puts-drafted d one e = record {
+  puts-drafted d apart e = record {
     client = [];
-    draft = record { changes = []; acks = []; puts = d.puts; sends = d.sends; local = d.local };
-    one_each = one;
+    draft = for_nobody d;
+    apart = record { one_each = apart.one_each; alone = inl refl };
     is = e;
   }
 
-  for-drafted : (d : Drafted) (client : Option (List ℕ)) → IsOneEach d.puts → plan_for g seen d client ≡ Some plan → IsOfDraft g seen plan
-  for-drafted d None one e = puts-drafted d one e
-  for-drafted d (Some c) one e = record { client = c; draft = d; one_each = one; is = e }
+  for-drafted : (d : Drafted) (client : Option (List ℕ)) → IsApart d → plan_for g seen d client ≡ Some plan → IsOfDraft g seen plan
+  for-drafted d None apart e = puts-drafted d apart e
+  for-drafted d (Some c) apart e = record { client = c; draft = d; apart = apart; is = e }
 
 -- the plan of a row is the plan of a draft
-pub row-drafted : (g : ℕ) (seen : Seen) (row : Row) (plan : Plan) → IsOneEach row.draft.puts → plan_of_row g seen row ≡ Some plan → IsOfDraft g seen plan
-row-drafted g seen row plan one e = for-drafted g seen plan row.draft row.client one e
+pub row-drafted : (g : ℕ) (seen : Seen) (row : Row) (plan : Plan) → IsApart row.draft → plan_of_row g seen row ≡ Some plan → IsOfDraft g seen plan
+row-drafted g seen row plan apart e = for-drafted g seen plan row.draft row.client apart e
 
--- no message at all is one for each
-pub none-each : (row : Row) → MakesNoMessage row → IsOneEach row.draft.puts
-none-each row h = subst IsOneEach (sym h) tt
+-- the row makes no message, hands nothing and retains nothing
+abbrev pub MakesNothing : Row → Type 0
+MakesNothing row = SameMade row.draft nothing
 
-heard-puts : (bound : Option (List ℕ)) (now : ℕ) (row : Row) → MakesNoMessage row → MakesNoMessage (heard_row bound now row)
-heard-puts None now row h = h
-heard-puts (Some c) now row h = h
+pub no-message : (row : Row) → MakesNothing row → MakesNoMessage row
+no-message row h = (no_puts row.draft h, no_handed row.draft h, no_retain row.draft h)
 
-pub stray-puts : (a : Addr) (bound : Option (List ℕ)) (now : ℕ) → MakesNoMessage (stray a bound now)
-stray-puts a None now = refl
-stray-puts a (Some c) now = refl
+hands-nothing : (d : Drafted) → HandsNothing d → SameMade d nothing
+hands-nothing d h = λ i. (h.leaves.puts i, h.handed i, h.leaves.retain i)
 
-either : (test : Bool) (d e : Row) → MakesNoMessage d → MakesNoMessage e → MakesNoMessage (if test then d else e)
+heard-made : (bound : Option (List ℕ)) (now : ℕ) (row : Row) → MakesNothing row → MakesNothing (heard_row bound now row)
+heard-made None now row h = h
+heard-made (Some c) now row h = h
+
+pub stray-made : (a : Addr) (bound : Option (List ℕ)) (now : ℕ) → MakesNothing (stray a bound now)
+stray-made a None now = refl
+stray-made a (Some c) now = refl
+
+either : (test : Bool) (d e : Row) → MakesNothing d → MakesNothing e → MakesNothing (if test then d else e)
 either true d e h k = h
 either false d e h k = k
 
-either-draft : (test : Bool) (d e : Drafted) → d.puts ≡ [] → e.puts ≡ [] → (if test then d else e).puts ≡ []
+either-draft : (test : Bool) (d e : Drafted) → SameMade d nothing → SameMade e nothing → SameMade (if test then d else e) nothing
 either-draft true d e h k = h
 either-draft false d e h k = k
 
-pub other-puts : (g : ℕ) (local : Local) (a : Addr) (frame : Frame) (now : ℕ) → MakesNoMessage (other g local a frame now)
-other-puts g local a (frames.SearchGw radius) now = refl
-other-puts g local a (frames.Advertise gateway duration) now = refl
-other-puts g local a (frames.GwInfo gateway address) now = refl
-other-puts g local a (frames.ConnAck code) now = refl
-other-puts g local a frames.WillTopicReq now = refl
-other-puts g local a frames.WillMsgReq now = refl
-other-puts g local a (frames.SubAck flags topic_id msg_id code) now = refl
-other-puts g local a (frames.UnsubAck msg_id) now = refl
-other-puts g local a (frames.WillTopicResp code) now = refl
-other-puts g local a (frames.WillMsgResp code) now = refl
-other-puts g local a frame now = stray-puts a (client_at a local.bindings) now
+pub other-made : (g : ℕ) (local : Local) (a : Addr) (frame : Frame) (now : ℕ) → MakesNothing (other g local a frame now)
+other-made g local a (frames.SearchGw radius) now = refl
+other-made g local a (frames.Advertise gateway duration) now = refl
+other-made g local a (frames.GwInfo gateway address) now = refl
+other-made g local a (frames.ConnAck code) now = refl
+other-made g local a frames.WillTopicReq now = refl
+other-made g local a frames.WillMsgReq now = refl
+other-made g local a (frames.SubAck flags topic_id msg_id code) now = refl
+other-made g local a (frames.UnsubAck msg_id) now = refl
+other-made g local a (frames.WillTopicResp code) now = refl
+other-made g local a (frames.WillMsgResp code) now = refl
+other-made g local a frame now = stray-made a (client_at a local.bindings) now
 
-connect_row-puts : (request : Request) (will : Bool) (v : ClientView) (now : ℕ) (code : Option ℕ) → MakesNoMessage (connect_row request will v now code)
-connect_row-puts request will v now (Some code) = refl
-connect_row-puts request will v now None = either will (row_of Nothing request.client (ask_topic request now)) (row_of Resend request.client (accept request AsItIs v now)) refl refl
+connect_row-made : (request : Request) (will : Bool) (v : ClientView) (now : ℕ) (code : Option ℕ) → MakesNothing (connect_row request will v now code)
+connect_row-made request will v now (Some code) = refl
+connect_row-made request will v now None = either will (row_of Nothing request.client (ask_topic request now)) (row_of Resend request.client (accept request AsItIs v now)) refl refl
 
-pub connect-puts : (seen : Seen) (local : Local) (a : Addr) (flags protocol duration : ℕ) (c : List ℕ) (now : ℕ) → MakesNoMessage (connect seen local a flags protocol duration c now)
-connect-puts seen local a flags protocol duration c now =
-    heard-puts (client_at a local.bindings) now (connect_row (request_of a flags duration c) (has_bit flags 3) (seen.of c) now (refusal_of seen local.dialogs a c flags protocol))
-    (connect_row-puts (request_of a flags duration c) (has_bit flags 3) (seen.of c) now (refusal_of seen local.dialogs a c flags protocol))
+pub connect-made : (seen : Seen) (local : Local) (a : Addr) (flags protocol duration : ℕ) (c : List ℕ) (now : ℕ) → MakesNothing (connect seen local a flags protocol duration c now)
+connect-made seen local a flags protocol duration c now =
+    heard-made (client_at a local.bindings) now (connect_row (request_of a flags duration c) (has_bit flags 3) (seen.of c) now (refusal_of seen local.dialogs a c flags protocol))
+    (connect_row-made (request_of a flags duration c) (has_bit flags 3) (seen.of c) now (refusal_of seen local.dialogs a c flags protocol))
 
-disconnect_draft-puts : (a : Addr) (c : List ℕ) (s : Session) (duration : Option ℕ) → (disconnect_draft a c s duration).puts ≡ []
-disconnect_draft-puts a c s None = refl
-disconnect_draft-puts a c s (Some duration) = either-draft (duration == 0) (leave a c s) (fall_asleep a duration) refl refl
+disconnect_draft-made : (a : Addr) (c : List ℕ) (s : Session) (duration : Option ℕ) → SameMade (disconnect_draft a c s duration) nothing
+disconnect_draft-made a c s None = refl
+disconnect_draft-made a c s (Some duration) = either-draft (duration == 0) (leave a c s) (fall_asleep a duration) refl refl
 
-disconnect_of-puts : (seen : Seen) (a : Addr) (bound : Option (List ℕ)) (duration : Option ℕ) (now : ℕ) → MakesNoMessage (disconnect_of seen a bound duration now)
-disconnect_of-puts seen a None duration now = refl
-disconnect_of-puts seen a (Some c) duration now = disconnect_draft-puts a c (session_of seen c) duration
+disconnect_of-made : (seen : Seen) (a : Addr) (bound : Option (List ℕ)) (duration : Option ℕ) (now : ℕ) → MakesNothing (disconnect_of seen a bound duration now)
+disconnect_of-made seen a None duration now = refl
+disconnect_of-made seen a (Some c) duration now = disconnect_draft-made a c (session_of seen c) duration
 
-pub disconnect-puts : (seen : Seen) (local : Local) (a : Addr) (duration : Option ℕ) (now : ℕ) → MakesNoMessage (disconnect seen local a duration now)
-disconnect-puts seen local a duration now = disconnect_of-puts seen a (client_at a local.bindings) duration now
+pub disconnect-made : (seen : Seen) (local : Local) (a : Addr) (duration : Option ℕ) (now : ℕ) → MakesNothing (disconnect seen local a duration now)
+disconnect-made seen local a duration now = disconnect_of-made seen a (client_at a local.bindings) duration now
 
-concluded-puts : (seen : Seen) (request : Request) (given : GivenWill) (now : ℕ) → MakesNoMessage (concluded seen request given now)
-concluded-puts seen request given now = either (has_no_room seen request.client) (dismissed request congestion) (row_of Resend request.client (accept request given (seen.of request.client) now)) refl refl
+concluded-made : (seen : Seen) (request : Request) (given : GivenWill) (now : ℕ) → MakesNothing (concluded seen request given now)
+concluded-made seen request given now = either (has_no_room seen request.client) (dismissed request congestion) (row_of Resend request.client (accept request given (seen.of request.client) now)) refl refl
 
-given-puts : (dialog : WillDialog) (topic : Option WillTopic) → MakesNoMessage (topic_given dialog topic)
-given-puts dialog None = refl
-given-puts dialog (Some topic) = refl
+given-made : (dialog : WillDialog) (topic : Option WillTopic) → MakesNothing (topic_given dialog topic)
+given-made dialog None = refl
+given-made dialog (Some topic) = refl
 
-topic-puts : (seen : Seen) (dialog : WillDialog) (will : Option Will) (now : ℕ) → MakesNoMessage (topic_row seen dialog will now)
-topic-puts seen dialog None now = concluded-puts seen dialog.request Deleted now
-topic-puts seen dialog (Some will) now = given-puts dialog (topic_asked will)
+topic-made : (seen : Seen) (dialog : WillDialog) (will : Option Will) (now : ℕ) → MakesNothing (topic_row seen dialog will now)
+topic-made seen dialog None now = concluded-made seen dialog.request Deleted now
+topic-made seen dialog (Some will) now = given-made dialog (topic_asked will)
 
-message-puts : (seen : Seen) (request : Request) (topic : WillTopic) (message : List ℕ) (now : ℕ) → MakesNoMessage (message_row seen request topic message now)
-message-puts seen request topic message now =
-    either (nat_lt 4096 (length message)) (dismissed request not_supported) (concluded seen request (Replaced (will_of topic message)) now) refl (concluded-puts seen request (Replaced (will_of topic message)) now)
+message-made : (seen : Seen) (request : Request) (topic : WillTopic) (message : List ℕ) (now : ℕ) → MakesNothing (message_row seen request topic message now)
+message-made seen request topic message now =
+    either (nat_lt 4096 (length message)) (dismissed request not_supported) (concluded seen request (Replaced (will_of topic message)) now) refl (concluded-made seen request (Replaced (will_of topic message)) now)
 
 module _ (seen : Seen) (a : Addr) (now : ℕ) where
-  topic_in-puts : (bound : Option (List ℕ)) (dialog : WillDialog) (will : Option Will) (awaited : Awaited) → MakesNoMessage (topic_in seen a bound dialog will now awaited)
-  topic_in-puts bound dialog will Topic = heard-puts bound now (topic_row seen dialog will now) (topic-puts seen dialog will now)
-  topic_in-puts bound dialog will (Message topic) = stray-puts a bound now
+  topic_in-made : (bound : Option (List ℕ)) (dialog : WillDialog) (will : Option Will) (awaited : Awaited) → MakesNothing (topic_in seen a bound dialog will now awaited)
+  topic_in-made bound dialog will Topic = heard-made bound now (topic_row seen dialog will now) (topic-made seen dialog will now)
+  topic_in-made bound dialog will (Message topic) = stray-made a bound now
 
-  topic_at-puts : (bound : Option (List ℕ)) (dialog : Option WillDialog) (will : Option Will) → MakesNoMessage (topic_at seen a bound dialog will now)
-  topic_at-puts bound None will = stray-puts a bound now
-  topic_at-puts bound (Some dialog) will = topic_in-puts bound dialog will dialog.awaited
+  topic_at-made : (bound : Option (List ℕ)) (dialog : Option WillDialog) (will : Option Will) → MakesNothing (topic_at seen a bound dialog will now)
+  topic_at-made bound None will = stray-made a bound now
+  topic_at-made bound (Some dialog) will = topic_in-made bound dialog will dialog.awaited
 
-  message_in-puts : (bound : Option (List ℕ)) (request : Request) (message : List ℕ) (awaited : Awaited) → MakesNoMessage (message_in seen a bound request message now awaited)
-  message_in-puts bound request message Topic = stray-puts a bound now
-  message_in-puts bound request message (Message topic) = heard-puts bound now (message_row seen request topic message now) (message-puts seen request topic message now)
+  message_in-made : (bound : Option (List ℕ)) (request : Request) (message : List ℕ) (awaited : Awaited) → MakesNothing (message_in seen a bound request message now awaited)
+  message_in-made bound request message Topic = stray-made a bound now
+  message_in-made bound request message (Message topic) = heard-made bound now (message_row seen request topic message now) (message-made seen request topic message now)
 
-  message_at-puts : (bound : Option (List ℕ)) (dialog : Option WillDialog) (message : List ℕ) → MakesNoMessage (message_at seen a bound dialog message now)
-  message_at-puts bound None message = stray-puts a bound now
-  message_at-puts bound (Some dialog) message = message_in-puts bound dialog.request message dialog.awaited
+  message_at-made : (bound : Option (List ℕ)) (dialog : Option WillDialog) (message : List ℕ) → MakesNothing (message_at seen a bound dialog message now)
+  message_at-made bound None message = stray-made a bound now
+  message_at-made bound (Some dialog) message = message_in-made bound dialog.request message dialog.awaited
 
-  register_of-puts : (bound : Option (List ℕ)) (msg_id : ℕ) (name : List ℕ) → MakesNoMessage (register_of seen a bound msg_id name now)
-  register_of-puts None msg_id name = refl
-  register_of-puts (Some c) msg_id name = (of_register a (session_of seen c) msg_id name).puts
+  register_of-made : (bound : Option (List ℕ)) (msg_id : ℕ) (name : List ℕ) → MakesNothing (register_of seen a bound msg_id name now)
+  register_of-made None msg_id name = refl
+  register_of-made (Some c) msg_id name = hands-nothing _ (of_register a (session_of seen c) msg_id name)
 
-  subscribe_of-puts : (predefined : Entries) (bound : Option (List ℕ)) (bits msg_id : ℕ) (field : List ℕ) → MakesNoMessage (subscribe_of predefined seen a bound bits msg_id field now)
+  subscribe_of-puts : (predefined : Entries) (bound : Option (List ℕ)) (bits msg_id : ℕ) (field : List ℕ) → (subscribe_of predefined seen a bound bits msg_id field now).draft.puts ≡ []
   subscribe_of-puts predefined None bits msg_id field = refl
-  subscribe_of-puts predefined (Some c) bits msg_id field = (of_subscribe predefined a (session_of seen c) bits msg_id field).puts
+  subscribe_of-puts predefined (Some c) bits msg_id field = (of_subscribe predefined seen (waiting_for seen c) a (session_of seen c) bits msg_id field).puts
 
-  unsubscribe_of-puts : (predefined : Entries) (bound : Option (List ℕ)) (bits msg_id : ℕ) (field : List ℕ) → MakesNoMessage (unsubscribe_of predefined seen a bound bits msg_id field now)
-  unsubscribe_of-puts predefined None bits msg_id field = refl
-  unsubscribe_of-puts predefined (Some c) bits msg_id field = (of_unsubscribe predefined a (session_of seen c) bits msg_id field).puts
+  subscribe_of-retain : (predefined : Entries) (bound : Option (List ℕ)) (bits msg_id : ℕ) (field : List ℕ) → (subscribe_of predefined seen a bound bits msg_id field now).draft.retain ≡ None
+  subscribe_of-retain predefined None bits msg_id field = refl
+  subscribe_of-retain predefined (Some c) bits msg_id field = (of_subscribe predefined seen (waiting_for seen c) a (session_of seen c) bits msg_id field).retain
 
-  message_update_of-puts : (bound : Option (List ℕ)) (message : List ℕ) → MakesNoMessage (message_update_of seen a bound message now)
-  message_update_of-puts None message = refl
-  message_update_of-puts (Some c) message = (of_will_msg_update a (session_of seen c) message).puts
+  unsubscribe_of-made : (predefined : Entries) (bound : Option (List ℕ)) (bits msg_id : ℕ) (field : List ℕ) → MakesNothing (unsubscribe_of predefined seen a bound bits msg_id field now)
+  unsubscribe_of-made predefined None bits msg_id field = refl
+  unsubscribe_of-made predefined (Some c) bits msg_id field = hands-nothing _ (of_unsubscribe predefined a (session_of seen c) bits msg_id field)
 
-  pub will_topic-puts : (local : Local) (will : Option Will) → MakesNoMessage (will_topic seen local a will now)
-  will_topic-puts local will = topic_at-puts (client_at a local.bindings) (dialog_at a local.dialogs) will
+  message_update_of-made : (bound : Option (List ℕ)) (message : List ℕ) → MakesNothing (message_update_of seen a bound message now)
+  message_update_of-made None message = refl
+  message_update_of-made (Some c) message = hands-nothing _ (of_will_msg_update a (session_of seen c) message)
 
-  pub will_msg-puts : (local : Local) (message : List ℕ) → MakesNoMessage (will_msg seen local a message now)
-  will_msg-puts local message = message_at-puts (client_at a local.bindings) (dialog_at a local.dialogs) message
+  pub will_topic-made : (local : Local) (will : Option Will) → MakesNothing (will_topic seen local a will now)
+  will_topic-made local will = topic_at-made (client_at a local.bindings) (dialog_at a local.dialogs) will
 
-  pub register-puts : (local : Local) (msg_id : ℕ) (name : List ℕ) → MakesNoMessage (register_topic seen local a msg_id name now)
-  register-puts local msg_id name = register_of-puts (client_at a local.bindings) msg_id name
+  pub will_msg-made : (local : Local) (message : List ℕ) → MakesNothing (will_msg seen local a message now)
+  will_msg-made local message = message_at-made (client_at a local.bindings) (dialog_at a local.dialogs) message
 
-  pub subscribe-puts : (predefined : Entries) (local : Local) (bits msg_id : ℕ) (field : List ℕ) → MakesNoMessage (subscribe_topics predefined seen local a bits msg_id field now)
+  pub register-made : (local : Local) (msg_id : ℕ) (name : List ℕ) → MakesNothing (register_topic seen local a msg_id name now)
+  register-made local msg_id name = register_of-made (client_at a local.bindings) msg_id name
+
+  pub subscribe-puts : (predefined : Entries) (local : Local) (bits msg_id : ℕ) (field : List ℕ) → (subscribe_topics predefined seen local a bits msg_id field now).draft.puts ≡ []
   subscribe-puts predefined local bits msg_id field = subscribe_of-puts predefined (client_at a local.bindings) bits msg_id field
 
-  pub unsubscribe-puts : (predefined : Entries) (local : Local) (bits msg_id : ℕ) (field : List ℕ) → MakesNoMessage (unsubscribe_topics predefined seen local a bits msg_id field now)
-  unsubscribe-puts predefined local bits msg_id field = unsubscribe_of-puts predefined (client_at a local.bindings) bits msg_id field
+  pub subscribe-retain : (predefined : Entries) (local : Local) (bits msg_id : ℕ) (field : List ℕ) → (subscribe_topics predefined seen local a bits msg_id field now).draft.retain ≡ None
+  subscribe-retain predefined local bits msg_id field = subscribe_of-retain predefined (client_at a local.bindings) bits msg_id field
 
-  pub will_msg_update-puts : (local : Local) (message : List ℕ) → MakesNoMessage (update_message seen local a message now)
-  will_msg_update-puts local message = message_update_of-puts (client_at a local.bindings) message
+  pub unsubscribe-made : (predefined : Entries) (local : Local) (bits msg_id : ℕ) (field : List ℕ) → MakesNothing (unsubscribe_topics predefined seen local a bits msg_id field now)
+  unsubscribe-made predefined local bits msg_id field = unsubscribe_of-made predefined (client_at a local.bindings) bits msg_id field
 
-topic_update_of-puts : (a : Addr) (bound : Option (List ℕ)) (will : Option Will) (now : ℕ) → MakesNoMessage (topic_update_of a bound will now)
-topic_update_of-puts a None will now = refl
-topic_update_of-puts a (Some c) will now = (of_will_topic_update a will).puts
+  pub will_msg_update-made : (local : Local) (message : List ℕ) → MakesNothing (update_message seen local a message now)
+  will_msg_update-made local message = message_update_of-made (client_at a local.bindings) message
 
-pub will_topic_update-puts : (local : Local) (a : Addr) (will : Option Will) (now : ℕ) → MakesNoMessage (update_topic local a will now)
-will_topic_update-puts local a will now = topic_update_of-puts a (client_at a local.bindings) will now
+topic_update_of-made : (a : Addr) (bound : Option (List ℕ)) (will : Option Will) (now : ℕ) → MakesNothing (topic_update_of a bound will now)
+topic_update_of-made a None will now = refl
+topic_update_of-made a (Some c) will now = hands-nothing _ (of_will_topic_update a will)
+
+pub will_topic_update-made : (local : Local) (a : Addr) (will : Option Will) (now : ℕ) → MakesNothing (update_topic local a will now)
+will_topic_update-made local a will now = topic_update_of-made a (client_at a local.bindings) will now

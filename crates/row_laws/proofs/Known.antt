@@ -5,9 +5,9 @@ use Rattle.std.proofs.lemmas.Option.{none-some}
 use Rattle.rep_op.specs.declared.op.Stamp.{Stamp}
 use Rattle.rep_op.specs.declared.op.Op.{Op}
 use Rattle.rep_op.specs.Orders.{operation_cmp}
-use Rattle.rep_op.specs.Sets.{operation_at, put_at, is_acknowledged, Same}
+use Rattle.rep_op.specs.Sets.{operation_at, put_at, is_acknowledged, retain_at, Same}
 use Rattle.rep_model.proofs.Lookup.{or_else}
-use Rattle.rep_model.proofs.Readers.{operation_at_both, put_at_both, is_acknowledged_both}
+use Rattle.rep_model.proofs.Readers.{operation_at_both, put_at_both, is_acknowledged_both, retain_at_both}
 use Rattle.sn_plan.specs.declared.plan.Plan.{Plan}
 use Rattle.sn_plan.specs.Drafts.{Drafted}
 use Rattle.sn_local.specs.Seen.{Seen, seen_of}
@@ -47,4 +47,5 @@ same-behind S ops delta same = record {
   operations_same = λ c name. operation_at_both c S delta name ∙ ap (or_else (operation_at c S name)) (same.operations_same c name) ∙ sym (operation_at_both c S ops name);
   puts_same = λ c name. put_at_both c S delta name ∙ ap (or_else (put_at c S name)) (same.puts_same c name) ∙ sym (put_at_both c S ops name);
   acknowledgements_same = λ c name. is_acknowledged_both c S delta name ∙ ap (λ b. is_acknowledged c S name || b) (same.acknowledgements_same c name) ∙ sym (is_acknowledged_both c S ops name);
+  retains_same = λ t name. retain_at_both t S delta name ∙ ap (or_else (retain_at t S name)) (same.retains_same t name) ∙ sym (retain_at_both t S ops name);
 }

@@ -6,20 +6,20 @@ use Rattle.std.proofs.lemmas.Bool.{or_cases, and_parts, or_from}
 use Rattle.std.proofs.lemmas.List.Elements.{Contains-push, Contains-append_left, Contains-append_right}
 use Rattle.rep_op.specs.declared.op.Put.{Put}
 use Rattle.rep_op.specs.declared.op.Op.{Op}
-use Rattle.rep_op.specs.declared.op.Op.TheVariants.{Session as OfSession, Put as OfPut, Ack}
+use Rattle.rep_op.specs.declared.op.Op.TheVariants.{Session as OfSession, Put as OfPut, Ack, Retain as OfRetain}
 use Rattle.rep_op.specs.Sets.{same_client, put_at, acknowledges, is_acknowledged}
 use Rattle.rep_model.specs.Views.{pending_at, view}
-use Rattle.rep_model.specs.Fresh.{next_epoch, next_seq}
+use Rattle.rep_model.specs.Fresh.{next_epoch, next_seq, next_clock}
 use Rattle.rep_model.proofs.Readers.{same_client-true, is_acknowledged_both}
 use Rattle.rep_model.proofs.Thin.{pending_at-reads}
 use Rattle.rep_model.proofs.Joins.{within-left, pending-leaves}
 use Rattle.sn_plan.specs.declared.plan.Plan.{Plan}
 use Rattle.sn_plan.specs.Drafts.{Drafted}
-use Rattle.sn_plan.specs.Numbering.{Written, with_puts, written, start_of, ack_of}
+use Rattle.sn_plan.specs.Numbering.{Written, with_puts, with_handed, with_retain, written, start_of, ack_of}
 use Rattle.sn_local.specs.Seen.{seen_of}
 use Rattle.sn_plan.specs.Plans.{plan_of}
 use Rattle.sn_plan.proofs.Lists.{all-weaken}
-use Rattle.row_laws.proofs.Planned.{IsNumbered, puts-behind, Parts, planned-parts}
+use Rattle.row_laws.proofs.Planned.{IsNumbered, Parts, planned-parts, parts-more}
 use Rattle.row_laws.proofs.Names.{IsWritten, start-written}
 use Rattle.std.proofs.lemmas.Option.{same_Some}
 
@@ -32,11 +32,13 @@ written-acks : (g : ℕ) (c e : List ℕ) (name : ℕ × ℕ) (op : Op) → IsWr
 written-acks g c e name (OfSession d stamp counter change) h = refl
 written-acks g c e name (OfPut d p) h = refl
 written-acks g c e name (Ack d origin first last) h = absurd h
+written-acks g c e name (OfRetain topic kept) h = absurd h
 
-numbered-acks : (g : ℕ) (seq : List ℕ → Option ℕ) (e : List ℕ) (name : ℕ × ℕ) (op : Op) → IsNumbered g seq op → acknowledges e name op ≡ false
-numbered-acks g seq e name (OfSession d stamp counter change) h = refl
-numbered-acks g seq e name (OfPut d p) h = refl
-numbered-acks g seq e name (Ack d origin first last) h = absurd h
+numbered-acks : (g : ℕ) (seq clock : List ℕ → Option ℕ) (e : List ℕ) (name : ℕ × ℕ) (op : Op) → IsNumbered g seq clock op → acknowledges e name op ≡ false
+numbered-acks g seq clock e name (OfSession d stamp counter change) h = refl
+numbered-acks g seq clock e name (OfPut d p) h = refl
+numbered-acks g seq clock e name (Ack d origin first last) h = absurd h
+numbered-acks g seq clock e name (OfRetain topic kept) h = refl
 
 -- the acknowledgement of one put
 one-acked : (c e : List ℕ) (name own : ℕ × ℕ) → acknowledges e name (ack_of c own) ≡ true → (e ≡ c) × (own ≡ name)
@@ -75,16 +77,19 @@ module _ (g : ℕ) (c : List ℕ) (S : List Op) (d : Drafted) (plan : Plan) (pla
   abbrev seq_of_step : List ℕ → Option ℕ
   seq_of_step e = next_seq e g S
 
-  cut : Parts g c (view c S) (next_epoch c S) (λ e. next_seq e g S) d plan.ops
-  cut = planned-parts g c (view c S) (next_epoch c S) (λ e. next_seq e g S) d plan planned
+  abbrev clock_of_step : List ℕ → Option ℕ
+  clock_of_step t = next_clock t S
+
+  cut : Parts g c (view c S) (next_epoch c S) (λ e. next_seq e g S) (λ t. next_clock t S) d plan.ops
+  cut = planned-parts g c (view c S) (next_epoch c S) (λ e. next_seq e g S) (λ t. next_clock t S) d plan planned
 
   pub acked-plan : (e : List ℕ) (name : ℕ × ℕ) → is_acknowledged e plan.ops name ≡ is_acknowledged e (map (ack_of c) d.acks) name
   acked-plan e name =
       let acks : List Op = map (ack_of c) d.acks in
       let before : List Op = cut.w.ops ++ acks in
-      let b = puts-behind g seq_of_step d.puts before plan.ops cut.is_numbered in
+      let b = parts-more g c (view c S) (next_epoch c S) seq_of_step clock_of_step d plan.ops cut in
       let none : is_acknowledged e cut.w.ops name ≡ false = none-acked e name cut.w.ops (all-weaken (IsWritten g c) (λ op. acknowledges e name op ≡ false) (written-acks g c e name) cut.w.ops (start-written g c (view c S) (next_epoch c S) d.changes cut.w cut.is_written)) in
-      let more : is_acknowledged e b.0 name ≡ false = none-acked e name b.0 (all-weaken (IsNumbered g seq_of_step) (λ op. acknowledges e name op ≡ false) (numbered-acks g seq_of_step e name) b.0 b.2) in
+      let more : is_acknowledged e b.0 name ≡ false = none-acked e name b.0 (all-weaken (IsNumbered g seq_of_step clock_of_step) (λ op. acknowledges e name op ≡ false) (numbered-acks g seq_of_step clock_of_step e name) b.0 b.2) in
       ap (λ ops. is_acknowledged e ops name) b.1
       ∙ is_acknowledged_both e before b.0 name
       ∙ ap (λ m. is_acknowledged e before name || m) more
@@ -102,10 +107,13 @@ module _ (g : ℕ) (c : List ℕ) (S : List Op) (d : Drafted) (plan : Plan) (pla
             inr (w.0, subst (λ x. is_acknowledged x plan.ops name ≡ true) w.0 new, w.1)
       ]
 
-  pub plan-quiet : d.changes ≡ [] → d.acks ≡ [] → d.puts ≡ [] → plan.ops ≡ []
-  plan-quiet changes acks puts =
+  pub plan-quiet : d.changes ≡ [] → d.acks ≡ [] → d.handed ≡ [] → d.retain ≡ None → d.puts ≡ [] → plan.ops ≡ []
+  plan-quiet changes acks handed retain puts =
       let start : Written = start_of g (view c S) (next_epoch c S) in
+      let before : List Op = cut.w.ops ++ map (ack_of c) d.acks in
       let first : written c g [] start ≡ Some cut.w = ap (λ xs. written c g xs start) (sym changes) ∙ cut.is_written in
       let ops : cut.w.ops ≡ [] = ap (λ (w : Written). w.ops) (sym (same_Some start cut.w first)) in
-      let last : with_puts g seq_of_step [] (cut.w.ops ++ map (ack_of c) d.acks) ≡ Some plan.ops = ap (λ xs. with_puts g seq_of_step xs (cut.w.ops ++ map (ack_of c) d.acks)) (sym puts) ∙ cut.is_numbered in
-      sym (same_Some (cut.w.ops ++ map (ack_of c) d.acks) plan.ops last) ∙ (λ i. ops i ++ map (ack_of c) (acks i))
+      let given : with_handed g c (seq_of_step c) [] before ≡ Some cut.handed = ap (λ xs. with_handed g c (seq_of_step c) xs before) (sym handed) ∙ cut.is_handed in
+      let kept : with_retain g clock_of_step None cut.handed ≡ Some cut.kept = ap (λ posted. with_retain g clock_of_step posted cut.handed) (sym retain) ∙ cut.is_kept in
+      let last : with_puts g seq_of_step [] cut.kept ≡ Some plan.ops = ap (λ xs. with_puts g seq_of_step xs cut.kept) (sym puts) ∙ cut.is_numbered in
+      sym (same_Some cut.kept plan.ops last) ∙ sym (same_Some cut.handed cut.kept kept) ∙ sym (same_Some before cut.handed given) ∙ (λ i. ops i ++ map (ack_of c) (acks i))

@@ -10,6 +10,7 @@ pub mod Carried
 pub mod Outcomes
 pub mod Freshness
 pub mod Leaving
+pub mod Retaining
 pub mod Waiting
 pub mod Known
 pub mod Flushness

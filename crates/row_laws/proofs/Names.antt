@@ -1,9 +1,9 @@
 -- The names that a plan writes under are the gateway's own.
-use Rattle.std.proofs.Common.{◌≡◌, ℕ, List, ◌++◌, map, Option, Some, refl, sym, subst, true, false, if◌then◌else◌, None, IfSome}
-use Rattle.std.specs.List.{AllByRecursion}
+use Rattle.std.proofs.Common.{◌≡◌, ℕ, List, [], ◌++◌, map, Option, Some, refl, sym, subst, true, false, if◌then◌else◌, None, IfSome}
+use Rattle.std.specs.List.{AllByRecursion, filter_map}
 use Rattle.sn_session.specs.declared.change.SessionOp.{SessionOp}
 use Rattle.rep_op.specs.declared.op.Op.{Op}
-use Rattle.rep_op.specs.declared.op.Op.TheVariants.{Session as OfSession, Put as OfPut, Ack}
+use Rattle.rep_op.specs.declared.op.Op.TheVariants.{Session as OfSession, Put as OfPut, Ack, Retain as OfRetain}
 use Rattle.rep_op.specs.declared.op.Stamp.{Stamp}
 use Rattle.rep_op.specs.Orders.{operation_cmp}
 use Rattle.rep_op.specs.Sets.{same_client, operation_of, operation_at}
@@ -17,14 +17,15 @@ use Rattle.sn_local.specs.Seen.{Seen}
 use Rattle.sn_plan.specs.Plans.{plan_of}
 use Rattle.sn_plan.specs.Own.{IsOwn, HasNoneOf}
 use Rattle.sn_plan.specs.Flush.{stamp_of}
-use Rattle.sn_plan.proofs.Lists.{all-append, all-weaken, all-map}
-use Rattle.row_laws.proofs.Planned.{written-keeps, IsNumbered, puts-behind, planned-parts}
+use Rattle.sn_plan.proofs.Lists.{all-append, all-weaken, all-map, none_pass}
+use Rattle.row_laws.proofs.Planned.{written-keeps, IsNumbered, planned-parts, parts-more}
 
 -- a session operation of the client, under a stamp of the gateway
 abbrev pub IsWritten : ℕ → List ℕ → Op → Type 0
 IsWritten g c (OfSession d stamp counter change) = (d ≡ c) × (stamp.gateway ≡ g)
 IsWritten g c (OfPut d p) = ⊥
 IsWritten g c (Ack d origin first last) = ⊥
+IsWritten g c (OfRetain topic kept) = ⊥
 
 module _ (g : ℕ) (c : List ℕ) where
   abbrev pub AllOwn : List Op → Type 0
@@ -39,23 +40,34 @@ module _ (g : ℕ) (c : List ℕ) where
   pub start-written : (v : ClientView) (epoch : Option ℕ) (changes : List SessionOp) (w : Written) → written c g changes (start_of g v epoch) ≡ Some w → AllByRecursion (IsWritten g c) w.ops
   start-written v epoch changes w e = written-own changes (start_of g v epoch) w tt e
 
+  -- a reader that reads neither session operations nor acknowledgements finds nothing in both
+  pub before-none : {X : Type 0} (f : Op → Option X) → ((op : Op) → IsWritten g c op → f op ≡ None) → ((name : ℕ × ℕ) → f (ack_of c name) ≡ None)
+      → (v : ClientView) (epoch : Option ℕ) (changes : List SessionOp) (w : Written) → written c g changes (start_of g v epoch) ≡ Some w → (acks : List (ℕ × ℕ)) → filter_map f (w.ops ++ map (ack_of c) acks) ≡ []
+  before-none f none acked v epoch changes w e acks =
+      none_pass f (w.ops ++ map (ack_of c) acks)
+      (all-append (λ op. f op ≡ None) w.ops (map (ack_of c) acks)
+      (all-weaken (IsWritten g c) (λ op. f op ≡ None) none w.ops (start-written v epoch changes w e))
+      (all-map (λ op. f op ≡ None) (ack_of c) acked acks))
+
   is_own : (op : Op) → IsWritten g c op → IsOwn g c op
   is_own (OfSession d stamp counter change) h = h
   is_own (OfPut d p) h = absurd h
   is_own (Ack d origin first last) h = absurd h
+  is_own (OfRetain topic kept) h = absurd h
 
-  numbered-own : (seq : List ℕ → Option ℕ) (op : Op) → IsNumbered g seq op → IsOwn g c op
-  numbered-own seq (OfSession d stamp counter change) h = absurd h
-  numbered-own seq (OfPut d p) h = h.0
-  numbered-own seq (Ack d origin first last) h = absurd h
+  numbered-own : (seq clock : List ℕ → Option ℕ) (op : Op) → IsNumbered g seq clock op → IsOwn g c op
+  numbered-own seq clock (OfSession d stamp counter change) h = absurd h
+  numbered-own seq clock (OfPut d p) h = h.0
+  numbered-own seq clock (Ack d origin first last) h = absurd h
+  numbered-own seq clock (OfRetain topic kept) h = h.0
 
   pub plan-own : (seen : Seen) (d : Drafted) (plan : Plan) → plan_of g c seen d ≡ Some plan → AllOwn plan.ops
   plan-own seen d plan e =
-      let parts = planned-parts g c (seen.of c) (seen.epoch c) (λ e. seen.seq e g) d plan e in
+      let parts = planned-parts g c (seen.of c) (seen.epoch c) (λ e. seen.seq e g) seen.clock d plan e in
       let before : List Op = parts.w.ops ++ map (ack_of c) d.acks in
-      let b = puts-behind g (λ e. seen.seq e g) d.puts before plan.ops parts.is_numbered in
+      let b = parts-more g c (seen.of c) (seen.epoch c) (λ e. seen.seq e g) seen.clock d plan.ops parts in
       let own : AllOwn before = all-append (IsOwn g c) parts.w.ops (map (ack_of c) d.acks) (all-weaken (IsWritten g c) (IsOwn g c) is_own parts.w.ops (start-written (seen.of c) (seen.epoch c) d.changes parts.w parts.is_written)) (all-map (IsOwn g c) (ack_of c) (λ name. refl) d.acks) in
-      subst AllOwn (sym b.1) (all-append (IsOwn g c) before b.0 own (all-weaken (IsNumbered g (λ e. seen.seq e g)) (IsOwn g c) (numbered-own (λ e. seen.seq e g)) b.0 b.2))
+      subst AllOwn (sym b.1) (all-append (IsOwn g c) before b.0 own (all-weaken (IsNumbered g (λ e. seen.seq e g) seen.clock) (IsOwn g c) (numbered-own (λ e. seen.seq e g) seen.clock) b.0 b.2))
 
 own-entry : (g : ℕ) (c e : List ℕ) (op : Op) → IsOwn g c op → IfSome (operation_of e op) (λ x. x.0.0.gateway ≡ g)
 own-entry g c e (OfSession d stamp counter change) h =
@@ -65,6 +77,7 @@ own-entry g c e (OfSession d stamp counter change) h =
     ]
 own-entry g c e (OfPut d p) h = tt
 own-entry g c e (Ack d origin first last) h = tt
+own-entry g c e (OfRetain topic kept) h = tt
 
 none_if : {X : Type 0} (P : Type 0) (o : Option X) → IfSome o (λ _. P) → ¬ P → o ≡ None
 none_if P None h k = refl

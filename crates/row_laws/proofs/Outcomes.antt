@@ -6,10 +6,10 @@ use Rattle.std.proofs.lemmas.List.Elements.{filter_map-append}
 use Rattle.sn_session.specs.declared.change.SessionOp.{SessionOp}
 use Rattle.sn_session.specs.Session.{applied, empty_session}
 use Rattle.rep_op.specs.declared.op.Op.{Op}
-use Rattle.rep_op.specs.declared.op.Op.TheVariants.{Session as OfSession, Put as OfPut, Ack}
+use Rattle.rep_op.specs.declared.op.Op.TheVariants.{Session as OfSession, Put as OfPut, Ack, Retain as OfRetain}
 use Rattle.rep_op.specs.Sets.{operation_of, operations}
 use Rattle.rep_model.specs.Views.{visible, history, session_of, view}
-use Rattle.rep_model.specs.Fresh.{next_epoch, next_seq}
+use Rattle.rep_model.specs.Fresh.{next_epoch, next_seq, next_clock}
 use Rattle.sn_plan.specs.declared.plan.Plan.{Plan}
 use Rattle.sn_plan.specs.Drafts.{Drafted}
 use Rattle.sn_plan.specs.Numbering.{Written, written, start_of, ack_of}
@@ -19,7 +19,7 @@ use Rattle.sn_plan.specs.Own.{IsOwn}
 use Rattle.sn_plan.specs.Flush.{IsFlush, Shows, session_with}
 use Rattle.sn_plan.proofs.Lists.{all-append, all-weaken, all-map, none_pass}
 use Rattle.sn_local.proofs.Entries.{same_client-apart, operations-same, visible-by, history-by}
-use Rattle.row_laws.proofs.Planned.{IsNumbered, puts-behind, Parts, planned-parts}
+use Rattle.row_laws.proofs.Planned.{IsNumbered, Parts, planned-parts, parts-more}
 use Rattle.row_laws.proofs.Names.{plan-own}
 use Rattle.row_laws.proofs.Carried.{Reached, written-reached, written-session}
 
@@ -31,33 +31,37 @@ own-else : (g : ℕ) (c e : List ℕ) → ¬ (e ≡ c) → (op : Op) → IsOwn g
 own-else g c e h (OfSession d stamp counter change) own = ap (λ b. if b then Some ((stamp, counter), change) else None) (same_client-apart e d (λ s. h (s ∙ own.0)))
 own-else g c e h (OfPut d p) own = refl
 own-else g c e h (Ack d origin first last) own = refl
+own-else g c e h (OfRetain topic kept) own = refl
 
-numbered-else : (g : ℕ) (seq : List ℕ → Option ℕ) (e : List ℕ) (op : Op) → IsNumbered g seq op → IsElse e op
-numbered-else g seq e (OfSession d stamp counter change) h = absurd h
-numbered-else g seq e (OfPut d p) h = refl
-numbered-else g seq e (Ack d origin first last) h = absurd h
+numbered-else : (g : ℕ) (seq clock : List ℕ → Option ℕ) (e : List ℕ) (op : Op) → IsNumbered g seq clock op → IsElse e op
+numbered-else g seq clock e (OfSession d stamp counter change) h = absurd h
+numbered-else g seq clock e (OfPut d p) h = refl
+numbered-else g seq clock e (Ack d origin first last) h = absurd h
+numbered-else g seq clock e (OfRetain topic kept) h = refl
 
 module _ (g : ℕ) (c : List ℕ) (S : List Op) (d : Drafted) (plan : Plan) (planned : plan_of g c (seen_of S) d ≡ Some plan) where
   abbrev seq : List ℕ → Option ℕ
   seq e = next_seq e g S
 
-  pub parts : Parts g c (view c S) (next_epoch c S) (λ e. next_seq e g S) d plan.ops
-  parts = planned-parts g c (view c S) (next_epoch c S) (λ e. next_seq e g S) d plan planned
+  abbrev clock : List ℕ → Option ℕ
+  clock t = next_clock t S
+
+  pub parts : Parts g c (view c S) (next_epoch c S) (λ e. next_seq e g S) (λ t. next_clock t S) d plan.ops
+  parts = planned-parts g c (view c S) (next_epoch c S) (λ e. next_seq e g S) (λ t. next_clock t S) d plan planned
 
   -- another client's session operations stay
   pub operations-else : (e : List ℕ) → ¬ (e ≡ c) → operations e (S ++ plan.ops) ≡ operations e S
   operations-else e h = operations-same e S plan.ops (none_pass (operation_of e) plan.ops (all-weaken (IsOwn g c) (IsElse e) (own-else g c e h) plan.ops (plan-own g c (seen_of S) d plan planned)))
 
   -- of session operations, the plan has those that were written
-  pub operations-alone : (e : List ℕ) (p : Parts g c (view c S) (next_epoch c S) (λ e. next_seq e g S) d plan.ops) → operations e plan.ops ≡ operations e p.w.ops
+  pub operations-alone : (e : List ℕ) (p : Parts g c (view c S) (next_epoch c S) (λ e. next_seq e g S) (λ t. next_clock t S) d plan.ops) → operations e plan.ops ≡ operations e p.w.ops
   operations-alone e p =
-      let before : List Op = p.w.ops ++ map (ack_of c) d.acks in
-      let b = puts-behind g seq d.puts before plan.ops p.is_numbered in
+      let b = parts-more g c (view c S) (next_epoch c S) seq clock d plan.ops p in
       let rest : List Op = map (ack_of c) d.acks ++ b.0 in
-      let none : AllByRecursion (IsElse e) rest = all-append (IsElse e) (map (ack_of c) d.acks) b.0 (all-map (IsElse e) (ack_of c) (λ name. refl) d.acks) (all-weaken (IsNumbered g seq) (IsElse e) (numbered-else g seq e) b.0 b.2) in
+      let none : AllByRecursion (IsElse e) rest = all-append (IsElse e) (map (ack_of c) d.acks) b.0 (all-map (IsElse e) (ack_of c) (λ name. refl) d.acks) (all-weaken (IsNumbered g seq clock) (IsElse e) (numbered-else g seq clock e) b.0 b.2) in
       ap (operations e) (b.1 ∙ append_assoc p.w.ops (map (ack_of c) d.acks) b.0) ∙ operations-same e p.w.ops rest (none_pass (operation_of e) rest none)
 
-  pub operations-plan : (e : List ℕ) (p : Parts g c (view c S) (next_epoch c S) (λ e. next_seq e g S) d plan.ops) → operations e (S ++ plan.ops) ≡ operations e (S ++ p.w.ops)
+  pub operations-plan : (e : List ℕ) (p : Parts g c (view c S) (next_epoch c S) (λ e. next_seq e g S) (λ t. next_clock t S) d plan.ops) → operations e (S ++ plan.ops) ≡ operations e (S ++ p.w.ops)
   operations-plan e p = filter_map-append (operation_of e) S plan.ops ∙ ap (λ es. operations e S ++ es) (operations-alone e p) ∙ sym (filter_map-append (operation_of e) S p.w.ops)
 
   -- without changes nothing is written

@@ -9,7 +9,10 @@ use Rattle.sn_tables.specs.declared.subscriptions.Subscription.{Subscription}
 use Rattle.sn_session.specs.declared.change.SessionOp.{SessionOp}
 use Rattle.sn_session.specs.declared.change.SessionOp.TheVariants.{Register, Subscribe, Unsubscribe, WillTopic, WillMsg}
 use Rattle.sn_session.specs.Session.{empty_session, applied}
+use Rattle.rep_op.specs.declared.op.Retained.{Retained}
+use Rattle.rep_op.specs.declared.op.Op.TheVariants.{Retain as OfRetain}
 use Rattle.sn_local.specs.declared.config.Addr.{Addr}
+use Rattle.sn_local.specs.Seen.{Seen, seen_of}
 use Rattle.sn_plan.specs.Drafts.{Drafted}
 use Rattle.sn_subscribe.specs.Registration.{register}
 use Rattle.sn_subscribe.specs.Subscription.{subscribe, unsubscribe}
@@ -23,7 +26,11 @@ after change = applied empty_session change
 
 -- these changes, and this frame to the client
 abbrev drafted : List SessionOp → List ℕ → Drafted
-drafted changes bytes = record { changes = changes; acks = []; puts = []; sends = record { to = seven; bytes = bytes } ∷ []; local = [] }
+drafted changes bytes = record { changes = changes; acks = []; handed = []; retain = None; puts = []; sends = record { to = seven; bytes = bytes } ∷ []; local = [] }
+
+-- a set in which nothing is retained
+abbrev nothing_yet : Seen
+nothing_yet = seen_of []
 
 -- 256 pairs of octets
 abbrev hex : List ℕ
@@ -56,19 +63,19 @@ registers_no_257th : register seven (record empty_session { topics = map entry_o
 registers_no_257th = refl
 
 -- SUBSCRIBE with wildcards: no topic id
-subscribes : subscribe [] seven empty_session 0x20 2 (codes "t/#") ≡ drafted (Subscribe (codes "t/#") 1 ∷ []) (8 ∷ 0x13 ∷ 0x20 ∷ 0 ∷ 0 ∷ 0 ∷ 2 ∷ 0 ∷ [])
+subscribes : subscribe [] nothing_yet 0 seven empty_session 0x20 2 (codes "t/#") ≡ drafted (Subscribe (codes "t/#") 1 ∷ []) (8 ∷ 0x13 ∷ 0x20 ∷ 0 ∷ 0 ∷ 0 ∷ 2 ∷ 0 ∷ [])
 subscribes = refl
 
 -- again: nothing changes; and at another quality of service
-subscribes_again : subscribe [] seven (after (Subscribe (codes "t/#") 1)) 0x20 2 (codes "t/#") ≡ drafted [] (8 ∷ 0x13 ∷ 0x20 ∷ 0 ∷ 0 ∷ 0 ∷ 2 ∷ 0 ∷ [])
+subscribes_again : subscribe [] nothing_yet 0 seven (after (Subscribe (codes "t/#") 1)) 0x20 2 (codes "t/#") ≡ drafted [] (8 ∷ 0x13 ∷ 0x20 ∷ 0 ∷ 0 ∷ 0 ∷ 2 ∷ 0 ∷ [])
 subscribes_again = refl
 
-subscribes_at_another : subscribe [] seven (after (Subscribe (codes "t/#") 1)) 0x40 2 (codes "t/#")
+subscribes_at_another : subscribe [] nothing_yet 0 seven (after (Subscribe (codes "t/#") 1)) 0x40 2 (codes "t/#")
     ≡ drafted (Subscribe (codes "t/#") 2 ∷ []) (8 ∷ 0x13 ∷ 0x40 ∷ 0 ∷ 0 ∷ 0 ∷ 2 ∷ 0 ∷ [])
 subscribes_at_another = refl
 
 -- a name: it gets an id first; other bits of the flags are not given back
-subscribes_to_a_name : subscribe [] seven empty_session 0xb4 2 (codes "t/a")
+subscribes_to_a_name : subscribe [] nothing_yet 0 seven empty_session 0xb4 2 (codes "t/a")
     ≡ drafted (Register 1 (codes "t/a") true ∷ Subscribe (codes "t/a") 1 ∷ []) (8 ∷ 0x13 ∷ 0x20 ∷ 0 ∷ 1 ∷ 0 ∷ 2 ∷ 0 ∷ [])
 subscribes_to_a_name = refl
 
@@ -76,27 +83,27 @@ subscribes_to_a_name = refl
 abbrev table : Entries
 table = (7, codes "p/q") ∷ []
 
-subscribes_by_id : subscribe table seven empty_session 0x21 2 (0 ∷ 7 ∷ []) ≡ drafted (Subscribe (codes "p/q") 1 ∷ []) (8 ∷ 0x13 ∷ 0x20 ∷ 0 ∷ 7 ∷ 0 ∷ 2 ∷ 0 ∷ [])
+subscribes_by_id : subscribe table nothing_yet 0 seven empty_session 0x21 2 (0 ∷ 7 ∷ []) ≡ drafted (Subscribe (codes "p/q") 1 ∷ []) (8 ∷ 0x13 ∷ 0x20 ∷ 0 ∷ 7 ∷ 0 ∷ 2 ∷ 0 ∷ [])
 subscribes_by_id = refl
 
-subscribes_to_no_id : subscribe table seven empty_session 0x21 2 (0 ∷ 8 ∷ []) ≡ drafted [] (8 ∷ 0x13 ∷ 0x20 ∷ 0 ∷ 0 ∷ 0 ∷ 2 ∷ 2 ∷ [])
+subscribes_to_no_id : subscribe table nothing_yet 0 seven empty_session 0x21 2 (0 ∷ 8 ∷ []) ≡ drafted [] (8 ∷ 0x13 ∷ 0x20 ∷ 0 ∷ 0 ∷ 0 ∷ 2 ∷ 2 ∷ [])
 subscribes_to_no_id = refl
 
 -- a short name, and a filter of two octets that is none
-subscribes_in_short : subscribe [] seven empty_session 0x22 2 (codes "ab") ≡ drafted (Subscribe (codes "ab") 1 ∷ []) (8 ∷ 0x13 ∷ 0x20 ∷ 0 ∷ 0 ∷ 0 ∷ 2 ∷ 0 ∷ [])
+subscribes_in_short : subscribe [] nothing_yet 0 seven empty_session 0x22 2 (codes "ab") ≡ drafted (Subscribe (codes "ab") 1 ∷ []) (8 ∷ 0x13 ∷ 0x20 ∷ 0 ∷ 0 ∷ 0 ∷ 2 ∷ 0 ∷ [])
 subscribes_in_short = refl
 
-subscribes_to_no_short_name : subscribe [] seven empty_session 0x22 2 (codes "/#") ≡ drafted [] (8 ∷ 0x13 ∷ 0x20 ∷ 0 ∷ 0 ∷ 0 ∷ 2 ∷ 3 ∷ [])
+subscribes_to_no_short_name : subscribe [] nothing_yet 0 seven empty_session 0x22 2 (codes "/#") ≡ drafted [] (8 ∷ 0x13 ∷ 0x20 ∷ 0 ∷ 0 ∷ 0 ∷ 2 ∷ 3 ∷ [])
 subscribes_to_no_short_name = refl
 
 -- bits 11 of the quality of service and of the type, and a filter with a wildcard where none may stand
-subscribes_at_no_quality : subscribe [] seven empty_session 0x60 2 (codes "t/#") ≡ drafted [] (8 ∷ 0x13 ∷ 0x60 ∷ 0 ∷ 0 ∷ 0 ∷ 2 ∷ 3 ∷ [])
+subscribes_at_no_quality : subscribe [] nothing_yet 0 seven empty_session 0x60 2 (codes "t/#") ≡ drafted [] (8 ∷ 0x13 ∷ 0x60 ∷ 0 ∷ 0 ∷ 0 ∷ 2 ∷ 3 ∷ [])
 subscribes_at_no_quality = refl
 
-subscribes_by_no_type : subscribe [] seven empty_session 0x23 2 (codes "t/#") ≡ drafted [] (8 ∷ 0x13 ∷ 0x20 ∷ 0 ∷ 0 ∷ 0 ∷ 2 ∷ 3 ∷ [])
+subscribes_by_no_type : subscribe [] nothing_yet 0 seven empty_session 0x23 2 (codes "t/#") ≡ drafted [] (8 ∷ 0x13 ∷ 0x20 ∷ 0 ∷ 0 ∷ 0 ∷ 2 ∷ 3 ∷ [])
 subscribes_by_no_type = refl
 
-subscribes_to_no_filter : subscribe [] seven empty_session 0x20 2 (codes "t#") ≡ drafted [] (8 ∷ 0x13 ∷ 0x20 ∷ 0 ∷ 0 ∷ 0 ∷ 2 ∷ 3 ∷ [])
+subscribes_to_no_filter : subscribe [] nothing_yet 0 seven empty_session 0x20 2 (codes "t#") ≡ drafted [] (8 ∷ 0x13 ∷ 0x20 ∷ 0 ∷ 0 ∷ 0 ∷ 2 ∷ 3 ∷ [])
 subscribes_to_no_filter = refl
 
 -- of 256 subscriptions the 257th finds no room, and one that is there does
@@ -106,16 +113,37 @@ asks filter = record { filter = filter; qos = 1 }
 abbrev full : Session
 full = record empty_session { subscriptions = map asks pairs }
 
-subscribes_no_257th : subscribe [] seven full 0x20 2 (codes "t/#") ≡ drafted [] (8 ∷ 0x13 ∷ 0x20 ∷ 0 ∷ 0 ∷ 0 ∷ 2 ∷ 1 ∷ [])
+subscribes_no_257th : subscribe [] nothing_yet 0 seven full 0x20 2 (codes "t/#") ≡ drafted [] (8 ∷ 0x13 ∷ 0x20 ∷ 0 ∷ 0 ∷ 0 ∷ 2 ∷ 1 ∷ [])
 subscribes_no_257th = refl
 
-subscribes_to_one_of_256 : subscribe [] seven full 2 2 (codes "ff") ≡ drafted (Subscribe (codes "ff") 0 ∷ []) (8 ∷ 0x13 ∷ 0 ∷ 0 ∷ 0 ∷ 0 ∷ 2 ∷ 0 ∷ [])
+subscribes_to_one_of_256 : subscribe [] nothing_yet 0 seven full 2 2 (codes "ff") ≡ drafted (Subscribe (codes "ff") 0 ∷ []) (8 ∷ 0x13 ∷ 0 ∷ 0 ∷ 0 ∷ 0 ∷ 2 ∷ 0 ∷ [])
 subscribes_to_one_of_256 = refl
 
 -- a name for which no id is free is not subscribed to
-subscribes_without_id : subscribe [] seven (record empty_session { topics = map entry_of pairs }) 0x20 2 (codes "t/a")
+subscribes_without_id : subscribe [] nothing_yet 0 seven (record empty_session { topics = map entry_of pairs }) 0x20 2 (codes "t/a")
     ≡ drafted [] (8 ∷ 0x13 ∷ 0x20 ∷ 0 ∷ 0 ∷ 0 ∷ 2 ∷ 1 ∷ [])
 subscribes_without_id = refl
+
+-- what is retained of topics that the filter asks for is handed, each at the smaller quality of service; what was ended is not
+abbrev kept : ℕ → List ℕ → Retained
+kept qos body = record { clock = 1; gateway = 1; qos = qos; body = body }
+
+abbrev retaining : Seen
+retaining = seen_of (OfRetain (codes "t/b") (kept 0 (codes "y")) ∷ OfRetain (codes "t/a") (kept 2 (codes "x")) ∷ OfRetain (codes "t/c") (kept 1 []) ∷ OfRetain (codes "u") (kept 1 (codes "z")) ∷ [])
+
+hands_what_is_retained : subscribe [] retaining 0 seven empty_session 0x20 2 (codes "t/#")
+    ≡ record (drafted (Subscribe (codes "t/#") 1 ∷ []) (8 ∷ 0x13 ∷ 0x20 ∷ 0 ∷ 0 ∷ 0 ∷ 2 ∷ 0 ∷ [])) {
+      handed = record { topic = codes "t/a"; qos = 1; body = codes "x" } ∷ record { topic = codes "t/b"; qos = 0; body = codes "y" } ∷ [];
+    }
+hands_what_is_retained = refl
+
+-- where 1,023 messages wait there is room for one, and where 1,024 do for none
+hands_one : subscribe [] retaining 1023 seven (after (Subscribe (codes "t/#") 1)) 0x20 2 (codes "t/#")
+    ≡ record (drafted [] (8 ∷ 0x13 ∷ 0x20 ∷ 0 ∷ 0 ∷ 0 ∷ 2 ∷ 0 ∷ [])) { handed = record { topic = codes "t/a"; qos = 1; body = codes "x" } ∷ [] }
+hands_one = refl
+
+hands_none : subscribe [] retaining 1024 seven (after (Subscribe (codes "t/#") 1)) 0x20 2 (codes "t/#") ≡ drafted [] (8 ∷ 0x13 ∷ 0x20 ∷ 0 ∷ 0 ∷ 0 ∷ 2 ∷ 0 ∷ [])
+hands_none = refl
 
 -- UNSUBSCRIBE, whatever the bits of the quality of service; the second time nothing changes
 unsubscribes : unsubscribe [] seven (after (Subscribe (codes "t/#") 1)) 0x60 3 (codes "t/#") ≡ drafted (Unsubscribe (codes "t/#") ∷ []) (4 ∷ 0x15 ∷ 0 ∷ 3 ∷ [])

@@ -3,7 +3,7 @@ use Rattle.std.proofs.Common.{◌≡◌, ℕ, ◌⊎◌, true, List, ◌++◌, S
 use Rattle.rep_op.specs.declared.op.Stamp.{Stamp}
 use Rattle.rep_op.specs.declared.op.Put.{Put}
 use Rattle.rep_op.specs.declared.op.Op.{Op}
-use Rattle.rep_op.specs.Sets.{operation_at, put_at, is_acknowledged, Same}
+use Rattle.rep_op.specs.Sets.{operation_at, put_at, is_acknowledged, retain_at, Same}
 use Rattle.rep_model.specs.Views.{pending_at}
 use Rattle.rep_model.specs.Keep.{keep}
 use Rattle.rep_model.specs.Taking.{AllAgree}
@@ -14,14 +14,14 @@ use Rattle.sn_local.specs.Seen.{seen_of}
 use Rattle.sn_plan.specs.Own.{AddsNone, IsOfDraft}
 use Rattle.sn_plan.specs.Flush.{IsFlush, AreFlush}
 use Rattle.row_laws.proofs.Freshness.{plan-fresh}
-use Rattle.sn_plan.proofs.Standing.{plan-fits, new-operation, new-put}
+use Rattle.sn_plan.proofs.Standing.{plan-fits, new-operation, new-put, new-retain}
 use Rattle.row_laws.proofs.Leaving.{plan-leaves}
 use Rattle.row_laws.proofs.Known.{known-own, known-others, same-behind}
 use Rattle.row_laws.proofs.Flushness.{flush-step, flush-same}
 
 module _ (g : ℕ) (S : List Op) (plan : Plan) (p : IsOfDraft g (seen_of S) plan) (delta : List Op) (same : Same delta plan.ops) where
   pub step-fits : AreFlush g S → AllAgree S delta × AllAgree (keep S) delta
-  step-fits flush = plan-fits S plan.ops (plan-fresh g p.client S p.draft plan p.is (flush p.client) p.one_each) delta same
+  step-fits flush = plan-fits S plan.ops (plan-fresh g p.client S p.draft plan p.is (flush p.client) p.apart) delta same
 
   pub step-flush : AreFlush g S → (c : List ℕ) → IsFlush g c (S ++ delta)
   step-flush flush c = flush-same g c (S ++ plan.ops) (S ++ delta) (same_sym (same-behind S plan.ops delta same)) (flush-step g p.client S p.draft plan p.is (flush p.client) c (flush c))
@@ -42,7 +42,10 @@ module _ (g : ℕ) (S : List Op) (plan : Plan) (p : IsOfDraft g (seen_of S) plan
 
   -- what stands in it did not stand before
   pub step-new_operation : AreFlush g S → (c : List ℕ) (name : Stamp × ℕ) → is_some (operation_at c delta name) ≡ true → operation_at c S name ≡ None
-  step-new_operation flush = new-operation S plan.ops (plan-fresh g p.client S p.draft plan p.is (flush p.client) p.one_each) delta same
+  step-new_operation flush = new-operation S plan.ops (plan-fresh g p.client S p.draft plan p.is (flush p.client) p.apart) delta same
 
   pub step-new_put : AreFlush g S → (c : List ℕ) (name : ℕ × ℕ) → is_some (put_at c delta name) ≡ true → put_at c S name ≡ None
-  step-new_put flush = new-put S plan.ops (plan-fresh g p.client S p.draft plan p.is (flush p.client) p.one_each) delta same
+  step-new_put flush = new-put S plan.ops (plan-fresh g p.client S p.draft plan p.is (flush p.client) p.apart) delta same
+
+  pub step-new_retain : AreFlush g S → (t : List ℕ) (name : ℕ × ℕ) → is_some (retain_at t delta name) ≡ true → retain_at t S name ≡ None
+  step-new_retain flush = new-retain S plan.ops (plan-fresh g p.client S p.draft plan p.is (flush p.client) p.apart) delta same

@@ -21,6 +21,7 @@ use Rattle.sn_frame.specs.declared.flags.TopicIdType.{TopicIdType}
 use Rattle.sn_frame.specs.declared.flags.TopicIdType.TheVariants as kinds
 use Rattle.sn_frame.specs.FlagBits.{qos_of, kind_of}
 use Rattle.sn_local.specs.declared.config.Addr.{Addr}
+use Rattle.sn_local.specs.Seen.{Seen}
 use Rattle.sn_plan.specs.declared.asking.Asked.{Asked}
 use Rattle.sn_plan.specs.declared.asking.Asked.TheVariants.{Topics}
 use Rattle.sn_subscribe.specs.declared.registration.NamedId.{NamedId}
@@ -115,22 +116,22 @@ one_by_one s None (Some second) = refl
 one_by_one s (Some first) None = refl
 one_by_one s (Some first) (Some second) = refl
 
-granted : (a : Addr) (s : Session) (bits msg_id : ℕ) (f : List ℕ) (qos : ℕ) (named : NamedId) → filter_has_no_room f s.subscriptions ≡ false → LeavesSubscriptions s named
-    → IsSubscribed f qos (session_after s (subscribed a s bits msg_id f qos (Some named)))
-granted a s bits msg_id f qos named room same =
-    let named_session : Session = session_after s (changed_if named.change nothing) in
-    subst (λ (t : Session). IsSubscribed f qos t) (sym (one_by_one s named.change (subscribe_change f qos (subscribed_at f s.subscriptions))))
-    (asks named_session f qos (subst (λ (xs : List Subscription). filter_has_no_room f xs ≡ false) (sym same) room) (subscribed_at f s.subscriptions) (ap (subscribed_at f) same))
+module _ (seen : Seen) (waiting : ℕ) (a : Addr) (s : Session) (bits msg_id : ℕ) (f : List ℕ) (qos : ℕ) (named : NamedId) where
+  granted : filter_has_no_room f s.subscriptions ≡ false → LeavesSubscriptions s named → IsSubscribed f qos (session_after s (subscribed seen waiting a s bits msg_id f qos (Some named)))
+  granted room same =
+      let named_session : Session = session_after s (changed_if named.change nothing) in
+      subst (λ (t : Session). IsSubscribed f qos t) (sym (one_by_one s named.change (subscribe_change f qos (subscribed_at f s.subscriptions))))
+      (asks named_session f qos (subst (λ (xs : List Subscription). filter_has_no_room f xs ≡ false) (sym same) room) (subscribed_at f s.subscriptions) (ap (subscribed_at f) same))
 
-pub lasts : (p : Entries) (a : Addr) (s : Session) (bits msg_id : ℕ) (field f : List ℕ) (qos : ℕ) (named : NamedId) → qos_asked (qos_of bits) ≡ Some qos → topics_asked p (kind_of bits) field ≡ Topics f
-    → filter_has_no_room f s.subscriptions ≡ false → id_asked s (kind_of bits) field f ≡ Some named → IsSubscribed f qos (session_after s (subscribe p a s bits msg_id field))
-lasts p a s bits msg_id field f qos named quality topics room id =
+pub lasts : (p : Entries) (seen : Seen) (waiting : ℕ) (a : Addr) (s : Session) (bits msg_id : ℕ) (field f : List ℕ) (qos : ℕ) (named : NamedId) → qos_asked (qos_of bits) ≡ Some qos → topics_asked p (kind_of bits) field ≡ Topics f
+    → filter_has_no_room f s.subscriptions ≡ false → id_asked s (kind_of bits) field f ≡ Some named → IsSubscribed f qos (session_after s (subscribe p seen waiting a s bits msg_id field))
+lasts p seen waiting a s bits msg_id field f qos named quality topics room id =
     let same : LeavesSubscriptions s named = subst (λ (o : Option NamedId). IfSome o (LeavesSubscriptions s)) id (of_kind s (kind_of bits) field f) in
-    subst (λ (o : Option ℕ). IsSubscribed f qos (session_after s (subscribe_at p a s bits msg_id field o))) (sym quality)
-    (subst (λ (t : Asked). IsSubscribed f qos (session_after s (subscribe_asked a s bits msg_id field t qos))) (sym topics)
-    (subst (λ (full : Bool). IsSubscribed f qos (session_after s (if full then refused a bits msg_id 1 else subscribed a s bits msg_id f qos (id_asked s (kind_of bits) field f)))) (sym room)
-    (subst (λ (o : Option NamedId). IsSubscribed f qos (session_after s (subscribed a s bits msg_id f qos o))) (sym id)
-    (granted a s bits msg_id f qos named room same))))
+    subst (λ (o : Option ℕ). IsSubscribed f qos (session_after s (subscribe_at p seen waiting a s bits msg_id field o))) (sym quality)
+    (subst (λ (t : Asked). IsSubscribed f qos (session_after s (subscribe_asked seen waiting a s bits msg_id field t qos))) (sym topics)
+    (subst (λ (full : Bool). IsSubscribed f qos (session_after s (if full then refused a bits msg_id 1 else subscribed seen waiting a s bits msg_id f qos (id_asked s (kind_of bits) field f)))) (sym room)
+    (subst (λ (o : Option NamedId). IsSubscribed f qos (session_after s (subscribed seen waiting a s bits msg_id f qos o))) (sym id)
+    (granted seen waiting a s bits msg_id f qos named room same))))
 
 ended : (s : Session) (f : List ℕ) (before : Option ℕ) → subscribed_at f s.subscriptions ≡ before → IsUnsubscribed f (session_after s (changed_if (if is_some before then Some (Unsubscribe f) else None) nothing))
 ended s f None was = was

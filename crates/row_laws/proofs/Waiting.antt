@@ -1,24 +1,26 @@
 -- The messages of a draft wait for their clients after the step.
-use Rattle.std.proofs.Common.{◌≡◌, ℕ, true, false, cond, not, ◌||◌, List, [], ◌∷◌, ◌++◌, map, Option, Some, None, refl, sym, ap, ◌∙◌, inl, inr, append_assoc, append-nil}
-use Rattle.std.specs.List.{AllByRecursion}
-use Rattle.std.proofs.lemmas.Option.{same_Some}
+use Rattle.std.proofs.Common.{◌≡◌, ℕ, true, false, cond, not, ◌||◌, List, [], ◌∷◌, ◌++◌, map, Option, Some, None, option_to_list, refl, sym, ap, ◌∙◌, inl, inr, append_assoc, append-nil}
+use Rattle.std.specs.List.{AllByRecursion, filter_map}
+use Rattle.std.proofs.lemmas.Option.{none-some, same_Some}
 use Rattle.std.proofs.lemmas.List.Elements.{filter_map-append}
 use Rattle.rep_op.specs.declared.op.Op.{Op}
-use Rattle.rep_op.specs.declared.op.Op.TheVariants.{Session as OfSession, Put as OfPut, Ack}
+use Rattle.rep_op.specs.declared.op.Op.TheVariants.{Session as OfSession, Put as OfPut, Ack, Retain as OfRetain}
 use Rattle.rep_op.specs.Sets.{put_at, is_acknowledged, Stands}
 use Rattle.rep_model.proofs.Readers.{is_acknowledged_both}
 use Rattle.rep_model.proofs.Thin.{pending_at-reads}
+use Rattle.rep_model.specs.Fresh.{one_more}
 use Rattle.sn_plan.specs.declared.draft.NewPut.{NewPut}
+use Rattle.sn_plan.specs.declared.draft.Posted.{Posted}
 use Rattle.sn_plan.specs.declared.plan.Plan.{Plan}
 use Rattle.sn_plan.specs.Drafts.{Drafted}
-use Rattle.sn_plan.specs.Numbering.{put_at_seq, with_puts, ack_of}
+use Rattle.sn_plan.specs.Numbering.{put_at_seq, with_puts, handed_to, handed_at_seq, with_handed, retain_at_clock, with_retain, ack_of}
 use Rattle.sn_local.specs.Seen.{Seen, seen_of}
 use Rattle.sn_plan.specs.Plans.{plan_of}
-use Rattle.sn_plan.specs.Own.{IsOneEach, Waits, message_of, messages}
+use Rattle.sn_plan.specs.Own.{IsApart, Waits, message_of, messages, handed_of, handed_in, posted_of, retained_in}
 use Rattle.sn_plan.specs.Flush.{IsFlush}
-use Rattle.sn_plan.proofs.Lists.{and_then-some, all-append, all-weaken, all-map, all-both, none_pass}
-use Rattle.row_laws.proofs.Planned.{planned-parts}
-use Rattle.row_laws.proofs.Names.{IsWritten, start-written}
+use Rattle.sn_plan.proofs.Lists.{and_then-some, map-some, all-both}
+use Rattle.row_laws.proofs.Planned.{Parts, planned-parts, puts-passed, retain-passed, handed-passed}
+use Rattle.row_laws.proofs.Names.{IsWritten, before-none}
 use Rattle.row_laws.proofs.Freshness.{IsUnacknowledged, plan-fresh, plan-unacked}
 use Rattle.row_laws.proofs.Leaving.{acked-plan, names-acked}
 use Rattle.sn_plan.proofs.Standing.{fresh-stand}
@@ -35,13 +37,73 @@ written-messages : (g : ℕ) (c : List ℕ) (op : Op) → IsWritten g c op → m
 written-messages g c (OfSession d stamp counter change) h = refl
 written-messages g c (OfPut d p) h = absurd h
 written-messages g c (Ack d origin first last) h = absurd h
+written-messages g c (OfRetain topic kept) h = absurd h
 
-pub plan-messages : (g : ℕ) (c : List ℕ) (seen : Seen) (d : Drafted) (plan : Plan) → plan_of g c seen d ≡ Some plan → messages plan.ops ≡ d.puts
-plan-messages g c seen d plan planned =
-    let cut = planned-parts g c (seen.of c) (seen.epoch c) (λ e. seen.seq e g) d plan planned in
-    let before : List Op = cut.w.ops ++ map (ack_of c) d.acks in
-    let none : messages before ≡ [] = none_pass message_of before (all-append (λ op. message_of op ≡ None) cut.w.ops (map (ack_of c) d.acks) (all-weaken (IsWritten g c) (λ op. message_of op ≡ None) (written-messages g c) cut.w.ops (start-written g c (seen.of c) (seen.epoch c) d.changes cut.w cut.is_written)) (all-map (λ op. message_of op ≡ None) (ack_of c) (λ name. refl) d.acks)) in
-    puts-messages g (λ e. seen.seq e g) d.puts before plan.ops cut.is_numbered ∙ ap (λ xs. xs ++ d.puts) none
+written-handed : (g : ℕ) (c : List ℕ) (op : Op) → IsWritten g c op → handed_of op ≡ None
+written-handed g c (OfSession d stamp counter change) h = refl
+written-handed g c (OfPut d p) h = absurd h
+written-handed g c (Ack d origin first last) h = absurd h
+written-handed g c (OfRetain topic kept) h = absurd h
+
+written-posted : (g : ℕ) (c : List ℕ) (op : Op) → IsWritten g c op → posted_of op ≡ None
+written-posted g c (OfSession d stamp counter change) h = refl
+written-posted g c (OfPut d p) h = absurd h
+written-posted g c (Ack d origin first last) h = absurd h
+written-posted g c (OfRetain topic kept) h = absurd h
+
+-- what is handed is read back
+handed-read : (g : ℕ) (c : List ℕ) (handed : List Posted) (next : Option ℕ) (before after : List Op) → with_handed g c next handed before ≡ Some after → handed_in after ≡ handed_in before ++ map (handed_to c) handed
+handed-read g c [] next before after e = ap handed_in (sym (same_Some before after e)) ∙ sym (append-nil (handed_in before))
+handed-read g c (p ∷ rest) None before after e = absurd (none-some after e)
+handed-read g c (p ∷ rest) (Some n) before after e =
+    handed-read g c rest (one_more n) (before ++ handed_at_seq g c p n ∷ []) after e
+    ∙ ap (λ xs. xs ++ map (handed_to c) rest) (filter_map-append handed_of before (handed_at_seq g c p n ∷ []))
+    ∙ append_assoc (handed_in before) (handed_to c p ∷ []) (map (handed_to c) rest)
+
+-- and so is what is retained
+retain-read : (g : ℕ) (clock : List ℕ → Option ℕ) (retain : Option Posted) (before after : List Op) → with_retain g clock retain before ≡ Some after → retained_in after ≡ retained_in before ++ option_to_list retain
+retain-read g clock None before after e = ap retained_in (sym (same_Some before after e)) ∙ sym (append-nil (retained_in before))
+retain-read g clock (Some p) before after e =
+    let n = map-some (λ n. before ++ retain_at_clock g p n ∷ []) (clock p.topic) after e in
+    ap retained_in (sym n.2) ∙ filter_map-append posted_of before (retain_at_clock g p n.0 ∷ [])
+
+module _ (g : ℕ) (c : List ℕ) (seen : Seen) (d : Drafted) (plan : Plan) (planned : plan_of g c seen d ≡ Some plan) where
+  abbrev seq : List ℕ → Option ℕ
+  seq e = seen.seq e g
+
+  parts : Parts g c (seen.of c) (seen.epoch c) (λ e. seen.seq e g) seen.clock d plan.ops
+  parts = planned-parts g c (seen.of c) (seen.epoch c) (λ e. seen.seq e g) seen.clock d plan planned
+
+  abbrev before : List Op
+  before = parts.w.ops ++ map (ack_of c) d.acks
+
+  -- a reader that reads neither session operations nor acknowledgements
+  nothing-yet : {X : Type 0} (f : Op → Option X) → ((op : Op) → IsWritten g c op → f op ≡ None) → ((name : ℕ × ℕ) → f (ack_of c name) ≡ None) → filter_map f before ≡ []
+  nothing-yet f written acked = before-none g c f written acked (seen.of c) (seen.epoch c) d.changes parts.w parts.is_written d.acks
+
+  pub plan-messages : messages plan.ops ≡ d.puts
+  plan-messages =
+      puts-messages g seq d.puts parts.kept plan.ops parts.is_numbered
+      ∙ ap (λ xs. xs ++ d.puts)
+      (retain-passed g seq seen.clock message_of (λ p n. refl) d.retain parts.handed parts.kept parts.is_kept
+      ∙ handed-passed g seq seen.clock c message_of (λ p n. refl) d.handed (seen.seq c g) before parts.handed parts.is_handed
+      ∙ nothing-yet message_of (written-messages g c) (λ name. refl))
+
+  -- what the draft hands is handed to its client, and nobody else is handed anything
+  pub plan-handed : handed_in plan.ops ≡ map (handed_to c) d.handed
+  plan-handed =
+      puts-passed g seq seen.clock handed_of (λ p n. refl) d.puts parts.kept plan.ops parts.is_numbered
+      ∙ retain-passed g seq seen.clock handed_of (λ p n. refl) d.retain parts.handed parts.kept parts.is_kept
+      ∙ handed-read g c d.handed (seen.seq c g) before parts.handed parts.is_handed
+      ∙ ap (λ xs. xs ++ map (handed_to c) d.handed) (nothing-yet handed_of (written-handed g c) (λ name. refl))
+
+  pub plan-retained : retained_in plan.ops ≡ option_to_list d.retain
+  plan-retained =
+      puts-passed g seq seen.clock posted_of (λ p n. refl) d.puts parts.kept plan.ops parts.is_numbered
+      ∙ retain-read g seen.clock d.retain parts.handed parts.kept parts.is_kept
+      ∙ ap (λ xs. xs ++ option_to_list d.retain)
+      (handed-passed g seq seen.clock c posted_of (λ p n. refl) d.handed (seen.seq c g) before parts.handed parts.is_handed
+      ∙ nothing-yet posted_of (written-posted g c) (λ name. refl))
 
 module _ (g : ℕ) (c : List ℕ) (S : List Op) (d : Drafted) (plan : Plan) (planned : plan_of g c (seen_of S) d ≡ Some plan) where
   waits : (op : Op) → Stands (S ++ plan.ops) op → IsUnacknowledged S op → Waits (S ++ plan.ops) c d.acks op
@@ -54,8 +116,9 @@ module _ (g : ℕ) (c : List ℕ) (S : List Op) (d : Drafted) (plan : Plan) (pla
         | false ↦ λ f. inl (pending_at-reads e (S ++ plan.ops) (p.seq, p.origin) ∙ ap (λ b. cond (not b) (put_at e (S ++ plan.ops) (p.seq, p.origin)) None) f ∙ h)
       ] refl
   waits (Ack e origin first last) h u = tt
+  waits (OfRetain topic kept) h u = tt
 
-  pub plan-waits : IsFlush g c S → IsOneEach d.puts → AllByRecursion (Waits (S ++ plan.ops) c d.acks) plan.ops
-  plan-waits flush one = all-both (Stands (S ++ plan.ops)) (IsUnacknowledged S) (Waits (S ++ plan.ops) c d.acks) waits plan.ops
-      (fresh-stand S plan.ops (plan-fresh g c S d plan planned flush one))
+  pub plan-waits : IsFlush g c S → IsApart d → AllByRecursion (Waits (S ++ plan.ops) c d.acks) plan.ops
+  plan-waits flush apart = all-both (Stands (S ++ plan.ops)) (IsUnacknowledged S) (Waits (S ++ plan.ops) c d.acks) waits plan.ops
+      (fresh-stand S plan.ops (plan-fresh g c S d plan planned flush apart))
       (plan-unacked g c S d plan planned)

@@ -7,11 +7,17 @@ use Rattle.sn_tables.specs.Subscriptions.{qos_of}
 use Rattle.sn_subscribe.specs.declared.registration.NamedId.{NamedId}
 use Rattle.sn_plan.specs.Drafts.{Drafted, nothing, changed_if, session_after}
 
--- no acknowledgement, no message and no change of the local state
+-- no acknowledgement, no message, nothing that is retained and no change of the local state
 pub record ChangesSessionOnly (d : Drafted) : Type 0 where
   pub acks : d.acks ≡ []
   pub puts : d.puts ≡ []
+  pub retain : d.retain ≡ None
   pub local : d.local ≡ []
+
+-- nor is the client handed anything that was retained
+pub record HandsNothing (d : Drafted) : Type 0 where
+  pub leaves : ChangesSessionOnly d
+  pub handed : d.handed ≡ []
 
 -- the id stands for the name from then on, and the client knows it
 abbrev pub StandsFor : List ℕ → Session → NamedId → Type 0

@@ -1,7 +1,7 @@
 //! The laws of plans. Each function does nothing; its contract is a law, proved for every draft, so
 //! for every row of the step table.
 
-ghost use Rattle.std.specs.Prelude.{◌≡◌, ℕ, ◌++◌, ◌⊎◌, [], List, Option, Some, true, Contains};
+ghost use Rattle.std.specs.Prelude.{◌≡◌, ℕ, ◌++◌, ◌⊎◌, [], List, map, Option, Some, None, option_to_list, IfSome, true, Contains};
 ghost use Rattle.std.specs.List.{AllByRecursion};
 ghost use Rattle.sn_topic.specs.Table.{Entries};
 ghost use Rattle.sn_frame.specs.declared.frame.Frame.{Frame};
@@ -10,11 +10,13 @@ ghost use Rattle.rep_op.specs.declared.op.Op.{Op};
 ghost use Rattle.rep_op.specs.declared.op.Put.{Put};
 ghost use Rattle.rep_op.specs.Sets.{is_acknowledged, IsConsistent, Same};
 ghost use Rattle.rep_model.specs.Views.{pending_at, view};
-ghost use Rattle.rep_model.specs.Fresh.{next_epoch};
+ghost use Rattle.rep_model.specs.Topics.{retained};
+ghost use Rattle.rep_model.specs.Fresh.{next_clock, next_epoch};
 ghost use Rattle.rep_model.specs.Keep.{keep};
 ghost use Rattle.rep_model.specs.Taking.{AllAgree};
 ghost use Rattle.sn_local.specs.declared.config.Addr.{Addr};
 ghost use Rattle.sn_local.specs.declared.local.Binding.{Binding};
+ghost use Rattle.sn_plan.specs.declared.draft.Posted.{Posted};
 ghost use Rattle.sn_plan.specs.declared.plan.Plan.{Plan};
 ghost use Rattle.sn_plan.specs.declared.row.Row.{Row};
 ghost use Rattle.sn_local.specs.Bindings.{bound, client_at};
@@ -25,10 +27,10 @@ ghost use Rattle.sn_flow.specs.Connection.{connect, disconnect};
 ghost use Rattle.sn_flow.specs.Wills.{will_topic, will_msg, will_topic_update, will_msg_update};
 ghost use Rattle.sn_subscribe.specs.TopicRows.{register, subscribe, unsubscribe};
 ghost use Rattle.sn_plan.specs.Others.{other};
-ghost use Rattle.sn_plan.specs.Numbering.{Written, start_of, written};
+ghost use Rattle.sn_plan.specs.Numbering.{Written, start_of, written, handed_to, kept_as};
 ghost use Rattle.sn_local.specs.Seen.{Seen, seen_of};
 ghost use Rattle.sn_plan.specs.Plans.{plan_of};
-ghost use Rattle.sn_plan.specs.Own.{IsOwn, HasNoneOf, AddsNone, AreFresh, IsOneEach, Waits, messages, IsOfDraft, MakesNoMessage};
+ghost use Rattle.sn_plan.specs.Own.{IsOwn, HasNoneOf, AddsNone, AreFresh, IsApart, Waits, messages, handed_in, retained_in, IsOfDraft, PublishesNothing, MakesNoMessage};
 ghost use Rattle.sn_plan.specs.Flush.{IsFlush, AreFlush, Shows, session_with};
 
 /// A gateway writes under names of its own: the session operations of a plan are of the client that
@@ -52,8 +54,8 @@ pub fn only_acknowledged()
         → pending_at e S name ≡ Some put → (pending_at e (S ++ plan.ops) name ≡ Some put)
         ⊎ ((e ≡ c) × (is_acknowledged c plan.ops name ≡ true) × Contains d.acks name) }
     ensures quiet { (g : ℕ) (c : List ℕ) (S : List Op) (d : Drafted) (plan : Plan)
-        → plan_of g c (seen_of S) d ≡ Some plan → d.changes ≡ [] → d.acks ≡ [] → d.puts ≡ []
-        → plan.ops ≡ [] }
+        → plan_of g c (seen_of S) d ≡ Some plan → d.changes ≡ [] → d.acks ≡ [] → d.handed ≡ []
+        → d.retain ≡ None → d.puts ≡ [] → plan.ops ≡ [] }
     ensures unchanged { (S : List Op) (plan : Plan) → plan.ops ≡ [] → (e : List ℕ)
         → view e (S ++ plan.ops) ≡ view e S }
 {}
@@ -82,27 +84,39 @@ pub fn reads_back()
         × ((view e (S ++ plan.ops)).session ≡ (view e S).session) }
 {}
 
-/// No name is used twice: neither is a session operation or message of a plan written under a name
-/// that stands in the set, nor under one that stands before it in the plan. So the set stays
-/// consistent, and a gateway never refuses what it made itself for a conflict.
+/// No name is used twice: neither is a session operation or message of a plan, or what it retains,
+/// written under a name that stands in the set, nor under one that stands before it in the plan. So
+/// the set stays consistent, and a gateway never refuses what it made itself for a conflict.
 pub fn fresh_names()
     ensures fresh { (g : ℕ) (c : List ℕ) (S : List Op) (d : Drafted) (plan : Plan) → IsFlush g c S
-        → IsOneEach d.puts → plan_of g c (seen_of S) d ≡ Some plan → AreFresh S plan.ops }
+        → IsApart d → plan_of g c (seen_of S) d ≡ Some plan → AreFresh S plan.ops }
     ensures fits { (g : ℕ) (c : List ℕ) (S : List Op) (d : Drafted) (plan : Plan) → IsFlush g c S
-        → IsOneEach d.puts → plan_of g c (seen_of S) d ≡ Some plan → (delta : List Op)
+        → IsApart d → plan_of g c (seen_of S) d ≡ Some plan → (delta : List Op)
         → Same delta plan.ops → AllAgree S delta × AllAgree (keep S) delta }
     ensures consistent { (g : ℕ) (c : List ℕ) (S : List Op) (d : Drafted) (plan : Plan)
-        → IsFlush g c S → IsOneEach d.puts → plan_of g c (seen_of S) d ≡ Some plan → IsConsistent S
+        → IsFlush g c S → IsApart d → plan_of g c (seen_of S) d ≡ Some plan → IsConsistent S
         → IsConsistent (S ++ plan.ops) }
 {}
 
 /// Every message of a draft is written, and waits for its client after the step, unless the draft
-/// acknowledges it as well.
+/// acknowledges it as well. So is what the draft hands, to its own client, in its order. What it
+/// retains is written, and then it is what is retained of its topic.
 pub fn messages_wait()
     ensures all { (g : ℕ) (c : List ℕ) (seen : Seen) (d : Drafted) (plan : Plan)
         → plan_of g c seen d ≡ Some plan → messages plan.ops ≡ d.puts }
+    ensures handed { (g : ℕ) (c : List ℕ) (seen : Seen) (d : Drafted) (plan : Plan)
+        → plan_of g c seen d ≡ Some plan → handed_in plan.ops ≡ map (handed_to c) d.handed }
+    ensures retained { (g : ℕ) (c : List ℕ) (seen : Seen) (d : Drafted) (plan : Plan)
+        → plan_of g c seen d ≡ Some plan → retained_in plan.ops ≡ option_to_list d.retain }
+    ensures wins { (g : ℕ) (c : List ℕ) (S : List Op) (d : Drafted) (plan : Plan) (m : Posted)
+        → plan_of g c (seen_of S) d ≡ Some plan → d.retain ≡ Some m → (clock : ℕ)
+        × (next_clock m.topic S ≡ Some clock)
+        × (retained m.topic (S ++ plan.ops) ≡ Some (kept_as g m clock)) }
+    ensures others { (g : ℕ) (c : List ℕ) (S : List Op) (d : Drafted) (plan : Plan) (t : List ℕ)
+        → plan_of g c (seen_of S) d ≡ Some plan → IfSome d.retain (λ m. ¬ (m.topic ≡ t))
+        → retained t (S ++ plan.ops) ≡ retained t S }
     ensures waiting { (g : ℕ) (c : List ℕ) (S : List Op) (d : Drafted) (plan : Plan) → IsFlush g c S
-        → IsOneEach d.puts → plan_of g c (seen_of S) d ≡ Some plan
+        → IsApart d → plan_of g c (seen_of S) d ≡ Some plan
         → AllByRecursion (Waits (S ++ plan.ops) c d.acks) plan.ops }
 {}
 
@@ -136,7 +150,8 @@ pub fn adds_none()
     ensures together { (S ops delta : List Op) → Same delta ops → Same (S ++ delta) (S ++ ops) }
 {}
 
-/// The rows of connections, wills and topics make no message.
+/// The rows of connections, wills and topics make no message and retain nothing. That of SUBSCRIBE
+/// makes no message but those by which it hands its client what was retained.
 pub fn rows_make_no_message()
     ensures connects { (seen : Seen) (local : Local) (a : Addr) (flags protocol duration : ℕ)
         (c : List ℕ) (now : ℕ) → MakesNoMessage (connect seen local a flags protocol
@@ -154,7 +169,7 @@ pub fn rows_make_no_message()
     ensures registers { (seen : Seen) (local : Local) (a : Addr) (msg_id : ℕ) (name : List ℕ)
         (now : ℕ) → MakesNoMessage (register seen local a msg_id name now) }
     ensures subscribes { (p : Entries) (seen : Seen) (local : Local) (a : Addr) (bits msg_id : ℕ)
-        (field : List ℕ) (now : ℕ) → MakesNoMessage (subscribe p seen local a bits msg_id
+        (field : List ℕ) (now : ℕ) → PublishesNothing (subscribe p seen local a bits msg_id
         field now) }
     ensures unsubscribes { (p : Entries) (seen : Seen) (local : Local) (a : Addr) (bits msg_id : ℕ)
         (field : List ℕ) (now : ℕ) → MakesNoMessage (unsubscribe p seen local a bits msg_id
@@ -164,11 +179,11 @@ pub fn rows_make_no_message()
 {}
 
 /// The laws hold of every row: its plan is the plan of a draft. Where that has at most one message
-/// a client, a gateway whose set is flush for all clients never refuses for a conflict what it made
-/// itself, stays flush when it takes it, and loses a message by it only where the step itself
-/// acknowledges it.
+/// a client, or what was retained for its own alone, a gateway whose set is flush for all clients
+/// never refuses for a conflict what it made itself, stays flush when it takes it, and loses a
+/// message by it only where the step itself acknowledges it.
 pub fn every_row()
-    ensures drafted { (g : ℕ) (seen : Seen) (row : Row) (plan : Plan) → IsOneEach row.draft.puts
+    ensures drafted { (g : ℕ) (seen : Seen) (row : Row) (plan : Plan) → IsApart row.draft
         → plan_of_row g seen row ≡ Some plan → IsOfDraft g seen plan }
     ensures fits { (g : ℕ) (S : List Op) (plan : Plan) → AreFlush g S → IsOfDraft g (seen_of S) plan
         → (delta : List Op) → Same delta plan.ops → AllAgree S delta × AllAgree (keep S) delta }

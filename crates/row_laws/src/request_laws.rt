@@ -10,6 +10,7 @@ ghost use Rattle.sn_tables.specs.Subscriptions.{filter_has_no_room};
 ghost use Rattle.sn_frame.specs.declared.frame.Will.{Will};
 ghost use Rattle.sn_frame.specs.FlagBits.{qos_of, kind_of};
 ghost use Rattle.sn_local.specs.declared.config.Addr.{Addr};
+ghost use Rattle.sn_local.specs.Seen.{Seen};
 ghost use Rattle.sn_plan.specs.declared.asking.Asked.TheVariants.{Topics};
 ghost use Rattle.sn_plan.specs.Drafts.{session_after};
 ghost use Rattle.sn_subscribe.specs.declared.registration.NamedId.{NamedId};
@@ -17,21 +18,23 @@ ghost use Rattle.sn_plan.specs.Asking.{qos_asked, topics_asked};
 ghost use Rattle.sn_subscribe.specs.Registration.{id_for, register};
 ghost use Rattle.sn_subscribe.specs.Subscription.{id_asked, subscribe, unsubscribe};
 ghost use Rattle.sn_flow.specs.WillUpdate.{will_topic_update, will_msg_update};
-ghost use Rattle.row_laws.specs.RequestLaws.{ChangesSessionOnly, StandsFor, IsSubscribed, IsUnsubscribed};
+ghost use Rattle.row_laws.specs.RequestLaws.{ChangesSessionOnly, HandsNothing, StandsFor, IsSubscribed, IsUnsubscribed};
 
 /// A client that registers a name, subscribes, unsubscribes or updates its will loses no message by
-/// it and gets none: these rows acknowledge nothing, put nothing and change no binding.
+/// it and gets none that is published: these rows acknowledge nothing, put nothing, retain nothing
+/// and change no binding. All but a SUBSCRIBE hand it nothing that was retained.
 pub fn requests_keep_messages()
     ensures registers { (a : Addr) (s : Session) (msg_id : ℕ) (name : List ℕ)
-        → ChangesSessionOnly (register a s msg_id name) }
-    ensures subscribes { (p : Entries) (a : Addr) (s : Session) (bits msg_id : ℕ) (field : List ℕ)
-        → ChangesSessionOnly (subscribe p a s bits msg_id field) }
+        → HandsNothing (register a s msg_id name) }
+    ensures subscribes { (p : Entries) (seen : Seen) (waiting : ℕ) (a : Addr) (s : Session)
+        (bits msg_id : ℕ) (field : List ℕ)
+        → ChangesSessionOnly (subscribe p seen waiting a s bits msg_id field) }
     ensures unsubscribes { (p : Entries) (a : Addr) (s : Session) (bits msg_id : ℕ) (field : List ℕ)
-        → ChangesSessionOnly (unsubscribe p a s bits msg_id field) }
+        → HandsNothing (unsubscribe p a s bits msg_id field) }
     ensures will_topic { (a : Addr) (will : Option Will)
-        → ChangesSessionOnly (will_topic_update a will) }
+        → HandsNothing (will_topic_update a will) }
     ensures will_message { (a : Addr) (s : Session) (message : List ℕ)
-        → ChangesSessionOnly (will_msg_update a s message) }
+        → HandsNothing (will_msg_update a s message) }
 {}
 
 /// An id that a client is given stands for the name from then on, and the client knows it.
@@ -43,12 +46,13 @@ pub fn given_id_stands()
 /// A SUBSCRIBE that finds room and an id leaves the filter at the quality of service that was asked
 /// for.
 pub fn subscribe_lasts()
-    ensures { (p : Entries) (a : Addr) (s : Session) (bits msg_id : ℕ) (field filter : List ℕ)
-        (qos : ℕ) (named : NamedId) →
+    ensures { (p : Entries) (seen : Seen) (waiting : ℕ) (a : Addr) (s : Session)
+        (bits msg_id : ℕ) (field filter : List ℕ) (qos : ℕ) (named : NamedId) →
         qos_asked (qos_of bits) ≡ Some qos → topics_asked p (kind_of bits) field ≡ Topics filter →
         filter_has_no_room filter s.subscriptions ≡ false
         → id_asked s (kind_of bits) field filter ≡ Some named →
-        IsSubscribed filter qos (session_after s (subscribe p a s bits msg_id field)) }
+        IsSubscribed filter qos
+        (session_after s (subscribe p seen waiting a s bits msg_id field)) }
 {}
 
 /// After an UNSUBSCRIBE the filter that it asks for is not there.

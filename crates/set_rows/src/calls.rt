@@ -3,8 +3,9 @@
 
 use jr_journal::{Disk, Journal, JournalFault};
 use rep_model::{Replica, TakeFault};
-use rep_ops::{Delta, Op, OpsFault};
+use rep_ops::{Delta, Op, OpsFault, Retained};
 use sn_frame::{EncodeFault, Frame, FrameFault};
+use sn_topic::TopicName;
 use std::alloc::Global;
 
 /// The frame that a datagram spells.
@@ -31,6 +32,11 @@ pub(crate) fn read_delta(alloc: Global, bytes: &[u8]) -> Result<Delta, OpsFault>
     Delta::decode(alloc, bytes)
 }
 
+/// The delta that octets of version 1 spell.
+pub(crate) fn read_older(alloc: Global, bytes: &[u8]) -> Result<Delta, OpsFault> {
+    Delta::decode_one(alloc, bytes)
+}
+
 /// Puts the octets of a delta after those that are there.
 pub(crate) fn write_delta(alloc: Global, delta: &Delta, out: &mut Vec<u8>) -> Result<(), OpsFault> {
     delta.encode(alloc, out)
@@ -49,6 +55,14 @@ pub(crate) fn take<R: Replica>(
         }
         Err(fault) => Err(fault),
     }
+}
+
+/// The topic at a place, with what is retained of it, and the place after it.
+pub(crate) fn topic_at<R: Replica>(
+    replica: &R,
+    place: usize,
+) -> Option<(usize, &TopicName, &Retained)> {
+    replica.topic_at(place)
 }
 
 /// The journal of a gateway is opened.

@@ -142,6 +142,11 @@ pub(crate) fn read(alloc: Global, text: &mut String, bytes: &[u8]) -> Result<(),
     print_read(text, calls::read_delta(alloc, bytes))
 }
 
+/// `older`: the delta that the octets spell for what knows version 1 alone.
+pub(crate) fn older(alloc: Global, text: &mut String, bytes: &[u8]) -> Result<(), Stop> {
+    print_read(text, calls::read_older(alloc, bytes))
+}
+
 /// `count`: how many operations the delta has that the octets spell.
 pub(crate) fn counted(alloc: Global, text: &mut String, bytes: &[u8]) -> Result<(), Stop> {
     let said = answer(alloc, bytes)?;

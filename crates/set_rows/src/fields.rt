@@ -61,6 +61,14 @@ pub(crate) fn stamp(text: &str) -> Result<Stamp, Stop> {
     })
 }
 
+/// A clock and a gateway with a dot between them.
+pub(crate) fn clock(text: &str) -> Result<(u64, u8), Stop> {
+    let Some((clock, gateway)) = text.split_once('.') else {
+        return Err(Stop::Line);
+    };
+    Ok((number(clock)?, octet(gateway)?))
+}
+
 /// The number of a message: its gateway and its number there, with a dot between them.
 pub(crate) fn message_number(text: &str) -> Result<(u8, u64), Stop> {
     let Some((origin, seq)) = text.split_once('.') else {

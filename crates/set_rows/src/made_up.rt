@@ -4,8 +4,8 @@
 use crate::calls;
 use crate::fields::{message, named};
 use crate::stop::Stop;
-use rep_ops::{ClientId, Delta, Op, OpsFault, Put, Stamp};
-use sn_session::{Presence, Session, SessionOp};
+use rep_ops::{ClientId, Delta, Op, OpsFault, Put, Retained, Stamp};
+use sn_session::{Message, Presence, Session, SessionOp};
 use sn_tables::QosLevel;
 use sn_topic::TopicName;
 use std::alloc::Global;
@@ -58,15 +58,48 @@ fn put(alloc: Global, client: ClientId, origin: u8, seq: u64) -> Result<Op, Stop
         seq,
         topic,
         qos: QosLevel::one(),
+        retain: false,
+        expires: 0,
         body,
     };
     Ok(Op::Put { client, put })
 }
 
+/// What a gateway said under a clock; under clock 3 nothing, which ends what was retained.
+fn said(alloc: Global, clock: u64, gateway: u8) -> Result<Message, Stop> {
+    match clock {
+        3 => message(alloc, &[]),
+        _ => message(alloc, &[gateway]),
+    }
+}
+
+/// What a gateway retained under a clock.
+fn retained(alloc: Global, clock: u64, gateway: u8) -> Result<Retained, Stop> {
+    let body = said(alloc, clock, gateway)?;
+    Ok(Retained {
+        clock,
+        gateway,
+        qos: QosLevel::one(),
+        body,
+    })
+}
+
+/// What is retained of a topic.
+fn retain(alloc: Global, number: u64) -> Result<Op, Stop> {
+    let clock = number / 16 % 4 + 1;
+    let gateway = (number / 4 % 2) as u8 + 1;
+    let retained = retained(alloc, clock, gateway)?;
+    let topic = TopicName::new(alloc, &[b't', (number % 3) as u8])?;
+    Ok(Op::Retain { topic, retained })
+}
+
 /// An operation.
 fn made_up(alloc: Global, number: u64) -> Result<Op, Stop> {
+    let kind = number / 64 % 9;
+    if kind == 8 {
+        return retain(alloc, number / 1024);
+    }
     let client = client(alloc, number / 7 % 3)?;
-    let kind = number / 64 % 8;
     if kind < 4 {
         return Ok(session_op(alloc, client, number / 1024));
     }

@@ -36,10 +36,13 @@
 //! - `op CLIENT EPOCH.GATEWAY COUNTER CHANGE`: a change of a client's session.
 //! - `ops CLIENT EPOCH.GATEWAY FIRST LAST CHANGE`: the same change under each counter from the
 //!   first to the last.
-//! - `put CLIENT ORIGIN.NUMBER TOPIC QOS BODY`: a message for a client.
+//! - `put CLIENT ORIGIN.NUMBER TOPIC QOS BODY`, or with `retained` after: a message for a client.
 //! - `puts CLIENT ORIGIN FIRST LAST TOPIC QOS SIZE`: messages of so many octets, all the letter
 //!   `a`.
 //! - `ack CLIENT ORIGIN FIRST LAST`: a client has these messages.
+//! - `retain TOPIC CLOCK.GATEWAY QOS BODY`: what is retained of a topic.
+//! - `retains FIRST LAST CLOCK.GATEWAY QOS SIZE`: of so many topics so many octets, all the letter
+//!   `a`; the topics' names are their numbers in four hexadecimal digits.
 //! - `acks COUNT`: message 1 of gateway 1 for so many clients, whose names are 0, 1 and so on in
 //!   two octets.
 //! - `takes COUNT`: the row's session under stamp 1.1 for so many clients of these names.
@@ -64,6 +67,7 @@
 //!   many; the first so many are left.
 //! - `print`, `size`: the octets; how many there are.
 //! - `read`, `count`: the delta that they spell; how many operations it has.
+//! - `older`: the delta that they spell for what knows version 1 alone.
 //! - `altered AT HEX`: how many operations it has where an octet is another; the octets stay.
 //! - `beginnings`: the same of each beginning of them but the whole; neighbours that give the same
 //!   share a line.
@@ -77,7 +81,12 @@
 //! - `next CLIENT GATEWAY`: the epoch of the client's next Take, and the number of the gateway's
 //!   next message for it.
 //! - `clients`: how many clients it knows.
-//! - `held`, `parts`: the deltas of what must be kept; how many operations each has.
+//! - `held`, `parts`: the deltas of what must be kept; how many operations and octets each has, and
+//!   its version.
+//! - `retained TOPIC`, `clock TOPIC`: what is retained of a topic; the clock of what is retained
+//!   next of it.
+//! - `matching FILTER`: what is retained of the topics that a filter asks for.
+//! - `topics`: what is retained of each topic, and how many there are.
 //! - `fold`, `folded CLIENT GATEWAY`: as `join` and `next`, of a replica that folds; also if the
 //!   rows are played on one that keeps all.
 //! - `pair SEED TIMES SIZE LEAST`: so many times both replicas take so many operations that are
@@ -117,8 +126,8 @@
 //! - `row`: what the lines of a row have brought about (`Row`), and the play of one more.
 //! - `datagrams`: the same of a row of datagrams and topics.
 //! - `fields`, `names`, `operations`, `changes`: lines that are read.
-//! - `sessions`, `deltas`, `replicas`, `pairs`, `journals`, `attempts`, `retries`: lines that are
-//!   played.
+//! - `sessions`, `deltas`, `replicas`, `topics`, `pairs`, `journals`, `attempts`, `retries`: lines
+//!   that are played.
 //! - `made_up`: operations that are made up of a number.
 //! - `calls`: calls of the libraries.
 //! - `words`, `printing`, `runs`: what is printed.
@@ -143,6 +152,7 @@ mod row;
 mod runs;
 mod sessions;
 mod stop;
+mod topics;
 mod words;
 
 use crate::fields::fields;

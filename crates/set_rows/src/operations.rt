@@ -2,11 +2,11 @@
 
 use crate::changes::change;
 use crate::fields::{
-    client, count, level, message, message_number, named, number, octet, small_number, stamp,
-    topic, word,
+    client, clock, count, level, message, message_number, named, number, octet, small_number,
+    stamp, topic, word,
 };
 use crate::stop::Stop;
-use rep_ops::{ClientId, Op, Put, Stamp};
+use rep_ops::{ClientId, Op, Put, Retained, Stamp};
 use sn_session::{Session, SessionOp};
 use sn_tables::QosLevel;
 use std::alloc::Global;
@@ -73,14 +73,24 @@ pub(crate) fn session_ops(
     Ok(())
 }
 
-/// `put CLIENT ORIGIN.NUMBER TOPIC QOS BODY`: a message for a client.
+/// `put CLIENT ORIGIN.NUMBER TOPIC QOS BODY`, or with `retained` after: a message for a client.
 pub(crate) fn put_op(alloc: Global, fields: &[&str]) -> Result<Op, Stop> {
-    let [name, message, about, qos, said] = fields else {
+    let [name, message, about, qos, said, later @ ..] = fields else {
         return Err(Stop::Line);
     };
     let number = message_number(message)?;
     let qos = level(qos)?;
-    put_for(alloc, name, number, about, qos, word(said))
+    let retain = is_retained(later)?;
+    put_for(alloc, name, number, about, qos, retain, word(said))
+}
+
+/// Whether a message was retained.
+fn is_retained(later: &[&str]) -> Result<bool, Stop> {
+    match later {
+        [] => Ok(false),
+        ["retained"] => Ok(true),
+        _ => Err(Stop::Line),
+    }
 }
 
 /// `puts CLIENT ORIGIN FIRST LAST TOPIC QOS SIZE`: messages of so many octets, each the letter `a`.
@@ -122,7 +132,7 @@ fn add_put(
     qos: QosLevel,
     said: &[u8],
 ) -> Result<(), Stop> {
-    let op = put_for(alloc, name, number, about, qos, said)?;
+    let op = put_for(alloc, name, number, about, qos, false, said)?;
     Ok(ops.push(op)?)
 }
 
@@ -133,10 +143,11 @@ fn put_for(
     number: (u8, u64),
     about: &str,
     qos: QosLevel,
+    retain: bool,
     said: &[u8],
 ) -> Result<Op, Stop> {
     let client = client(alloc, name)?;
-    let put = put(alloc, number, about, qos, said)?;
+    let put = put(alloc, number, about, qos, retain, said)?;
     Ok(Op::Put { client, put })
 }
 
@@ -146,6 +157,7 @@ fn put(
     number: (u8, u64),
     about: &str,
     qos: QosLevel,
+    retain: bool,
     said: &[u8],
 ) -> Result<Put, Stop> {
     let (origin, seq) = number;
@@ -156,6 +168,8 @@ fn put(
         seq,
         topic,
         qos,
+        retain,
+        expires: 0,
         body,
     })
 }
@@ -173,6 +187,87 @@ pub(crate) fn ack_op(alloc: Global, fields: &[&str]) -> Result<Op, Stop> {
         first,
         last,
     })
+}
+
+/// `retain TOPIC CLOCK.GATEWAY QOS BODY`: what is retained of a topic.
+pub(crate) fn retain_op(alloc: Global, fields: &[&str]) -> Result<Op, Stop> {
+    let [about, under, qos, said] = fields else {
+        return Err(Stop::Line);
+    };
+    let under = clock(under)?;
+    let qos = level(qos)?;
+    retain_of(alloc, about, under, qos, word(said))
+}
+
+/// What is retained of a topic under a clock and a gateway.
+fn retain_of(
+    alloc: Global,
+    about: &str,
+    under: (u64, u8),
+    qos: QosLevel,
+    said: &[u8],
+) -> Result<Op, Stop> {
+    let (clock, gateway) = under;
+    let topic = topic(alloc, about)?;
+    match message(alloc, said) {
+        Ok(body) => Ok(Op::Retain {
+            topic,
+            retained: Retained {
+                clock,
+                gateway,
+                qos,
+                body,
+            },
+        }),
+        Err(stop) => {
+            drop(topic);
+            Err(stop)
+        }
+    }
+}
+
+/// `retains FIRST LAST CLOCK.GATEWAY QOS SIZE`: of so many topics so many octets, each the letter
+/// `a`. A topic's name is its number in four hexadecimal digits.
+pub(crate) fn retain_ops(alloc: Global, ops: &mut Vec<Op>, fields: &[&str]) -> Result<(), Stop> {
+    let [first, last, under, qos, size] = fields else {
+        return Err(Stop::Line);
+    };
+    let (first, last) = (small_number(first)?, small_number(last)?);
+    let (under, qos, size) = (clock(under)?, level(qos)?, count(size)?);
+    let said = vec![in alloc; b'a'; size]?;
+    let added = add_retains(alloc, ops, (first, last), under, qos, &said);
+    drop(said);
+    added
+}
+
+/// Adds what is retained of these topics, from a first number to a last.
+fn add_retains(
+    alloc: Global,
+    ops: &mut Vec<Op>,
+    (first, last): (u16, u16),
+    under: (u64, u8),
+    qos: QosLevel,
+    said: &[u8],
+) -> Result<(), Stop> {
+    for number in first..=last {
+        add_retain(alloc, ops, number, under, qos, said)?;
+    }
+    Ok(())
+}
+
+/// Adds what is retained of the topic of a number.
+fn add_retain(
+    alloc: Global,
+    ops: &mut Vec<Op>,
+    number: u16,
+    under: (u64, u8),
+    qos: QosLevel,
+    said: &[u8],
+) -> Result<(), Stop> {
+    let about = format!(in alloc; "{number:04x}")?;
+    let op = retain_of(alloc, about.as_str(), under, qos, said);
+    drop(about);
+    Ok(ops.push(op?)?)
 }
 
 /// `acks COUNT`: so many clients have message 1 of gateway 1. A client's name is its number from 0

@@ -2,7 +2,7 @@
 
 use crate::words::{Word, kind_word, known_word, phase_word, presence_word, retain_word};
 use rep_model::ClientView;
-use rep_ops::{Delta, Op, Put};
+use rep_ops::{Delta, Op, Put, Retained};
 use sn_session::{Outbound, Session, SessionOp, Will, WillTopic};
 use sn_tables::{QosLevel, Subscription, TopicEntry};
 use std::alloc::AllocError;
@@ -22,8 +22,23 @@ pub(crate) fn print_delta(text: &mut String, delta: &Delta) -> Result<(), AllocE
 
 /// The lines of an operation.
 fn print_op(text: &mut String, op: &Op) -> Result<(), AllocError> {
-    let client = Word(op.client().bytes());
-    print_op_of(text, client, op)
+    match op {
+        Op::Session { client, .. } => print_op_of(text, Word(client.bytes()), op),
+        Op::Put { client, .. } => print_op_of(text, Word(client.bytes()), op),
+        Op::Ack { client, .. } => print_op_of(text, Word(client.bytes()), op),
+        Op::Retain { topic, retained } => print_retained(text, Word(topic.bytes()), retained),
+    }
+}
+
+/// The line of what is retained of a topic.
+pub(crate) fn print_retained(
+    text: &mut String,
+    topic: Word<'_>,
+    retained: &Retained,
+) -> Result<(), AllocError> {
+    let (clock, gateway, qos) = (retained.clock, retained.gateway, retained.qos.number());
+    let body = Word(retained.body.as_slice());
+    writeln!(text, "retain {topic} {clock}.{gateway} {qos} {body}")
 }
 
 /// The lines of an operation of a client.
@@ -52,6 +67,7 @@ fn print_op_of(text: &mut String, client: Word<'_>, op: &Op) -> Result<(), Alloc
             let (origin, first, last) = (*origin, *first, *last);
             writeln!(text, "ack {client} {origin} {first} {last}")
         }
+        Op::Retain { topic, retained } => print_retained(text, Word(topic.bytes()), retained),
     }
 }
 
@@ -60,7 +76,13 @@ fn print_put(text: &mut String, put: &Put) -> Result<(), AllocError> {
     let (origin, seq, qos) = (put.origin, put.seq, put.qos.number());
     let topic = Word(put.topic.bytes());
     let body = Word(put.body.as_slice());
-    writeln!(text, "{origin}.{seq} {topic} {qos} {body}")
+    let later = later_words(put.retain);
+    writeln!(text, "{origin}.{seq} {topic} {qos} {body}{later}")
+}
+
+/// What stands after the body of a message.
+fn later_words(retain: bool) -> &'static str {
+    if retain { " retained" } else { "" }
 }
 
 /// The rest of the line of a change; the lines of a session after `take`.

@@ -160,17 +160,25 @@ pub(crate) fn next<R: Replica>(
         replica.next_epoch(&client),
         replica.next_seq(&client, gateway),
     );
-    Ok(print_next(text, epoch, seq)?)
+    Ok(print_numbers(text, epoch, seq)?)
 }
 
 /// A next epoch and a next number of a message.
-fn print_next(text: &mut String, epoch: Option<u64>, seq: Option<u64>) -> Result<(), AllocError> {
-    next_number(text, "epoch", epoch)?;
-    next_number(text, "message", seq)
+fn print_numbers(
+    text: &mut String,
+    epoch: Option<u64>,
+    seq: Option<u64>,
+) -> Result<(), AllocError> {
+    print_next(text, "epoch", epoch)?;
+    print_next(text, "message", seq)
 }
 
 /// The next number of something.
-fn next_number(text: &mut String, what: &str, number: Option<u64>) -> Result<(), AllocError> {
+pub(crate) fn print_next(
+    text: &mut String,
+    what: &str,
+    number: Option<u64>,
+) -> Result<(), AllocError> {
     match number {
         None => writeln!(text, "no next {what}"),
         Some(number) => writeln!(text, "next {what} {number}"),
@@ -210,19 +218,37 @@ fn print_held(text: &mut String, deltas: &[Delta]) -> Result<(), AllocError> {
     Ok(())
 }
 
-/// `parts`: how many operations each of these deltas has.
+/// `parts`: how many operations and octets each of these deltas has, and its version.
 pub(crate) fn parts<R: Replica>(alloc: Global, text: &mut String, replica: &R) -> Result<(), Stop> {
     let Ok(deltas) = replica.held(alloc) else {
         return Err(Stop::Memory);
     };
-    Ok(print_parts(text, &deltas)?)
+    print_parts(alloc, text, &deltas)
 }
 
-/// How many operations each of these deltas has.
-fn print_parts(text: &mut String, deltas: &[Delta]) -> Result<(), AllocError> {
+/// How many operations and octets each of these deltas has, and its version.
+fn print_parts(alloc: Global, text: &mut String, deltas: &[Delta]) -> Result<(), Stop> {
     for delta in deltas {
-        let count = delta.ops().len();
-        writeln!(text, "part of {count}")?;
+        print_part(alloc, text, delta)?;
     }
     Ok(())
+}
+
+/// How many operations and octets a delta has, and its version.
+fn print_part(alloc: Global, text: &mut String, delta: &Delta) -> Result<(), Stop> {
+    let count = delta.ops().len();
+    let mut octets = Vec::new(alloc);
+    if calls::write_delta(alloc, delta, &mut octets).is_err() {
+        return Err(Stop::Memory);
+    }
+    let (size, version) = (octets.len(), version_of(&octets));
+    Ok(writeln!(text, "part of {count}, octets {size}, version {version}")?)
+}
+
+/// The version of a delta, which its octets begin with.
+fn version_of(octets: &[u8]) -> u8 {
+    match octets {
+        [version, ..] => *version,
+        [] => 0,
+    }
 }

@@ -3,11 +3,13 @@
 use crate::attempts::{appends, compactions, openings};
 use crate::journals::Store;
 use crate::names::Names;
-use crate::operations::{ack_op, ack_ops, put_op, put_ops, session_op, session_ops, take_ops};
+use crate::operations::{
+    ack_op, ack_ops, put_op, put_ops, retain_op, retain_ops, session_op, session_ops, take_ops,
+};
 use crate::pairs::play_pair;
 use crate::retries::retries;
 use crate::stop::Stop;
-use crate::{deltas, journals, names, replicas, sessions};
+use crate::{deltas, journals, names, replicas, sessions, topics};
 use rep_model::Replica;
 use rep_ops::Op;
 use rep_state::Folded;
@@ -118,6 +120,8 @@ fn play_operations<R: Replica>(
         "op" => add(&mut row.ops, session_op(alloc, &row.session, rest)),
         "put" => add(&mut row.ops, put_op(alloc, rest)),
         "ack" => add(&mut row.ops, ack_op(alloc, rest)),
+        "retain" => add(&mut row.ops, retain_op(alloc, rest)),
+        "retains" => retain_ops(alloc, &mut row.ops, rest),
         _ => play_use(alloc, text, row, names, first, rest),
     }
 }
@@ -231,6 +235,7 @@ fn play_reading<R: Replica>(
         "print" => deltas::print(text, &row.octets),
         "size" => deltas::size(text, &row.octets),
         "read" => deltas::read(alloc, text, &row.octets),
+        "older" => deltas::older(alloc, text, &row.octets),
         "count" => deltas::counted(alloc, text, &row.octets),
         "altered" => deltas::altered(alloc, text, &row.octets, rest),
         "beginnings" => deltas::beginnings(alloc, text, &row.octets),
@@ -256,6 +261,23 @@ fn play_replica<R: Replica>(
         "held" => replicas::held(alloc, text, &row.replica),
         "parts" => replicas::parts(alloc, text, &row.replica),
         "pair" => play_pair(alloc, text, rest),
+        _ => play_topics(alloc, text, row, first, rest),
+    }
+}
+
+/// Lines that ask a replica what is retained.
+fn play_topics<R: Replica>(
+    alloc: Global,
+    text: &mut String,
+    row: &mut Row<R>,
+    first: &str,
+    rest: &[&str],
+) -> Result<(), Stop> {
+    match first {
+        "retained" => topics::retained(alloc, text, &row.replica, rest),
+        "clock" => topics::next_clock(alloc, text, &row.replica, rest),
+        "matching" => topics::matching(alloc, text, &row.replica, rest),
+        "topics" => topics::all(text, &row.replica),
         _ => play_store(alloc, text, &mut row.store, &row.octets, first, rest),
     }
 }

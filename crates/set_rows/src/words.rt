@@ -2,7 +2,7 @@
 
 use jr_journal::{JournalFault, Slot};
 use rep_model::{Limit, TakeFault};
-use rep_ops::OpsFault;
+use rep_ops::{OpsFault, Subject};
 use sn_session::{Phase, Presence};
 use std::{fmt, str};
 
@@ -50,9 +50,17 @@ impl fmt::Display for Digits<'_> {
 impl fmt::Display for NotTaken<'_> {
     fn fmt<W: fmt::Write>(&self, f: &mut fmt::Formatter<W>) -> fmt::Result {
         match self.0 {
-            TakeFault::Conflict { client } => {
+            TakeFault::Conflict {
+                of: Subject::Client(client),
+            } => {
                 let name = Word(client.bytes());
                 write!(f, "conflict {name}")
+            }
+            TakeFault::Conflict {
+                of: Subject::Topic(topic),
+            } => {
+                let name = Word(topic.bytes());
+                write!(f, "conflict topic {name}")
             }
             TakeFault::Full { limit } => {
                 let what = limit_word(*limit);
@@ -134,6 +142,7 @@ fn limit_word(limit: Limit) -> &'static str {
         Limit::Pending => "pending",
         Limit::Parked => "parked",
         Limit::Exceptions => "exceptions",
+        Limit::Retained => "retained",
     }
 }
 

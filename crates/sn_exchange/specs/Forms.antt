@@ -56,8 +56,16 @@ qos_bits qos = if qos == 0 then 0 else (if qos == 1 then 32 else 64)
 abbrev pub dup_bit : Bool → ℕ
 dup_bit again = if again then 128 else 0
 
--- the PUBLISH of a message, with DUP if it is sent again; Retain is clear
+-- the Retain bit: the client gets the message since it was retained
+abbrev pub retain_bit : Bool → ℕ
+retain_bit retain = if retain then 16 else 0
+
+-- the first octet of a message's PUBLISH, with DUP if it is sent again
+abbrev pub bits_of : Bool → Put → Form → ℕ
+bits_of again put form =
+    dup_bit again + qos_bits put.qos + retain_bit put.retain + kind_bits form.kind
+
+-- the PUBLISH of a message, with DUP if it is sent again, and with Retain if it was retained
 abbrev pub publication : Bool → Put → ℕ → Form → Frame
 publication again put msg_id form =
-    frames.Publish (record { bits = dup_bit again + qos_bits put.qos + kind_bits form.kind })
-    form.topic msg_id put.body
+    frames.Publish (record { bits = bits_of again put form }) form.topic msg_id put.body

@@ -139,7 +139,15 @@ fn dup_bit(again: bool) -> u8
     if again { 128 } else { 0 }
 }
 
-/// The PUBLISH of a message. Retain is clear.
+/// The Retain bit.
+fn retain_bit(retain: bool) -> u8
+    ensures value { result ≡ spec.retain_bit retain }
+    ensures limit { result ≤ 16 }
+{
+    if retain { 16 } else { 0 }
+}
+
+/// The PUBLISH of a message, with Retain if the client gets it since it was retained.
 pub fn publication(
     alloc: Global,
     again: bool,
@@ -152,7 +160,7 @@ pub fn publication(
     ensures size { IfOk result (λ frame. total_of frame ≤ MAX_FRAME) }
 {
     let flags = Flags {
-        bits: dup_bit(again) + qos_bits(put.qos) + kind_bits(form.kind),
+        bits: dup_bit(again) + qos_bits(put.qos) + retain_bit(put.retain) + kind_bits(form.kind),
     };
     // A message has a size that fits every frame.
     let _size = put.body.len();

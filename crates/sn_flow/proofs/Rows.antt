@@ -65,6 +65,9 @@ full =
       of = λ c. record { stamp = Some (record { epoch = 1; gateway = 1 }); prefix = 256; session = Some session_of_s1; pending = [] };
       epoch = λ c. Some 2;
       seq = λ c g. Some 1;
+      topics = [];
+      retained = λ t. None;
+      clock = λ t. Some 1;
     }
 
 -- the next operation goes under a new stamp, after a Take of the session so far, in the same delta

@@ -32,7 +32,7 @@ had =
     }
 
 abbrev waiting : Put
-waiting = record { origin = 2; seq = 9; topic = codes "t/a"; qos = 1; body = [] }
+waiting = record { origin = 2; seq = 9; topic = codes "t/a"; qos = 1; retain = false; expires = 0; body = [] }
 
 -- the gateway 1 owns the client
 abbrev known : Seen
@@ -43,6 +43,9 @@ known =
       of = λ c. record { stamp = Some (record { epoch = 1; gateway = 1 }); prefix = 1; session = Some had; pending = waiting ∷ [] };
       epoch = λ c. Some 2;
       seq = λ c g. Some 1;
+      topics = [];
+      retained = λ t. None;
+      clock = λ t. Some 1;
     }
 
 -- a dialog of the address, since moment 0

@@ -11,8 +11,8 @@ use thiserror::Error;
 /// Why a step has no plan. Nothing was changed.
 #[derive(Clone, Copy, Debug, PartialEq, Eq, Error)]
 pub enum StepFault {
-    /// Fault 1: the step needs an epoch or a sequence number after the last one.
-    #[error("an epoch or a sequence number is at its last value")]
+    /// Fault 1: the step needs an epoch, a sequence number or a clock after the last one.
+    #[error("an epoch, a sequence number or a clock is at its last value")]
     Exhausted,
     /// Fault 2: memory ran out.
     #[error("out of memory")]

@@ -9,14 +9,16 @@ use Rattle.sn_session.specs.declared.change.SessionOp.{SessionOp}
 use Rattle.rep_op.specs.declared.op.Stamp.{Stamp}
 use Rattle.rep_op.specs.declared.op.Put.{Put}
 use Rattle.rep_op.specs.declared.op.Op.{Op}
-use Rattle.rep_op.specs.declared.op.Op.TheVariants.{Session as OfSession, Put as OfPut, Ack}
-use Rattle.rep_op.specs.Orders.{operation_cmp, put_cmp}
-use Rattle.rep_op.specs.Sets.{same_client, operation_of, operation_at, put_of, put_at, acknowledges, is_acknowledged, Stands, IsConsistent, Agrees, Same}
+use Rattle.rep_op.specs.declared.op.Op.TheVariants.{Session as OfSession, Put as OfPut, Ack, Retain as OfRetain}
+use Rattle.rep_op.specs.declared.op.Retained.{Retained}
+use Rattle.rep_op.specs.Orders.{operation_cmp, put_cmp, clock_of, clock_cmp}
+use Rattle.rep_op.specs.Sets.{same_client, same_topic, operation_of, operation_at, put_of, put_at, acknowledges, is_acknowledged, retain_of, retain_at, Stands, IsConsistent, Agrees, Same}
 use Rattle.rep_model.specs.Views.{visible}
-use Rattle.rep_model.specs.Keep.{is_below, keep}
+use Rattle.rep_model.specs.Topics.{latest}
+use Rattle.rep_model.specs.Keep.{is_below, is_outdone, keep}
 use Rattle.rep_model.specs.Taking.{AllAgree}
 use Rattle.rep_model.proofs.Lookup.{or_else, find-all}
-use Rattle.rep_model.proofs.Readers.{operation_exact, put_total, put_exact, same_client-true, operation_at_both, put_at_both, is_acknowledged_both, operation_at_keep, put_at_keep}
+use Rattle.rep_model.proofs.Readers.{operation_exact, put_total, put_exact, clock_total, clock_exact, same_client-true, same_topic-true, operation_at_both, put_at_both, is_acknowledged_both, retain_at_both, operation_at_keep, put_at_keep, retain_at_keep}
 use Rattle.rep_model.proofs.Thin.{some_left, some_right}
 use Rattle.sn_plan.specs.Own.{IsFresh, AreFresh}
 use Rattle.sn_plan.proofs.Lists.{all-append, all-weaken}
@@ -28,15 +30,22 @@ stands-more : (A B : List Op) (op : Op) → Stands A op → Stands (A ++ B) op
 stands-more A B (OfSession c stamp counter change) h = operation_at_both c A B (stamp, counter) ∙ ap (λ a. or_else a (operation_at c B (stamp, counter))) h
 stands-more A B (OfPut c p) h = put_at_both c A B (p.seq, p.origin) ∙ ap (λ a. or_else a (put_at c B (p.seq, p.origin))) h
 stands-more A B (Ack c origin first last) h = λ seq lower upper. is_acknowledged_both c A B (seq, origin) ∙ ap (λ a. a || is_acknowledged c B (seq, origin)) (h seq lower upper)
+stands-more A B (OfRetain t k) h = retain_at_both t A B (clock_of k) ∙ ap (λ a. or_else a (retain_at t B (clock_of k))) h
 
 pub put-alone : (c : List ℕ) (p : Put) → put_at c (OfPut c p ∷ []) (p.seq, p.origin) ≡ Some p
 put-alone c p =
     ap (λ b. find put_cmp (p.seq, p.origin) (cons_option (if b then Some ((p.seq, p.origin), p) else None) [])) (same_client-itself c)
     ∙ ap (λ r. cond (is_eq r) (Some p) None) (tied_itself put_total (p.seq, p.origin))
 
+pub retain-alone : (t : List ℕ) (k : Retained) → retain_at t (OfRetain t k ∷ []) (clock_of k) ≡ Some k
+retain-alone t k =
+    ap (λ b. find clock_cmp (clock_of k) (cons_option (if b then Some (clock_of k, k) else None) [])) (same_client-itself t)
+    ∙ ap (λ r. cond (is_eq r) (Some k) None) (tied_itself clock_total (clock_of k))
+
 stands-new : (S : List Op) (op : Op) → IsFresh S op → Stands (S ++ op ∷ []) op
 stands-new S (OfSession c stamp counter change) h = at_own c S stamp counter change h
 stands-new S (OfPut c p) h = put_at_both c S (OfPut c p ∷ []) (p.seq, p.origin) ∙ none_or (put_at c S (p.seq, p.origin)) (put_at c (OfPut c p ∷ []) (p.seq, p.origin)) h ∙ put-alone c p
+stands-new S (OfRetain t k) h = retain_at_both t S (OfRetain t k ∷ []) (clock_of k) ∙ none_or (retain_at t S (clock_of k)) (retain_at t (OfRetain t k ∷ []) (clock_of k)) h ∙ retain-alone t k
 stands-new S (Ack c origin first last) h = λ seq lower upper.
     let own : (same_client c c && (origin == origin)) ≡ true = and_from (same_client c c) (origin == origin) (same_client-itself c) (eq-eqb origin origin refl) in
     let from : (same_client c c && (origin == origin) && nat_le first seq) ≡ true = and_from (same_client c c && (origin == origin)) (nat_le first seq) own (le-leb first seq lower) in
@@ -64,6 +73,7 @@ fresh-part : (A B : List Op) (op : Op) → IsFresh (A ++ B) op → IsFresh A op
 fresh-part A B (OfSession c stamp counter change) h = none_first (operation_at c A (stamp, counter)) (operation_at c B (stamp, counter)) (sym (operation_at_both c A B (stamp, counter)) ∙ h)
 fresh-part A B (OfPut c p) h = none_first (put_at c A (p.seq, p.origin)) (put_at c B (p.seq, p.origin)) (sym (put_at_both c A B (p.seq, p.origin)) ∙ h)
 fresh-part A B (Ack c origin first last) h = tt
+fresh-part A B (OfRetain t k) h = none_first (retain_at t A (clock_of k)) (retain_at t B (clock_of k)) (sym (retain_at_both t A B (clock_of k)) ∙ h)
 
 all-fresh : (S ops : List Op) → AreFresh S ops → AllByRecursion (IsFresh S) ops
 all-fresh S [] f = tt
@@ -77,6 +87,7 @@ fresh-operation S c (OfSession d stamp counter change) h =
     ] refl
 fresh-operation S c (OfPut d p) h = tt
 fresh-operation S c (Ack d origin first last) h = tt
+fresh-operation S c (OfRetain t k) h = tt
 
 fresh-put : (S : List Op) (c : List ℕ) (op : Op) → IsFresh S op → IfSome (put_of c op) (λ e. put_at c S e.0 ≡ None)
 fresh-put S c (OfSession d stamp counter change) h = tt
@@ -86,6 +97,17 @@ fresh-put S c (OfPut d p) h =
       | false ↦ λ _. tt
     ] refl
 fresh-put S c (Ack d origin first last) h = tt
+fresh-put S c (OfRetain t k) h = tt
+
+fresh-retain : (S : List Op) (t : List ℕ) (op : Op) → IsFresh S op → IfSome (retain_of t op) (λ e. retain_at t S e.0 ≡ None)
+fresh-retain S t (OfSession d stamp counter change) h = tt
+fresh-retain S t (OfPut d p) h = tt
+fresh-retain S t (Ack d origin first last) h = tt
+fresh-retain S t (OfRetain u k) h =
+    elim (same_topic t u) as (λ b. same_topic t u ≡ b → IfSome {T = (ℕ × ℕ) × Retained} (if b then Some (clock_of k, k) else None) (λ e. retain_at t S e.0 ≡ None)) [
+      | true ↦ λ same. ap (λ x. retain_at x S (clock_of k)) (same_topic-true t u same) ∙ h
+      | false ↦ λ _. tt
+    ] refl
 
 if_there : {X Y : Type 0} (o p : Option X) (q : Option Y) → IfSome o (λ _. q ≡ None) → p ≡ o → is_some p ≡ true → q ≡ None
 if_there None p q h e s = absurd (true≢false (sym s ∙ ap is_some e))
@@ -96,16 +118,19 @@ abbrev pub IsThere : List Op → Op → Type 0
 IsThere D (OfSession c stamp counter change) = is_some (operation_at c D (stamp, counter)) ≡ true
 IsThere D (OfPut c p) = is_some (put_at c D (p.seq, p.origin)) ≡ true
 IsThere D (Ack c origin first last) = Unit {0}
+IsThere D (OfRetain t k) = is_some (retain_at t D (clock_of k)) ≡ true
 
 there-behind : (op : Op) (D : List Op) (other : Op) → IsThere D other → IsThere (op ∷ D) other
 there-behind op D (OfSession c stamp counter change) h = ap is_some (operation_at_both c (op ∷ []) D (stamp, counter)) ∙ some_right (operation_at c (op ∷ []) (stamp, counter)) (operation_at c D (stamp, counter)) h
 there-behind op D (OfPut c p) h = ap is_some (put_at_both c (op ∷ []) D (p.seq, p.origin)) ∙ some_right (put_at c (op ∷ []) (p.seq, p.origin)) (put_at c D (p.seq, p.origin)) h
 there-behind op D (Ack c origin first last) h = tt
+there-behind op D (OfRetain t k) h = ap is_some (retain_at_both t (op ∷ []) D (clock_of k)) ∙ some_right (retain_at t (op ∷ []) (clock_of k)) (retain_at t D (clock_of k)) h
 
 there-first : (op : Op) (D : List Op) → IsThere (op ∷ D) op
 there-first (OfSession c stamp counter change) D = ap is_some (operation_at_both c (OfSession c stamp counter change ∷ []) D (stamp, counter)) ∙ some_left (operation_at c (OfSession c stamp counter change ∷ []) (stamp, counter)) (operation_at c D (stamp, counter)) (ap is_some (at_own c [] stamp counter change refl))
 there-first (OfPut c p) D = ap is_some (put_at_both c (OfPut c p ∷ []) D (p.seq, p.origin)) ∙ some_left (put_at c (OfPut c p ∷ []) (p.seq, p.origin)) (put_at c D (p.seq, p.origin)) (ap is_some (put-alone c p))
 there-first (Ack c origin first last) D = tt
+there-first (OfRetain t k) D = ap is_some (retain_at_both t (OfRetain t k ∷ []) D (clock_of k)) ∙ some_left (retain_at t (OfRetain t k ∷ []) (clock_of k)) (retain_at t D (clock_of k)) (ap is_some (retain-alone t k))
 
 pub all-there : (D : List Op) → AllByRecursion (IsThere D) D
 all-there [] = tt
@@ -128,6 +153,11 @@ module _ (S ops : List Op) (f : AreFresh S ops) (delta : List Op) (same : Same d
       (find-all put_cmp put_exact (put_of c) (λ n x. put_at c S n ≡ None) ops (all-weaken (IsFresh S) (λ op. IfSome (put_of c op) (λ e. put_at c S e.0 ≡ None)) (fresh-put S c) ops (all-fresh S ops f)) name)
       (same.puts_same c name)
 
+  pub new-retain : (t : List ℕ) (name : ℕ × ℕ) → is_some (retain_at t delta name) ≡ true → retain_at t S name ≡ None
+  new-retain t name = if_there (retain_at t ops name) (retain_at t delta name) (retain_at t S name)
+      (find-all clock_cmp clock_exact (retain_of t) (λ n x. retain_at t S n ≡ None) ops (all-weaken (IsFresh S) (λ op. IfSome (retain_of t op) (λ e. retain_at t S e.0 ≡ None)) (fresh-retain S t) ops (all-fresh S ops f)) name)
+      (same.retains_same t name)
+
   agree : (op : Op) → IsThere delta op → Agrees S op × Agrees (keep S) op
   agree (OfSession c stamp counter change) h =
       let none : operation_at c S (stamp, counter) ≡ None = new-operation c (stamp, counter) h in
@@ -138,6 +168,10 @@ module _ (S ops : List Op) (f : AreFresh S ops) (delta : List Op) (same : Same d
       let kept : put_at c (keep S) (p.seq, p.origin) ≡ None = put_at_keep c S (p.seq, p.origin) ∙ none_kept (not (is_acknowledged c S (p.seq, p.origin))) (put_at c S (p.seq, p.origin)) none in
       (subst (λ o. IfSome o (λ x. x ≡ p)) (sym none) tt, subst (λ o. IfSome o (λ x. x ≡ p)) (sym kept) tt)
   agree (Ack c origin first last) h = (tt, tt)
+  agree (OfRetain t k) h =
+      let none : retain_at t S (clock_of k) ≡ None = new-retain t (clock_of k) h in
+      let kept : retain_at t (keep S) (clock_of k) ≡ None = retain_at_keep t S (clock_of k) ∙ none_kept (not (is_outdone (clock_of k) (latest t S))) (retain_at t S (clock_of k)) none in
+      (subst (λ o. IfSome o (λ x. x ≡ k)) (sym none) tt, subst (λ o. IfSome o (λ x. x ≡ k)) (sym kept) tt)
 
   pub plan-fits : AllAgree S delta × AllAgree (keep S) delta
   plan-fits = (

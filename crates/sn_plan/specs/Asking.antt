@@ -1,6 +1,6 @@
 -- What a frame asks for by its flags and its topic field (MQTT-SN 1.2 sections 5.3.4, 5.3.11 and
 -- 5.3.12).
-use Rattle.std.specs.Prelude.{ℕ, ◌+◌, ◌*◌, if◌then◌else◌, List, ◌∷◌, Option, Some, None}
+use Rattle.std.specs.Prelude.{ℕ, ◌+◌, ◌*◌, ◌^◌, ◌==◌, Bool, not, bit_and, if◌then◌else◌, List, ◌∷◌, Option, Some, None}
 use Rattle.sn_topic.specs.Table.{Entries, name_of}
 use Rattle.sn_topic.specs.Topics.{is_name, is_filter}
 use Rattle.sn_frame.specs.declared.flags.Qos.{Qos}
@@ -16,6 +16,10 @@ qos_asked levels.Zero = Some 0
 qos_asked levels.One = Some 1
 qos_asked levels.Two = Some 2
 qos_asked levels.MinusOne = None
+
+-- whether what is published is to be retained: bit 4 of the flags (5.3.4)
+abbrev pub retain_asked : ℕ → Bool
+retain_asked bits = not (bit_and bits (2 ^ 4) == 0)
 
 -- these octets, if they are a filter; else code 3, not supported
 abbrev pub in_full : List ℕ → Asked

@@ -8,20 +8,33 @@ use Rattle.sn_frame.specs.Grammar.{spelling}
 use Rattle.sn_local.specs.declared.config.Addr.{Addr}
 use Rattle.sn_local.specs.declared.config.Send.{Send}
 use Rattle.sn_plan.specs.declared.draft.NewPut.{NewPut}
+use Rattle.sn_plan.specs.declared.draft.Posted.{Posted}
 use Rattle.sn_local.specs.declared.local.LocalChange.{LocalChange}
 
--- changes of one client's session, acknowledgements of its puts (sequence number and origin),
--- messages for any client, frames, changes of the local state
+-- changes of one client's session, acknowledgements of its puts (sequence number and origin), what
+-- was retained and it is handed now, what is retained from now on, messages for any client, frames,
+-- changes of the local state
 pub record Drafted : Type 0 where
   pub changes : List SessionOp
   pub acks : List (ℕ × ℕ)
+  pub handed : List Posted
+  pub retain : Option Posted
   pub puts : List NewPut
   pub sends : List Send
   pub local : List LocalChange
 
 -- nothing changes and nothing is sent
 abbrev pub nothing : Drafted
-nothing = record { changes = []; acks = []; puts = []; sends = []; local = [] }
+nothing =
+    record {
+      changes = [];
+      acks = [];
+      handed = [];
+      retain = None;
+      puts = [];
+      sends = [];
+      local = [];
+    }
 
 -- and then this session operation
 abbrev pub changed : SessionOp → Drafted → Drafted
@@ -39,6 +52,14 @@ acked name d = record d { acks = d.acks ++ name ∷ [] }
 -- and then the acknowledgements of these puts
 abbrev pub acked_all : List (ℕ × ℕ) → Drafted → Drafted
 acked_all names d = record d { acks = d.acks ++ names }
+
+-- and then the client is handed this, which was retained
+abbrev pub hand_all : List Posted → Drafted → Drafted
+hand_all posted d = record d { handed = d.handed ++ posted }
+
+-- and then this is retained, or nothing
+abbrev pub retain_if : Option Posted → Drafted → Drafted
+retain_if posted d = record d { retain = posted }
 
 -- and then these messages
 abbrev pub put_all : List NewPut → Drafted → Drafted

@@ -1,16 +1,18 @@
 -- From a draft to operations under names of the gateway's own.
-use Rattle.std.specs.Prelude.{ℕ, ◌+◌, ◌==◌, if◌then◌else◌, nat_lt, List, [], ◌∷◌, ◌++◌, map, Option, Some, None, option_and_then, unwrap_or}
+use Rattle.std.specs.Prelude.{ℕ, Bool, ◌+◌, ◌==◌, if◌then◌else◌, nat_lt, List, [], ◌∷◌, ◌++◌, map, Option, Some, None, option_and_then, unwrap_or, true, false}
 use Rattle.std.specs.Option.{option_map}
 use Rattle.sn_session.specs.declared.session.Session.{Session}
 use Rattle.sn_session.specs.declared.change.SessionOp.{SessionOp}
 use Rattle.sn_session.specs.declared.change.SessionOp.TheVariants.{Take}
 use Rattle.sn_session.specs.Session.{applied, empty_session}
 use Rattle.rep_op.specs.declared.op.Stamp.{Stamp}
+use Rattle.rep_op.specs.declared.op.Retained.{Retained}
 use Rattle.rep_op.specs.declared.op.Op.{Op}
-use Rattle.rep_op.specs.declared.op.Op.TheVariants.{Session as OfSession, Put as OfPut, Ack}
+use Rattle.rep_op.specs.declared.op.Op.TheVariants.{Session as OfSession, Put as OfPut, Ack, Retain as OfRetain}
 use Rattle.rep_model.specs.declared.view.ClientView.{ClientView}
 use Rattle.rep_model.specs.Fresh.{one_more}
 use Rattle.sn_plan.specs.declared.draft.NewPut.{NewPut}
+use Rattle.sn_plan.specs.declared.draft.Posted.{Posted}
 use Rattle.sn_plan.specs.declared.plan.Plan.{Plan}
 use Rattle.rep_op.specs.declared.op.TheConstants.{MAX_OPERATIONS}
 use Rattle.sn_plan.specs.Drafts.{Drafted}
@@ -89,16 +91,69 @@ start_of g v next =
       ops = [];
     }
 
--- a message under a sequence number of the gateway's
+-- a message under a sequence number of the gateway's: since it is published, or since it was
+-- retained
+abbrev pub put_under : ℕ → Bool → NewPut → ℕ → Op
+put_under g retain p n =
+    OfPut p.client (record {
+      origin = g;
+      seq = n;
+      topic = p.topic;
+      qos = p.qos;
+      retain = retain;
+      expires = 0;
+      body = p.body;
+    })
+
+-- a message under a sequence number of the gateway's, as it is published: not since it was
+-- retained
 abbrev pub put_at_seq : ℕ → NewPut → ℕ → Op
-put_at_seq g p n =
-    OfPut p.client (record { origin = g; seq = n; topic = p.topic; qos = p.qos; body = p.body })
+put_at_seq g p n = put_under g false p n
 
 -- the messages, each under the next sequence number of its client; one message a client
 abbrev pub with_puts : ℕ → (List ℕ → Option ℕ) → List NewPut → List Op → Option (List Op)
 with_puts g seq [] ops = Some ops
 with_puts g seq (p ∷ rest) ops =
     option_and_then (λ n. with_puts g seq rest (ops ++ put_at_seq g p n ∷ [])) (seq p.client)
+
+-- the message by which a client is handed what was retained
+abbrev pub handed_to : List ℕ → Posted → NewPut
+handed_to c m = record { client = c; topic = m.topic; qos = m.qos; body = m.body }
+
+-- a message that a client is handed, under a sequence number of the gateway's: since it was
+-- retained
+abbrev pub handed_at_seq : ℕ → List ℕ → Posted → ℕ → Op
+handed_at_seq g c m n = put_under g true (handed_to c m) n
+
+-- what a client is handed: the first under its next sequence number, each under the number after
+-- the one before
+abbrev pub with_handed : ℕ → List ℕ → Option ℕ → List Posted → List Op → Option (List Op)
+with_handed g c next [] ops = Some ops
+with_handed g c next (m ∷ rest) ops =
+    option_and_then
+    (λ n. with_handed g c (one_more n) rest (ops ++ handed_at_seq g c m n ∷ [])) next
+
+-- what is posted, as the gateway retains it under a clock
+abbrev pub kept_as : ℕ → Posted → ℕ → Retained
+kept_as g m n = record { clock = n; gateway = g; qos = m.qos; body = m.body }
+
+-- what the gateway retains under a clock of its topic
+abbrev pub retain_at_clock : ℕ → Posted → ℕ → Op
+retain_at_clock g m n = OfRetain m.topic (kept_as g m n)
+
+-- what is retained, if there is anything, under the next clock of its topic
+abbrev pub with_retain : ℕ → (List ℕ → Option ℕ) → Option Posted → List Op → Option (List Op)
+with_retain g clock None ops = Some ops
+with_retain g clock (Some m) ops =
+    option_map (λ n. ops ++ retain_at_clock g m n ∷ []) (clock m.topic)
+
+-- and then what a draft needs new numbers for: what the client is handed, what is retained, the
+-- messages; none if a number is needed and the last is taken
+abbrev pub numbered : ℕ → List ℕ → (List ℕ → Option ℕ) → (List ℕ → Option ℕ) → Drafted → List Op
+    → Option (List Op)
+numbered g c seq clock d ops =
+    option_and_then (with_puts g seq d.puts)
+    (option_and_then (with_retain g clock d.retain) (with_handed g c (seq c) d.handed ops))
 
 -- the acknowledgement of one put: of sequence number and origin
 abbrev pub ack_of : List ℕ → ℕ × ℕ → Op
@@ -108,15 +163,16 @@ ack_of c name = Ack c name.1 name.0 name.0
 abbrev pub plan_with : Drafted → List Op → Plan
 plan_with d ops = record { ops = ops; sends = d.sends; local = d.local }
 
--- the plan of a draft after its session operations: acknowledgements follow, then messages; none if
--- a sequence number is needed and the last is taken
-abbrev pub rest_of : ℕ → List ℕ → (List ℕ → Option ℕ) → Drafted → Written → Option Plan
-rest_of g c seq d w =
-    option_map (plan_with d) (with_puts g seq d.puts (w.ops ++ map (ack_of c) d.acks))
-
--- The plan of a draft for a client, by its view, its next epoch and the next sequence numbers.
--- There is none if it needs a number after the last.
-unfoldable pub planned : ℕ → List ℕ → ClientView → Option ℕ → (List ℕ → Option ℕ) → Drafted
+-- the plan of a draft after its session operations: acknowledgements follow, then what needs new
+-- numbers; none if one is needed and the last is taken
+abbrev pub rest_of : ℕ → List ℕ → (List ℕ → Option ℕ) → (List ℕ → Option ℕ) → Drafted → Written
     → Option Plan
-planned g c v epoch seq d =
-    option_and_then (rest_of g c seq d) (written c g d.changes (start_of g v epoch))
+rest_of g c seq clock d w =
+    option_map (plan_with d) (numbered g c seq clock d (w.ops ++ map (ack_of c) d.acks))
+
+-- The plan of a draft for a client, by its view, its next epoch, the next sequence numbers of
+-- clients and the next clocks of topics. There is none if it needs a number after the last.
+unfoldable pub planned : ℕ → List ℕ → ClientView → Option ℕ → (List ℕ → Option ℕ)
+    → (List ℕ → Option ℕ) → Drafted → Option Plan
+planned g c v epoch seq clock d =
+    option_and_then (rest_of g c seq clock d) (written c g d.changes (start_of g v epoch))

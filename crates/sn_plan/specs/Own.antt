@@ -1,12 +1,15 @@
 -- Whose the names of operations are, and whether they were used before.
-use Rattle.std.specs.Prelude.{◌≡◌, ℕ, ◌⊎◌, List, [], ◌∷◌, ◌++◌, Option, Some, None, Contains}
+use Rattle.std.specs.Prelude.{◌≡◌, ℕ, ◌⊎◌, if◌then◌else◌, List, [], ◌∷◌, ◌++◌, Option, Some, None, Contains}
 use Rattle.std.specs.List.{AllByRecursion, filter_map}
 use Rattle.sn_session.specs.declared.change.SessionOp.{SessionOp}
+use Rattle.rep_op.specs.declared.op.Put.{Put}
 use Rattle.rep_op.specs.declared.op.Op.{Op}
-use Rattle.rep_op.specs.declared.op.Op.TheVariants.{Session as OfSession, Put as OfPut, Ack}
-use Rattle.rep_op.specs.Sets.{operation_at, put_at}
+use Rattle.rep_op.specs.declared.op.Op.TheVariants.{Session as OfSession, Put as OfPut, Ack, Retain as OfRetain}
+use Rattle.rep_op.specs.Orders.{clock_of}
+use Rattle.rep_op.specs.Sets.{operation_at, put_at, retain_at}
 use Rattle.rep_model.specs.Views.{pending_at}
 use Rattle.sn_plan.specs.declared.draft.NewPut.{NewPut}
+use Rattle.sn_plan.specs.declared.draft.Posted.{Posted}
 use Rattle.sn_plan.specs.declared.plan.Plan.{Plan}
 use Rattle.sn_plan.specs.declared.row.Row.{Row}
 use Rattle.sn_plan.specs.Drafts.{Drafted}
@@ -15,11 +18,12 @@ use Rattle.sn_plan.specs.Plans.{plan_of}
 use Rattle.sn_plan.specs.Flush.{stamp_of}
 
 -- a session operation of the client under a stamp of the gateway; a message that the gateway made;
--- an acknowledgement by the client
+-- an acknowledgement by the client; what the gateway retained
 abbrev pub IsOwn : ℕ → List ℕ → Op → Type 0
 IsOwn g c (OfSession d stamp counter change) = (d ≡ c) × (stamp.gateway ≡ g)
 IsOwn g c (OfPut d put) = put.origin ≡ g
 IsOwn g c (Ack d origin first last) = d ≡ c
+IsOwn g c (OfRetain t kept) = kept.gateway ≡ g
 
 -- none of the client's session operations in the set is under a stamp of the gateway
 abbrev pub HasNoneOf : ℕ → List ℕ → List Op → Type 0
@@ -32,11 +36,12 @@ AddsNone g c S D =
     → operation_at c D (stamp_of epoch g, counter) ≡ Some change
     → operation_at c S (stamp_of epoch g, counter) ≡ Some change
 
--- the set has nothing under the name of the session operation or message
+-- the set has nothing under the name of the session operation or message, or of what is retained
 abbrev pub IsFresh : List Op → Op → Type 0
 IsFresh S (OfSession c stamp counter change) = operation_at c S (stamp, counter) ≡ None
 IsFresh S (OfPut c put) = put_at c S (put.seq, put.origin) ≡ None
 IsFresh S (Ack c origin first last) = Unit {0}
+IsFresh S (OfRetain t kept) = retain_at t S (clock_of kept) ≡ None
 
 -- each is fresh in the set with the operations before it, so no name occurs twice
 abbrev pub AreFresh : List Op → List Op → Type 0
@@ -49,16 +54,48 @@ IsOneEach [] = Unit {0}
 IsOneEach (p ∷ rest) =
     AllByRecursion (λ (q : NewPut). ¬ (q.client ≡ p.client)) rest × IsOneEach rest
 
--- the message of an operation, as the draft has it: without name
+-- what a draft may put and hand: messages for clients that are all different, and none of them
+-- where its own client is handed what was retained
+pub record IsApart (d : Drafted) : Type 0 where
+  pub one_each : IsOneEach d.puts
+  pub alone : (d.handed ≡ []) ⊎ (d.puts ≡ [])
+
+-- a put as the draft has it: without name
+abbrev pub unnamed : List ℕ → Put → NewPut
+unnamed c put = record { client = c; topic = put.topic; qos = put.qos; body = put.body }
+
+-- the message of an operation, as the draft has it, but not where it was retained
 abbrev pub message_of : Op → Option NewPut
 message_of (OfSession c stamp counter change) = None
-message_of (OfPut c put) =
-    Some (record { client = c; topic = put.topic; qos = put.qos; body = put.body })
+message_of (OfPut c put) = if put.retain then None else Some (unnamed c put)
 message_of (Ack c origin first last) = None
+message_of (OfRetain t kept) = None
 
 -- the messages of the operations, in their order
 abbrev pub messages : List Op → List NewPut
 messages ops = filter_map message_of ops
+
+-- the message by which the operation hands a client what was retained
+abbrev pub handed_of : Op → Option NewPut
+handed_of (OfSession c stamp counter change) = None
+handed_of (OfPut c put) = if put.retain then Some (unnamed c put) else None
+handed_of (Ack c origin first last) = None
+handed_of (OfRetain t kept) = None
+
+-- the messages by which the operations hand a client what was retained, in their order
+abbrev pub handed_in : List Op → List NewPut
+handed_in ops = filter_map handed_of ops
+
+-- what an operation retains, without clock and gateway
+abbrev pub posted_of : Op → Option Posted
+posted_of (OfSession c stamp counter change) = None
+posted_of (OfPut c put) = None
+posted_of (Ack c origin first last) = None
+posted_of (OfRetain t kept) = Some (record { topic = t; qos = kept.qos; body = kept.body })
+
+-- what the operations retain, in their order
+abbrev pub retained_in : List Op → List Posted
+retained_in ops = filter_map posted_of ops
 
 -- the message waits for its client; or the client acknowledges it by one of these names
 abbrev pub Waits : List Op → List ℕ → List (ℕ × ℕ) → Op → Type 0
@@ -67,14 +104,22 @@ Waits S c acks (OfPut d put) =
     (pending_at d S (put.seq, put.origin) ≡ Some put)
     ⊎ ((d ≡ c) × Contains acks (put.seq, put.origin))
 Waits S c acks (Ack d origin first last) = Unit {0}
+Waits S c acks (OfRetain t kept) = Unit {0}
 
--- the plan is that of a draft for a client, with at most one message for each client
+-- the plan is that of a draft for a client, with at most one message for each client, or what was
+-- retained for its own
 pub record IsOfDraft (g : ℕ) (seen : Seen) (plan : Plan) : Type 0 where
   pub client : List ℕ
   pub draft : Drafted
-  pub one_each : IsOneEach draft.puts
+  pub apart : IsApart draft
   pub is : plan_of g client seen draft ≡ Some plan
 
--- the row makes no message
+-- the row makes no message of a publication, and retains nothing
+abbrev pub PublishesNothing : Row → Type 0
+PublishesNothing row = (row.draft.puts ≡ []) × (row.draft.retain ≡ None)
+
+-- the row makes no message: none of a publication, and none that hands what was retained; and it
+-- retains nothing
 abbrev pub MakesNoMessage : Row → Type 0
-MakesNoMessage row = row.draft.puts ≡ []
+MakesNoMessage row =
+    (row.draft.puts ≡ []) × (row.draft.handed ≡ []) × (row.draft.retain ≡ None)

@@ -24,7 +24,8 @@ row_of_none d = record { client = None; draft = d; follow = Nothing }
 abbrev pub heard_row : Option (List ℕ) → ℕ → Row → Row
 heard_row bound now row = record row { draft = heard_of bound now row.draft }
 
--- the plan of a draft for the client; without one that of its messages, frames and local changes
+-- the plan of a draft for the client; without one that of what is retained, its messages, frames
+-- and local changes
 abbrev pub plan_for : ℕ → Seen → Drafted → Option (List ℕ) → Option Plan
 plan_for g seen d None = plan_of_puts g seen d
 plan_for g seen d (Some c) = plan_of g c seen d

@@ -8,7 +8,7 @@ ghost use Rattle.sn_plan.specs.Asking as spec;
 
 use super::codes::{INVALID_ID, NOT_SUPPORTED};
 use octets::NoMemory;
-use sn_frame::{Qos, TopicIdType};
+use sn_frame::{Flags, Qos, TopicIdType};
 use sn_tables::QosLevel;
 use sn_topic::{Filter, Predefined, TopicFault, TopicName};
 use std::alloc::Global;
@@ -32,6 +32,13 @@ pub fn qos_asked(qos: Qos) -> Option<QosLevel>
         Qos::Two => Some(QosLevel::two()),
         Qos::MinusOne => None,
     }
+}
+
+/// Whether what is published is to be retained.
+pub fn retain_asked(flags: Flags) -> bool
+    ensures { result ≡ spec.retain_asked flags.bits }
+{
+    flags.retain()
 }
 
 /// The topic name of these octets, if they are one.

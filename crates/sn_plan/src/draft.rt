@@ -30,11 +30,24 @@ pub struct NewPut {
     pub body: Message,
 }
 
-/// What a step does, before its operations have names. Contracts see the five lists (`Drafted`).
+/// What is posted to a topic: for whoever subscribes later, or handed to one that subscribes.
+#[derive(Debug, Drop)]
+pub struct Posted {
+    /// The name that it is published under.
+    pub topic: TopicName,
+    /// At which quality of service: 0, 1 or 2.
+    pub qos: QosLevel,
+    /// What is published; if it is empty, nothing is retained.
+    pub body: Message,
+}
+
+/// What a step does, before its operations have names. Contracts see its parts (`Drafted`).
 #[derive(Debug, Drop)]
 pub struct Draft {
     pub(crate) changes: Vec<SessionOp>,
     pub(crate) acks: Vec<(u64, u8)>,
+    pub(crate) handed: Vec<Posted>,
+    pub(crate) retain: Option<Posted>,
     pub(crate) puts: Vec<NewPut>,
     pub(crate) sends: Vec<Send>,
     pub(crate) local: Vec<LocalChange>,
@@ -48,6 +61,8 @@ impl Model for Draft {
     ghost view = { λ d. record {
       changes = d.changes.items;
       acks = d.acks.items;
+      handed = d.handed.items;
+      retain = d.retain;
       puts = d.puts.items;
       sends = d.sends.items;
       local = d.local.items;
@@ -65,6 +80,8 @@ impl Draft {
         Draft {
             changes: Vec::new(alloc),
             acks: Vec::new(alloc),
+            handed: Vec::new(alloc),
+            retain: None,
             puts: Vec::new(alloc),
             sends: Vec::new(alloc),
             local: Vec::new(alloc),
@@ -144,6 +161,20 @@ impl Draft {
         extend_names(&mut self.acks, puts)
     }
 
+    /// And then the client is handed this, which was retained.
+    pub fn hand_all(&mut self, posted: Vec<Posted>) -> Result<(), AllocError>
+        ensures { OnOk result (self.new ≡ spec.hand_all posted.items self.old) }
+    {
+        extend_handed(&mut self.handed, posted)
+    }
+
+    /// And then this is retained, or nothing.
+    pub fn retain_if(&mut self, posted: Option<Posted>)
+        ensures { self.new ≡ spec.retain_if posted self.old }
+    {
+        drop(mem::replace(&mut self.retain, posted));
+    }
+
     /// And then these messages.
     pub fn put_all(&mut self, puts: Vec<NewPut>) -> Result<(), AllocError>
         ensures { OnOk result (self.new ≡ spec.put_all puts.items self.old) }
@@ -194,6 +225,16 @@ fn extend_puts(puts: &mut Vec<NewPut>, more: Vec<NewPut>) -> Result<(), AllocErr
 {
     for put in more {
         puts.push(put)?;
+    }
+    Ok(())
+}
+
+/// Appends what a client is handed.
+fn extend_handed(handed: &mut Vec<Posted>, more: Vec<Posted>) -> Result<(), AllocError>
+    ensures { OnOk result (handed.new.items ≡ handed.old.items ++ more.items) }
+{
+    for posted in more {
+        handed.push(posted)?;
     }
     Ok(())
 }

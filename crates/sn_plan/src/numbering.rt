@@ -1,16 +1,16 @@
 //! From a draft to operations under names of the gateway's own.
 
 ghost use Rattle.std.specs.Prelude.{◌≡◌, ℕ, ◌<◌, ◌∷◌, ◌++◌, [], Some, OnOk, IfOk, map};
-ghost use Rattle.rep_model.specs.Fresh.{next_seq};
+ghost use Rattle.rep_model.specs.Fresh.{next_clock, next_seq};
 ghost use Rattle.rep_model.specs.Fresh as spec;
 ghost use Rattle.sn_session.specs.Session.{applied};
 ghost use Rattle.rep_op.specs.declared.op.TheConstants.{MAX_OPERATIONS};
-ghost use Rattle.sn_plan.specs.Numbering.{with_puts, ack_of};
+ghost use Rattle.sn_plan.specs.Numbering.{with_puts, with_handed, with_retain, handed_at_seq, ack_of};
 ghost use Rattle.sn_plan.specs.inner.Plans.{Becomes};
 
-use super::draft::NewPut;
+use super::draft::{NewPut, Posted};
 use octets::NoMemory;
-use rep_model::rep_ops::{ClientId, MAX_OPERATIONS, Op, Put, Stamp};
+use rep_model::rep_ops::{ClientId, MAX_OPERATIONS, Op, Put, Retained, Stamp};
 use rep_model::{ClientView, Replica};
 use sn_local::StepFault;
 use sn_session::{Session, SessionOp};
@@ -289,11 +289,114 @@ pub fn number_puts<R: Replica>(
             seq,
             topic,
             qos,
+            retain: false,
+            expires: 0,
             body,
         };
         push(ops, Op::Put { client, put })?;
     }
     Ok(())
+}
+
+/// Appends a message that the client is handed, under this number.
+fn hand(
+    alloc: Global,
+    gateway: u8,
+    client: &ClientId,
+    seq: u64,
+    posted: Posted,
+    ops: &mut Vec<Op>,
+) -> Result<(), NoMemory>
+    ensures { OnOk result (ops.new.items
+        ≡ ops.old.items ++ handed_at_seq gateway client.now posted seq ∷ []) }
+{
+    let client = match client.copied(alloc) {
+        Ok(client) => client,
+        Err(_) => {
+            drop(posted);
+            return Err(NoMemory);
+        }
+    };
+    let Posted { topic, qos, body } = posted;
+    let put = Put {
+        origin: gateway,
+        seq,
+        topic,
+        qos,
+        retain: true,
+        expires: 0,
+        body,
+    };
+    push(ops, Op::Put { client, put })?;
+    Ok(())
+}
+
+/// Appends what the client is handed: the first under its next sequence number, each under the
+/// number after the one before.
+pub fn number_handed<R: Replica>(
+    alloc: Global,
+    gateway: u8,
+    replica: &R,
+    client: &ClientId,
+    handed: Vec<Posted>,
+    ops: &mut Vec<Op>,
+) -> Result<(), StepFault>
+    ensures { Becomes result ops.new.items (with_handed gateway client.now
+        (next_seq client.now gateway (R.kept replica.now)) handed.items ops.old.items) }
+{
+    if handed.is_empty() {
+        return Ok(());
+    }
+    let mut next = replica.next_seq(client, gateway);
+    for posted in handed {
+        let Some(seq) = next else {
+            drop(posted);
+            return Err(StepFault::Exhausted);
+        };
+        hand(alloc, gateway, client, seq, posted, ops)?;
+        next = one_more(seq);
+    }
+    Ok(())
+}
+
+/// Appends what is retained, under the next clock of its topic.
+fn number_posted<R: Replica>(
+    gateway: u8,
+    replica: &R,
+    posted: Posted,
+    ops: &mut Vec<Op>,
+) -> Result<(), StepFault>
+    ensures { Becomes result ops.new.items (with_retain gateway
+        (λ t. next_clock t (R.kept replica.now)) (Some posted) ops.old.items) }
+{
+    let Posted { topic, qos, body } = posted;
+    let Some(clock) = replica.next_clock(&topic) else {
+        return Err(StepFault::Exhausted);
+    };
+    let retained = Retained {
+        clock,
+        gateway,
+        qos,
+        body,
+    };
+    push(ops, Op::Retain { topic, retained })?;
+    Ok(())
+}
+
+/// Appends what is retained, if there is anything, under the next clock of its topic.
+pub fn number_retain<R: Replica>(
+    gateway: u8,
+    replica: &R,
+    retain: Option<Posted>,
+    ops: &mut Vec<Op>,
+) -> Result<(), StepFault>
+    ensures { Becomes result ops.new.items (with_retain gateway
+        (λ t. next_clock t (R.kept replica.now)) retain ops.old.items) }
+{
+    match retain {
+        None => Ok(()),
+        Some(posted) => number_posted(gateway, replica, posted, ops),
+    }
 }
 
 /// Appends the acknowledgements of these puts of the client.

@@ -1,16 +1,17 @@
 //! The plan of a step.
 
-ghost use Rattle.std.specs.Prelude.{◌≡◌, ◌++◌, map, IfOk};
+ghost use Rattle.std.specs.Prelude.{◌≡◌, ◌++◌, [], map, option_and_then, IfOk};
 ghost use Rattle.std.specs.Option.{option_map};
 ghost use Rattle.rep_model.specs.Views.{view};
-ghost use Rattle.rep_model.specs.Fresh.{next_epoch, next_seq};
-ghost use Rattle.sn_plan.specs.Numbering.{start_of, with_puts, ack_of, plan_with};
+ghost use Rattle.rep_model.specs.Fresh.{next_clock, next_epoch, next_seq};
+ghost use Rattle.sn_plan.specs.Numbering.{start_of, with_puts, with_handed, with_retain, numbered, ack_of, plan_with};
+ghost use Rattle.sn_plan.specs.inner.Plans.{Becomes};
 ghost use Rattle.sn_local.specs.Seen.{seen_of};
 ghost use Rattle.sn_plan.specs.Plans.{Gives};
 ghost use Rattle.sn_plan.specs.Plans as spec;
 
-use super::draft::Draft;
-use super::numbering::{Writer, append_acks, number_puts};
+use super::draft::{Draft, NewPut, Posted};
+use super::numbering::{Writer, append_acks, number_handed, number_puts, number_retain};
 use octets::{NoMemory, Sequence};
 use rep_model::Replica;
 use rep_model::rep_ops::{ClientId, Op};
@@ -45,6 +46,50 @@ fn writer_of<R: Replica>(
     }
 }
 
+/// Appends what is retained, and then the messages.
+fn number_posts<R: Replica>(
+    gateway: u8,
+    replica: &R,
+    retain: Option<Posted>,
+    puts: Vec<NewPut>,
+    ops: &mut Vec<Op>,
+) -> Result<(), StepFault>
+    ensures { Becomes result ops.new.items (option_and_then
+        (with_puts gateway (λ e. next_seq e gateway (R.kept replica.now)) puts.items)
+        (with_retain gateway (λ t. next_clock t (R.kept replica.now)) retain ops.old.items)) }
+{
+    if let Err(fault) = number_retain(gateway, replica, retain, ops) {
+        drop(puts);
+        return Err(fault);
+    }
+    number_puts(gateway, replica, puts, ops)
+}
+
+/// Appends what needs new numbers: what the client is handed, what is retained, the messages.
+fn number_all<R: Replica>(
+    alloc: Global,
+    gateway: u8,
+    replica: &R,
+    client: &ClientId,
+    handed: Vec<Posted>,
+    retain: Option<Posted>,
+    puts: Vec<NewPut>,
+    ops: &mut Vec<Op>,
+) -> Result<(), StepFault>
+    ensures { Becomes result ops.new.items (option_and_then
+        (with_puts gateway (λ e. next_seq e gateway (R.kept replica.now)) puts.items)
+        (option_and_then (with_retain gateway (λ t. next_clock t (R.kept replica.now)) retain)
+        (with_handed gateway client.now
+        (next_seq client.now gateway (R.kept replica.now)) handed.items ops.old.items))) }
+{
+    if let Err(fault) = number_handed(alloc, gateway, replica, client, handed, ops) {
+        drop(retain);
+        drop(puts);
+        return Err(fault);
+    }
+    number_posts(gateway, replica, retain, puts, ops)
+}
+
 /// The plan once the session operations are written.
 fn rest_of<R: Replica>(
     alloc: Global,
@@ -55,18 +100,23 @@ fn rest_of<R: Replica>(
     draft: Draft,
 ) -> Result<Plan, StepFault>
     ensures { Gives result (option_map (plan_with draft)
-        (with_puts gateway (λ e. next_seq e gateway (R.kept replica.now)) draft.puts
+        (numbered gateway client.now (λ e. next_seq e gateway (R.kept replica.now))
+        (λ t. next_clock t (R.kept replica.now)) draft
         (ops.items ++ map (ack_of client.now) draft.acks))) }
 {
     let Draft {
         changes: _,
         acks,
+        handed,
+        retain,
         puts,
         sends,
         local,
     } = draft;
     append_acks(alloc, client, acks.as_slice(), &mut ops)?;
-    number_puts(gateway, replica, puts, &mut ops)?;
+    number_all(
+        alloc, gateway, replica, client, handed, retain, puts, &mut ops,
+    )?;
     Ok(Plan {
         ops: Sequence::new(ops),
         sends: Sequence::new(sends),
@@ -104,7 +154,7 @@ pub fn plan_of<R: Replica>(
     rest_of(alloc, gateway, replica, client, writer.into_ops(), draft)
 }
 
-/// The plan of a draft without changes and acknowledgements: of messages, frames and local changes.
+/// The plan of a draft for nobody: of what is retained, messages, frames and local changes.
 pub fn plan_of_puts<R: Replica>(
     alloc: Global,
     gateway: u8,
@@ -116,12 +166,14 @@ pub fn plan_of_puts<R: Replica>(
     let Draft {
         changes: _,
         acks: _,
+        handed: _,
+        retain,
         puts,
         sends,
         local,
     } = draft;
     let mut ops = Vec::new(alloc);
-    number_puts(gateway, replica, puts, &mut ops)?;
+    number_posts(gateway, replica, retain, puts, &mut ops)?;
     Ok(Plan {
         ops: Sequence::new(ops),
         sends: Sequence::new(sends),
@@ -129,13 +181,15 @@ pub fn plan_of_puts<R: Replica>(
     })
 }
 
-/// The plan of a draft without changes, acknowledgements and puts.
+/// The plan of a draft without operations.
 pub fn plan_without(alloc: Global, draft: Draft) -> Plan
     ensures { result ≡ spec.plan_without draft }
 {
     let Draft {
         changes: _,
         acks: _,
+        handed: _,
+        retain: _,
         puts: _,
         sends,
         local,

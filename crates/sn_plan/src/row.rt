@@ -33,7 +33,7 @@ pub enum Follow {
 #[derive(Debug, Drop)]
 pub struct Row {
     /// Whose session changes, and who is served by what follows. Where it is nobody the draft has
-    /// messages, frames and local changes alone.
+    /// what is retained, messages, frames and local changes alone.
     pub client: Option<ClientId>,
     /// What is done.
     pub draft: Draft,

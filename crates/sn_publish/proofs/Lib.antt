@@ -1,2 +1,3 @@
 mod Passing
+mod Room
 pub mod Leaving

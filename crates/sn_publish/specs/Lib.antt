@@ -1,2 +1,3 @@
 pub mod Publishing
 pub mod Recipients
+pub mod Retaining

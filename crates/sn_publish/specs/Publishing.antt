@@ -1,5 +1,5 @@
 -- The rows of PUBLISH and PUBREL from a client (MQTT-SN 1.2 sections 6.6, 6.8 and 6.10).
-use Rattle.std.specs.Prelude.{ℕ, ◌/◌, ◌%◌, if◌then◌else◌, List, [], ◌∷◌, Option, Some, None}
+use Rattle.std.specs.Prelude.{ℕ, Bool, ◌/◌, ◌%◌, if◌then◌else◌, List, [], ◌∷◌, Option, Some, None}
 use Rattle.std.specs.Option.{option_map}
 use Rattle.sn_topic.specs.Table.{Entries, name_of}
 use Rattle.sn_topic.specs.Topics.{name_asked}
@@ -18,11 +18,13 @@ use Rattle.sn_frame.specs.declared.frame.Frame.TheVariants as frames
 use Rattle.sn_frame.specs.FlagBits.{qos_of, kind_of}
 use Rattle.sn_session.specs.Messages.{is_too_long}
 use Rattle.sn_local.specs.declared.config.Addr.{Addr}
-use Rattle.sn_plan.specs.Drafts.{Drafted, nothing, changed, changed_if, put_all, sent}
+use Rattle.sn_plan.specs.Drafts.{Drafted, nothing, changed, changed_if, put_all, retain_if, sent}
+use Rattle.sn_plan.specs.Asking.{retain_asked}
 use Rattle.sn_local.specs.Seen.{Seen}
 use Rattle.sn_publish.specs.declared.meaning.Meant.{Meant}
 use Rattle.sn_publish.specs.declared.meaning.Meant.TheVariants.{Topic, Refused}
 use Rattle.sn_publish.specs.Recipients.{puts_for}
+use Rattle.sn_publish.specs.Retaining.{retained_of}
 
 -- the topic of this name; code 2, invalid topic id, if there is none
 abbrev pub named : Option (List ℕ) → Meant
@@ -57,54 +59,63 @@ abbrev pub publication_meant : Entries → Session → ℕ → ℕ → List ℕ 
 publication_meant predefined s bits topic body =
     within_limit body (topic_meant predefined s (kind_of bits) topic)
 
--- at most once: a message for each recipient, and no answer
-abbrev pub spread : Seen → List ℕ → List ℕ → Drafted
-spread seen name body = put_all (puts_for seen name 0 body) nothing
+-- a message for each recipient; and it is retained, if that is asked for
+abbrev pub posted : Seen → Bool → List ℕ → ℕ → List ℕ → Drafted
+posted seen asked name qos body =
+    retain_if (retained_of seen asked name qos body)
+    (put_all (puts_for seen name qos body) nothing)
+
+-- at most once: the recipients get it, and there is no answer
+abbrev pub spread : Seen → Bool → List ℕ → List ℕ → Drafted
+spread seen asked name body = posted seen asked name 0 body
 
 -- at least once: the recipients get it, and PUBACK says so
-abbrev pub spread_once : Seen → Addr → ℕ → ℕ → List ℕ → List ℕ → Drafted
-spread_once seen a topic msg_id body name =
-    sent a (frames.PubAck topic msg_id 0) (put_all (puts_for seen name 1 body) nothing)
+abbrev pub spread_once : Seen → Bool → Addr → ℕ → ℕ → List ℕ → List ℕ → Drafted
+spread_once seen asked a topic msg_id body name =
+    sent a (frames.PubAck topic msg_id 0) (posted seen asked name 1 body)
 
 -- Exactly once. If the message id was received and is not released yet, the recipients have the
 -- message, and PUBREC says so. Code 1, congestion, if there are 256 message ids.
-abbrev pub spread_twice : Seen → Addr → Session → ℕ → ℕ → List ℕ → List ℕ → Drafted
-spread_twice seen a s topic msg_id body name =
+abbrev pub spread_twice : Seen → Bool → Addr → Session → ℕ → ℕ → List ℕ → List ℕ → Drafted
+spread_twice seen asked a s topic msg_id body name =
     if is_received msg_id s.received then sent a (frames.PubRec msg_id) nothing
     else (if id_has_no_room msg_id s.received then sent a (frames.PubAck topic msg_id 1) nothing
     else sent a (frames.PubRec msg_id)
-    (changed (Received msg_id) (put_all (puts_for seen name 2 body) nothing)))
+    (changed (Received msg_id) (posted seen asked name 2 body)))
 
 -- a PUBLISH of this topic by its quality of service; -1 counts as 0
-abbrev pub publish_at : Seen → Addr → Session → ℕ → ℕ → List ℕ → List ℕ → Qos → Drafted
-publish_at seen a s topic msg_id body name levels.Zero = spread seen name body
-publish_at seen a s topic msg_id body name levels.One = spread_once seen a topic msg_id body name
-publish_at seen a s topic msg_id body name levels.Two = spread_twice seen a s topic msg_id body name
-publish_at seen a s topic msg_id body name levels.MinusOne = spread seen name body
+abbrev pub publish_at : Seen → Bool → Addr → Session → ℕ → ℕ → List ℕ → List ℕ → Qos → Drafted
+publish_at seen asked a s topic msg_id body name levels.Zero = spread seen asked name body
+publish_at seen asked a s topic msg_id body name levels.One =
+    spread_once seen asked a topic msg_id body name
+publish_at seen asked a s topic msg_id body name levels.Two =
+    spread_twice seen asked a s topic msg_id body name
+publish_at seen asked a s topic msg_id body name levels.MinusOne = spread seen asked name body
 
 -- a refusal is a PUBACK with the code, at every quality of service
-abbrev pub publish_meant : Seen → Addr → Session → ℕ → ℕ → List ℕ → Qos → Meant → Drafted
-publish_meant seen a s topic msg_id body qos (Refused code) =
+abbrev pub publish_meant : Seen → Bool → Addr → Session → ℕ → ℕ → List ℕ → Qos → Meant → Drafted
+publish_meant seen asked a s topic msg_id body qos (Refused code) =
     sent a (frames.PubAck topic msg_id code) nothing
-publish_meant seen a s topic msg_id body qos (Topic name) =
-    publish_at seen a s topic msg_id body name qos
+publish_meant seen asked a s topic msg_id body qos (Topic name) =
+    publish_at seen asked a s topic msg_id body name qos
 
 -- the draft of PUBLISH of a connected client (6.6)
 abbrev pub publish : Entries → Seen → Addr → Session → ℕ → ℕ → ℕ → List ℕ → Drafted
 publish predefined seen a s bits topic msg_id body =
-    publish_meant seen a s topic msg_id body (qos_of bits)
+    publish_meant seen (retain_asked bits) a s topic msg_id body (qos_of bits)
     (publication_meant predefined s bits topic body)
 
 -- the recipients get it, at most once; nothing is done if the PUBLISH is refused
-abbrev pub spread_meant : Seen → List ℕ → Meant → Drafted
-spread_meant seen body (Refused code) = nothing
-spread_meant seen body (Topic name) = spread seen name body
+abbrev pub spread_meant : Seen → Bool → List ℕ → Meant → Drafted
+spread_meant seen asked body (Refused code) = nothing
+spread_meant seen asked body (Topic name) = spread seen asked name body
 
 -- PUBLISH without a connection, by a predefined id or a short name: the recipients get it, at most
 -- once, and nothing is answered
 abbrev pub publish_unconnected : Entries → Seen → ℕ → ℕ → List ℕ → Drafted
 publish_unconnected predefined seen bits topic body =
-    spread_meant seen body (publication_meant predefined empty_session bits topic body)
+    spread_meant seen (retain_asked bits) body
+    (publication_meant predefined empty_session bits topic body)
 
 -- the change of the session, if the message id was received
 abbrev pub release : Session → ℕ → Option SessionOp

@@ -12,7 +12,7 @@ use Rattle.rep_model.specs.declared.view.ClientView.{ClientView}
 use Rattle.sn_plan.specs.declared.draft.NewPut.{NewPut}
 use Rattle.sn_local.specs.Seen.{Seen}
 use Rattle.sn_plan.specs.Others.{is_up}
-use Rattle.sn_publish.specs.declared.recipients.TheConstants.{MAX_PENDING}
+use Rattle.sn_plan.specs.declared.limits.TheConstants.{MAX_PENDING}
 
 -- This quality of service, if the client is admitted. Fewer than 1,024 messages wait for it; and it
 -- is Active, Asleep or Awake, or gets the message at least once.

@@ -9,11 +9,12 @@ ghost use Rattle.sn_publish.specs.Publishing as spec;
 
 use super::meaning::{Meant, topic_meant};
 use super::recipients::puts_for;
+use super::retaining::retained_of;
 use octets::{NoMemory, Octets};
 use rep_model::Replica;
 use sn_frame::{Flags, Frame, Qos};
 use sn_local::Addr;
-use sn_plan::Draft;
+use sn_plan::{Draft, retain_asked};
 use sn_session::{Message, Session, SessionOp};
 use sn_tables::QosLevel;
 use sn_topic::{Predefined, TopicName};
@@ -37,17 +38,43 @@ fn puts_draft<R: Replica>(
     Ok(draft)
 }
 
+/// A message for each recipient; and it is retained, where that is asked for.
+fn posted<R: Replica>(
+    alloc: Global,
+    replica: &R,
+    asked: bool,
+    name: &TopicName,
+    qos: QosLevel,
+    body: &Message,
+) -> Result<Draft, NoMemory>
+    ensures { IfOk result (λ draft. draft ≡ spec.posted (seen_of (R.kept replica.now)) asked
+        name.now qos body.now) }
+{
+    let mut draft = puts_draft(alloc, replica, name, qos, body)?;
+    match retained_of(alloc, replica, asked, name, qos, body) {
+        Ok(retain) => {
+            draft.retain_if(retain);
+            Ok(draft)
+        }
+        Err(_) => {
+            drop(draft);
+            Err(NoMemory)
+        }
+    }
+}
+
 /// At most once: the recipients get it.
 fn spread<R: Replica>(
     alloc: Global,
     replica: &R,
+    asked: bool,
     name: &TopicName,
     body: &Message,
 ) -> Result<Draft, NoMemory>
-    ensures { IfOk result (λ draft. draft ≡ spec.spread (seen_of (R.kept replica.now))
+    ensures { IfOk result (λ draft. draft ≡ spec.spread (seen_of (R.kept replica.now)) asked
         name.now body.now) }
 {
-    puts_draft(alloc, replica, name, QosLevel::zero(), body)
+    posted(alloc, replica, asked, name, QosLevel::zero(), body)
 }
 
 /// A PUBACK with this code.
@@ -76,16 +103,17 @@ fn pubrec(alloc: Global, to: Addr, msg_id: u16, draft: &mut Draft) -> Result<(),
 fn spread_once<R: Replica>(
     alloc: Global,
     replica: &R,
+    asked: bool,
     to: Addr,
     topic_id: u16,
     msg_id: u16,
     body: &Message,
     name: &TopicName,
 ) -> Result<Draft, NoMemory>
-    ensures { IfOk result (λ draft. draft ≡ spec.spread_once (seen_of (R.kept replica.now)) to
-        topic_id msg_id body.now name.now) }
+    ensures { IfOk result (λ draft. draft ≡ spec.spread_once (seen_of (R.kept replica.now)) asked
+        to topic_id msg_id body.now name.now) }
 {
-    let mut draft = puts_draft(alloc, replica, name, QosLevel::one(), body)?;
+    let mut draft = posted(alloc, replica, asked, name, QosLevel::one(), body)?;
     let answer = Frame::PubAck {
         topic_id,
         msg_id,
@@ -102,6 +130,7 @@ fn spread_once<R: Replica>(
 fn spread_twice<R: Replica>(
     alloc: Global,
     replica: &R,
+    asked: bool,
     to: Addr,
     session: &Session,
     topic_id: u16,
@@ -109,8 +138,8 @@ fn spread_twice<R: Replica>(
     body: &Message,
     name: &TopicName,
 ) -> Result<Draft, NoMemory>
-    ensures { IfOk result (λ draft. draft ≡ spec.spread_twice (seen_of (R.kept replica.now)) to
-        session.now topic_id msg_id body.now name.now) }
+    ensures { IfOk result (λ draft. draft ≡ spec.spread_twice (seen_of (R.kept replica.now)) asked
+        to session.now topic_id msg_id body.now name.now) }
 {
     if session.is_received(msg_id) {
         return Draft::reply(alloc, to, Frame::PubRec { msg_id });
@@ -118,7 +147,7 @@ fn spread_twice<R: Replica>(
     if session.received.has_no_room(msg_id) {
         return puback(alloc, to, topic_id, msg_id, 1);
     }
-    let mut draft = puts_draft(alloc, replica, name, QosLevel::two(), body)?;
+    let mut draft = posted(alloc, replica, asked, name, QosLevel::two(), body)?;
     draft.change(SessionOp::Received { id: msg_id })?;
     pubrec(alloc, to, msg_id, &mut draft)?;
     Ok(draft)
@@ -128,6 +157,7 @@ fn spread_twice<R: Replica>(
 fn publish_at<R: Replica>(
     alloc: Global,
     replica: &R,
+    asked: bool,
     to: Addr,
     session: &Session,
     topic_id: u16,
@@ -136,14 +166,16 @@ fn publish_at<R: Replica>(
     name: &TopicName,
     qos: Qos,
 ) -> Result<Draft, NoMemory>
-    ensures { IfOk result (λ draft. draft ≡ spec.publish_at (seen_of (R.kept replica.now)) to
-        session.now topic_id msg_id body.now name.now qos) }
+    ensures { IfOk result (λ draft. draft ≡ spec.publish_at (seen_of (R.kept replica.now)) asked
+        to session.now topic_id msg_id body.now name.now qos) }
 {
     match qos {
-        Qos::Zero => spread(alloc, replica, name, body),
-        Qos::One => spread_once(alloc, replica, to, topic_id, msg_id, body, name),
-        Qos::Two => spread_twice(alloc, replica, to, session, topic_id, msg_id, body, name),
-        Qos::MinusOne => spread(alloc, replica, name, body),
+        Qos::Zero => spread(alloc, replica, asked, name, body),
+        Qos::One => spread_once(alloc, replica, asked, to, topic_id, msg_id, body, name),
+        Qos::Two => spread_twice(
+            alloc, replica, asked, to, session, topic_id, msg_id, body, name,
+        ),
+        Qos::MinusOne => spread(alloc, replica, asked, name, body),
     }
 }
 
@@ -151,6 +183,7 @@ fn publish_at<R: Replica>(
 fn publish_meant<R: Replica>(
     alloc: Global,
     replica: &R,
+    asked: bool,
     to: Addr,
     session: &Session,
     topic_id: u16,
@@ -159,22 +192,23 @@ fn publish_meant<R: Replica>(
     qos: Qos,
     meant: Meant,
 ) -> Result<Draft, NoMemory>
-    ensures { IfOk result (λ draft. draft ≡ spec.publish_meant (seen_of (R.kept replica.now)) to
-        session.now topic_id msg_id body.now qos (spec.within_limit body.now meant)) }
+    ensures { IfOk result (λ draft. draft ≡ spec.publish_meant (seen_of (R.kept replica.now)) asked
+        to session.now topic_id msg_id body.now qos (spec.within_limit body.now meant)) }
 {
     match meant {
         Meant::Refused(code) => puback(alloc, to, topic_id, msg_id, code),
         Meant::Topic(name) => match Message::new(body.copied(alloc)?) {
             None => puback(alloc, to, topic_id, msg_id, 3),
             Some(body) => publish_at(
-                alloc, replica, to, session, topic_id, msg_id, &body, &name, qos,
+                alloc, replica, asked, to, session, topic_id, msg_id, &body, &name, qos,
             ),
         },
     }
 }
 
-/// PUBLISH of a connected client: the recipients get a message, and the client an answer at the
-/// quality of service that it asks for, or a refusal by PUBACK.
+/// PUBLISH of a connected client: the recipients get a message, which is retained where the client
+/// asks for that, and the client an answer at the quality of service that it asks for, or a refusal
+/// by PUBACK.
 pub fn publish<R: Replica>(
     alloc: Global,
     predefined: &Predefined,
@@ -193,6 +227,7 @@ pub fn publish<R: Replica>(
     publish_meant(
         alloc,
         replica,
+        retain_asked(flags),
         to,
         session,
         topic,
@@ -208,17 +243,18 @@ pub fn publish<R: Replica>(
 fn spread_meant<R: Replica>(
     alloc: Global,
     replica: &R,
+    asked: bool,
     body: &Octets,
     meant: Meant,
 ) -> Result<Draft, NoMemory>
-    ensures { IfOk result (λ draft. draft ≡ spec.spread_meant (seen_of (R.kept replica.now))
+    ensures { IfOk result (λ draft. draft ≡ spec.spread_meant (seen_of (R.kept replica.now)) asked
         body.now (spec.within_limit body.now meant)) }
 {
     match meant {
         Meant::Refused(_) => Ok(Draft::new(alloc)),
         Meant::Topic(name) => match Message::new(body.copied(alloc)?) {
             None => Ok(Draft::new(alloc)),
-            Some(body) => spread(alloc, replica, &name, &body),
+            Some(body) => spread(alloc, replica, asked, &name, &body),
         },
     }
 }
@@ -239,7 +275,7 @@ pub fn publish_unconnected<R: Replica>(
     let session = Session::empty(alloc);
     let meant = topic_meant(alloc, predefined, &session, flags.kind(), topic);
     drop(session);
-    spread_meant(alloc, replica, body, meant?)
+    spread_meant(alloc, replica, retain_asked(flags), body, meant?)
 }
 
 /// The change of the session, where the message id was received.

@@ -12,14 +12,11 @@ ghost use Rattle.sn_publish.specs.Recipients as spec;
 use octets::NoMemory;
 use rep_model::rep_ops::{ClientId, Put};
 use rep_model::{ClientView, Replica};
-use sn_plan::{NewPut, is_up};
+use sn_plan::{MAX_PENDING, NewPut, is_up};
 use sn_session::{Message, Presence, Session, Will};
 use sn_tables::QosLevel;
 use sn_topic::TopicName;
 use std::alloc::Global;
-
-/// How many messages may wait for a client before it is no recipient any more.
-pub const MAX_PENDING: usize = 1024;
 
 /// At this quality of service, where there is room and the client is there or gets the message at
 /// least once.

@@ -1,3 +1,4 @@
+pub mod Handing
 pub mod Registration
 pub mod Subscription
 pub mod TopicRows

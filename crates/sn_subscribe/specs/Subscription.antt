@@ -16,8 +16,10 @@ use Rattle.sn_plan.specs.declared.asking.Asked.{Asked}
 use Rattle.sn_plan.specs.declared.asking.Asked.TheVariants.{Topics, Refused}
 use Rattle.sn_subscribe.specs.declared.registration.NamedId.{NamedId}
 use Rattle.sn_plan.specs.Asking.{qos_asked, topics_asked, id_in}
-use Rattle.sn_plan.specs.Drafts.{Drafted, nothing, changed_if, sent}
+use Rattle.sn_plan.specs.Drafts.{Drafted, nothing, changed_if, hand_all, sent}
+use Rattle.sn_local.specs.Seen.{Seen}
 use Rattle.sn_subscribe.specs.Registration.{id_for}
+use Rattle.sn_subscribe.specs.Handing.{handed_for}
 
 -- SUBACK; of the flags that were asked with it has the two bits of the quality of service
 abbrev pub suback : ℕ → ℕ → ℕ → ℕ → Frame
@@ -51,37 +53,44 @@ subscribe_change filter qos None = Some (Subscribe filter qos)
 subscribe_change filter qos (Some before) =
     if before == qos then None else Some (Subscribe filter qos)
 
--- the answer to SUBSCRIBE by its topic id; code 1, congestion, if no id is free
-abbrev pub subscribed : Addr → Session → ℕ → ℕ → List ℕ → ℕ → Option NamedId → Drafted
-subscribed a s bits msg_id filter qos None = refused a bits msg_id 1
-subscribed a s bits msg_id filter qos (Some named) =
+-- SUBSCRIBE that is accepted: SUBACK has the topic id, and the session has the filter
+abbrev pub granted : Addr → Session → ℕ → ℕ → List ℕ → ℕ → NamedId → Drafted
+granted a s bits msg_id filter qos named =
     sent a (suback bits named.id msg_id 0)
     (changed_if (subscribe_change filter qos (subscribed_at filter s.subscriptions))
     (changed_if named.change nothing))
 
+-- SUBSCRIBE by its topic id, of a client for which so many messages wait: it is handed what is
+-- retained; code 1, congestion, if no id is free
+abbrev pub subscribed : Seen → ℕ → Addr → Session → ℕ → ℕ → List ℕ → ℕ → Option NamedId → Drafted
+subscribed seen waiting a s bits msg_id filter qos None = refused a bits msg_id 1
+subscribed seen waiting a s bits msg_id filter qos (Some named) =
+    hand_all (handed_for seen filter qos waiting) (granted a s bits msg_id filter qos named)
+
 -- SUBSCRIBE to a filter; code 1, congestion, if it would be the 257th
-abbrev pub subscribe_to : Addr → Session → ℕ → ℕ → List ℕ → List ℕ → ℕ → Drafted
-subscribe_to a s bits msg_id field filter qos =
+abbrev pub subscribe_to : Seen → ℕ → Addr → Session → ℕ → ℕ → List ℕ → List ℕ → ℕ → Drafted
+subscribe_to seen waiting a s bits msg_id field filter qos =
     if filter_has_no_room filter s.subscriptions then refused a bits msg_id 1
-    else subscribed a s bits msg_id filter qos (id_asked s (kind_of bits) field filter)
+    else subscribed seen waiting a s bits msg_id filter qos (id_asked s (kind_of bits) field filter)
 
 -- SUBSCRIBE to the filter that its topic field asks for, or refused by the code that the field
 -- gives
-abbrev pub subscribe_asked : Addr → Session → ℕ → ℕ → List ℕ → Asked → ℕ → Drafted
-subscribe_asked a s bits msg_id field (Refused code) qos = refused a bits msg_id code
-subscribe_asked a s bits msg_id field (Topics filter) qos =
-    subscribe_to a s bits msg_id field filter qos
+abbrev pub subscribe_asked : Seen → ℕ → Addr → Session → ℕ → ℕ → List ℕ → Asked → ℕ → Drafted
+subscribe_asked seen waiting a s bits msg_id field (Refused code) qos = refused a bits msg_id code
+subscribe_asked seen waiting a s bits msg_id field (Topics filter) qos =
+    subscribe_to seen waiting a s bits msg_id field filter qos
 
 -- SUBSCRIBE at a quality of service; code 3, not supported, if its bits are 11
-abbrev pub subscribe_at : Entries → Addr → Session → ℕ → ℕ → List ℕ → Option ℕ → Drafted
-subscribe_at predefined a s bits msg_id field None = refused a bits msg_id 3
-subscribe_at predefined a s bits msg_id field (Some qos) =
-    subscribe_asked a s bits msg_id field (topics_asked predefined (kind_of bits) field) qos
+abbrev pub subscribe_at : Entries → Seen → ℕ → Addr → Session → ℕ → ℕ → List ℕ → Option ℕ → Drafted
+subscribe_at predefined seen waiting a s bits msg_id field None = refused a bits msg_id 3
+subscribe_at predefined seen waiting a s bits msg_id field (Some qos) =
+    subscribe_asked seen waiting a s bits msg_id field
+    (topics_asked predefined (kind_of bits) field) qos
 
--- the draft of SUBSCRIBE (6.9)
-abbrev pub subscribe : Entries → Addr → Session → ℕ → ℕ → List ℕ → Drafted
-subscribe predefined a s bits msg_id field =
-    subscribe_at predefined a s bits msg_id field (qos_asked (qos_of bits))
+-- the draft of SUBSCRIBE of a client for which so many messages wait (6.9)
+abbrev pub subscribe : Entries → Seen → ℕ → Addr → Session → ℕ → ℕ → List ℕ → Drafted
+subscribe predefined seen waiting a s bits msg_id field =
+    subscribe_at predefined seen waiting a s bits msg_id field (qos_asked (qos_of bits))
 
 -- the change of the session, if it has the filter
 abbrev pub unsubscribe_change : Session → List ℕ → Option SessionOp

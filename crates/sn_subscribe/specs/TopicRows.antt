@@ -10,6 +10,7 @@ use Rattle.sn_local.specs.Bindings.{client_at}
 use Rattle.sn_local.specs.Locals.{Local}
 use Rattle.sn_plan.specs.Bound.{session_of}
 use Rattle.sn_plan.specs.Rows.{row_of, heard_row, turned_away}
+use Rattle.sn_subscribe.specs.Handing.{waiting_for}
 use Rattle.sn_subscribe.specs.Registration.{register as register_draft}
 use Rattle.sn_subscribe.specs.Subscription.{subscribe as subscribe_draft, unsubscribe as unsubscribe_draft}
 
@@ -29,7 +30,8 @@ abbrev pub subscribe_of : Entries → Seen → Addr → Option (List ℕ) → �
 subscribe_of predefined seen a None bits msg_id field now = turned_away a
 subscribe_of predefined seen a (Some c) bits msg_id field now =
     heard_row (Some c) now
-    (row_of Delivery c (subscribe_draft predefined a (session_of seen c) bits msg_id field))
+    (row_of Delivery c
+    (subscribe_draft predefined seen (waiting_for seen c) a (session_of seen c) bits msg_id field))
 
 -- the row of SUBSCRIBE (6.9)
 abbrev pub subscribe : Entries → Seen → Local → Addr → ℕ → ℕ → List ℕ → ℕ → Row

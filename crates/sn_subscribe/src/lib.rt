@@ -5,8 +5,10 @@
 //!
 //! - `topic_rows`: REGISTER, SUBSCRIBE and UNSUBSCRIBE, of whoever sends them.
 //! - `registration`, `subscription`: the same of a bound client, as drafts.
+//! - `handing`: what a subscriber is handed of what is retained.
 #![tactic(auto)]
 
+mod handing;
 mod registration;
 mod subscription;
 mod topic_rows;

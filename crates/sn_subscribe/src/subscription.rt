@@ -1,13 +1,16 @@
 //! SUBSCRIBE and UNSUBSCRIBE (MQTT-SN 1.2 section 6.9).
 
-ghost use Rattle.std.specs.Prelude.{◌≡◌, IfOk};
+ghost use Rattle.std.specs.Prelude.{◌≡◌, Some, IfOk};
 ghost use Rattle.sn_frame.specs.FlagBits.{kind_of};
+ghost use Rattle.sn_local.specs.Seen.{seen_of};
 ghost use Rattle.sn_plan.specs.Drafts.{nothing, sent};
 ghost use Rattle.sn_subscribe.specs.Subscription.{refused};
 ghost use Rattle.sn_subscribe.specs.Subscription as spec;
 
+use super::handing::handed_for;
 use super::registration::{NamedId, id_for};
 use octets::NoMemory;
+use rep_model::Replica;
 use sn_frame::{Flags, Frame, TopicIdType};
 use sn_local::Addr;
 use sn_plan::{
@@ -94,8 +97,67 @@ fn subscribe_change(filter: Filter, qos: QosLevel, before: Option<QosLevel>) -> 
 }
 
 /// Answers with that id, and changes the session where it needs a change.
-fn subscribed(
+fn granted(
     alloc: Global,
+    to: Addr,
+    session: &Session,
+    flags: Flags,
+    msg_id: u16,
+    filter: Filter,
+    qos: QosLevel,
+    named: NamedId,
+) -> Result<Draft, NoMemory>
+    ensures { IfOk result (λ draft. draft ≡ spec.granted to session.now flags.bits msg_id filter
+        qos named) }
+{
+    let before = session.subscription(&filter);
+    let mut draft = Draft::new(alloc);
+    draft.change_if(named.change)?;
+    draft.change_if(subscribe_change(filter, qos, before))?;
+    draft.send(alloc, to, suback(flags, named.id, msg_id, ACCEPTED))?;
+    Ok(draft)
+}
+
+/// Answers with that id, and hands the client what is retained.
+fn granted_and_handed<R: Replica>(
+    alloc: Global,
+    replica: &R,
+    waiting: usize,
+    to: Addr,
+    session: &Session,
+    flags: Flags,
+    msg_id: u16,
+    filter: Filter,
+    qos: QosLevel,
+    named: NamedId,
+) -> Result<Draft, NoMemory>
+    ensures { IfOk result (λ draft. draft ≡ spec.subscribed (seen_of (R.kept replica.now)) waiting
+        to session.now flags.bits msg_id filter qos (Some named)) }
+{
+    let handed = match handed_for(alloc, replica, &filter, qos, waiting) {
+        Ok(handed) => handed,
+        Err(_) => {
+            drop(named);
+            drop(filter);
+            return Err(NoMemory);
+        }
+    };
+    let mut draft = match granted(alloc, to, session, flags, msg_id, filter, qos, named) {
+        Ok(draft) => draft,
+        Err(_) => {
+            drop(handed);
+            return Err(NoMemory);
+        }
+    };
+    draft.hand_all(handed)?;
+    Ok(draft)
+}
+
+/// Answers with that id, if there is one.
+fn subscribed<R: Replica>(
+    alloc: Global,
+    replica: &R,
+    waiting: usize,
     to: Addr,
     session: &Session,
     flags: Flags,
@@ -104,25 +166,22 @@ fn subscribed(
     qos: QosLevel,
     named: Option<NamedId>,
 ) -> Result<Draft, NoMemory>
-    ensures { IfOk result (λ draft. draft ≡ spec.subscribed to session.now flags.bits msg_id
-        filter qos named) }
+    ensures { IfOk result (λ draft. draft ≡ spec.subscribed (seen_of (R.kept replica.now)) waiting
+        to session.now flags.bits msg_id filter qos named) }
 {
     match named {
         None => refuse(alloc, to, flags, msg_id, CONGESTION),
-        Some(named) => {
-            let before = session.subscription(&filter);
-            let mut draft = Draft::new(alloc);
-            draft.change_if(named.change)?;
-            draft.change_if(subscribe_change(filter, qos, before))?;
-            draft.send(alloc, to, suback(flags, named.id, msg_id, ACCEPTED))?;
-            Ok(draft)
-        }
+        Some(named) => granted_and_handed(
+            alloc, replica, waiting, to, session, flags, msg_id, filter, qos, named,
+        ),
     }
 }
 
 /// Subscribes to a filter, where it would not be the 257th.
-fn subscribe_to(
+fn subscribe_to<R: Replica>(
     alloc: Global,
+    replica: &R,
+    waiting: usize,
     to: Addr,
     session: &Session,
     flags: Flags,
@@ -131,20 +190,23 @@ fn subscribe_to(
     filter: Filter,
     qos: QosLevel,
 ) -> Result<Draft, NoMemory>
-    ensures { IfOk result
-        (λ draft. draft ≡ spec.subscribe_to to session.now flags.bits msg_id field.now
-        filter qos) }
+    ensures { IfOk result (λ draft. draft ≡ spec.subscribe_to (seen_of (R.kept replica.now)) waiting
+        to session.now flags.bits msg_id field.now filter qos) }
 {
     if session.subscriptions.has_no_room(&filter) {
         return refuse(alloc, to, flags, msg_id, CONGESTION);
     }
     let named = id_asked(alloc, session, flags.kind(), field, &filter)?;
-    subscribed(alloc, to, session, flags, msg_id, filter, qos, named)
+    subscribed(
+        alloc, replica, waiting, to, session, flags, msg_id, filter, qos, named,
+    )
 }
 
 /// Subscribes to what is asked for, at this quality of service.
-fn subscribe_asked(
+fn subscribe_asked<R: Replica>(
     alloc: Global,
+    replica: &R,
+    waiting: usize,
     to: Addr,
     session: &Session,
     flags: Flags,
@@ -153,37 +215,42 @@ fn subscribe_asked(
     asked: Asked,
     qos: QosLevel,
 ) -> Result<Draft, NoMemory>
-    ensures { IfOk result (λ draft. draft ≡ spec.subscribe_asked to session.now flags.bits msg_id
-        field.now asked qos) }
+    ensures { IfOk result (λ draft. draft ≡ spec.subscribe_asked (seen_of (R.kept replica.now))
+        waiting to session.now flags.bits msg_id field.now asked qos) }
 {
     match asked {
         Asked::Refused(code) => refuse(alloc, to, flags, msg_id, code),
         Asked::Topics(filter) => subscribe_to(
-            alloc, to, session, flags, msg_id, field, filter, qos,
+            alloc, replica, waiting, to, session, flags, msg_id, field, filter, qos,
         ),
     }
 }
 
 /// SUBSCRIBE: the client asks for topics, by a filter, a predefined id or a short name. SUBACK has
 /// the quality of service that was asked for and the topic id, if there is one, or says why it is
-/// refused; then nothing changes.
-pub fn subscribe(
+/// refused; then nothing changes. A client for which so many messages wait is handed what is
+/// retained of these topics, as long as fewer than 1,024 wait.
+pub fn subscribe<R: Replica>(
     alloc: Global,
     predefined: &Predefined,
+    replica: &R,
+    waiting: usize,
     to: Addr,
     session: &Session,
     flags: Flags,
     msg_id: u16,
     field: &[u8],
 ) -> Result<Draft, NoMemory>
-    ensures { IfOk result (λ draft. draft ≡ spec.subscribe predefined.now to session.now
-        flags.bits msg_id field.now) }
+    ensures { IfOk result (λ draft. draft ≡ spec.subscribe predefined.now
+        (seen_of (R.kept replica.now)) waiting to session.now flags.bits msg_id field.now) }
 {
     let Some(qos) = qos_asked(flags.qos()) else {
         return refuse(alloc, to, flags, msg_id, NOT_SUPPORTED);
     };
     let asked = topics_asked(alloc, predefined, flags.kind(), field)?;
-    subscribe_asked(alloc, to, session, flags, msg_id, field, asked, qos)
+    subscribe_asked(
+        alloc, replica, waiting, to, session, flags, msg_id, field, asked, qos,
+    )
 }
 
 /// The change of the session, where it has the filter.

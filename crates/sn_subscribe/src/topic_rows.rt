@@ -5,12 +5,13 @@ ghost use Rattle.sn_local.specs.Seen.{seen_of};
 ghost use Rattle.sn_subscribe.specs.TopicRows.{register_of, subscribe_of, unsubscribe_of};
 ghost use Rattle.sn_subscribe.specs.TopicRows as spec;
 
+use super::handing::waiting_for;
 use super::registration::register as draft_register;
 use super::subscription::{subscribe as draft_subscribe, unsubscribe as draft_unsubscribe};
 use octets::NoMemory;
+use rep_model::Replica;
 use rep_ops::ClientId;
 use sn_frame::Flags;
-use sn_local::rep_model::Replica;
 use sn_local::{Addr, Config, Dialogs};
 use sn_plan::{Follow, Row, heard_row, session_or, turn_away};
 use sn_session::Session;
@@ -73,9 +74,12 @@ fn subscribe_bound<R: Replica>(
 {
     let empty = Session::empty(alloc);
     let session = session_or(replica, client, &empty);
+    let waiting = waiting_for(replica, client);
     let draft = draft_subscribe(
         alloc,
         &config.predefined,
+        replica,
+        waiting,
         from,
         session,
         flags,

@@ -9,12 +9,13 @@ use Rattle.sn_frame.specs.declared.frame.Frame.TheVariants as frames
 use Rattle.rep_model.specs.declared.view.ClientView.{ClientView}
 use Rattle.sn_local.specs.declared.config.Addr.{Addr}
 use Rattle.sn_plan.specs.declared.draft.NewPut.{NewPut}
+use Rattle.sn_plan.specs.declared.draft.Posted.{Posted}
 use Rattle.sn_local.specs.declared.local.Timer.{Timer}
 use Rattle.sn_local.specs.declared.local.WillDialog.{WillDialog}
 use Rattle.sn_local.specs.declared.local.LocalChange.TheVariants.{Unbind, Heard, Retried, EndDialog, Advertised}
 use Rattle.sn_plan.specs.declared.plan.Plan.{Plan}
 use Rattle.sn_plan.specs.declared.row.Row.{Row}
-use Rattle.sn_plan.specs.Drafts.{Drafted, nothing, changed, put_all, sent, moved}
+use Rattle.sn_plan.specs.Drafts.{Drafted, nothing, changed, put_all, retain_if, sent, moved}
 use Rattle.sn_local.specs.Seen.{Seen}
 use Rattle.sn_plan.specs.Plans.{plan_of, plan_without}
 use Rattle.sn_local.specs.Bindings.{is_stamp_of}
@@ -28,6 +29,7 @@ use Rattle.sn_tick.specs.declared.ticking.TheConstants.{DIALOG_SECONDS}
 use Rattle.sn_tick.specs.declared.due.Due.{Due}
 use Rattle.sn_tick.specs.declared.due.Due.TheVariants.{Loss, Retry, Delivery}
 use Rattle.sn_publish.specs.Recipients.{puts_of_will}
+use Rattle.sn_publish.specs.Retaining.{retained_of_will}
 use Rattle.sn_exchange.specs.Following.{deliver_next}
 use Rattle.sn_tick.specs.Due.{elapsed, first_due}
 
@@ -88,10 +90,20 @@ abbrev pub will_puts : Seen → List ℕ → Option Will → List NewPut
 will_puts seen c None = []
 will_puts seen c (Some will) = puts_of_will seen c will
 
+-- what is retained of the will of a client, if it has one
+abbrev pub will_retained : Seen → Option Will → Option Posted
+will_retained seen None = None
+will_retained seen (Some will) = retained_of_will seen will
+
+-- and then the will is published: a message for each recipient; and it is retained, if it asks for
+-- that
+abbrev pub published : Seen → List ℕ → Option Will → Drafted → Drafted
+published seen c will d = retain_if (will_retained seen will) (put_all (will_puts seen c will) d)
+
 -- and then the client is lost: its will is published, and it no longer has an address
 abbrev pub lost : Seen → List ℕ → Session → Drafted → Drafted
 lost seen c s d =
-    moved (Unbind c) (changed (Presence Lost s.duration) (put_all (will_puts seen c s.will) d))
+    moved (Unbind c) (changed (Presence Lost s.duration) (published seen c s.will d))
 
 -- one try more: Resend, if an exchange is open, else Delivery
 abbrev pub retried : ℕ → Drafted → List ℕ → Row

@@ -17,8 +17,8 @@ use rep_ops::ClientId;
 use sn_exchange::deliver_next;
 use sn_frame::Frame;
 use sn_local::{Addr, Config, Dialogs, LocalChange, StepFault, WillDialog, is_stamp_of};
-use sn_plan::{Draft, Follow, NewPut, Plan, Row, is_up, plan_of, plan_without, session_or};
-use sn_publish::puts_of_will;
+use sn_plan::{Draft, Follow, NewPut, Plan, Posted, Row, is_up, plan_of, plan_without, session_or};
+use sn_publish::{puts_of_will, retained_of_will};
 use sn_session::{Presence, Session, SessionOp, Will};
 use std::alloc::Global;
 
@@ -226,6 +226,39 @@ fn will_puts<R: Replica>(
     }
 }
 
+/// What is retained of the will of a client, if it has one.
+fn will_retained<R: Replica>(
+    alloc: Global,
+    replica: &R,
+    will: &Option<Will>,
+) -> Result<Option<Posted>, NoMemory>
+    ensures { IfOk result (λ posted. posted ≡ spec.will_retained (seen_of (R.kept replica.now))
+        will.now) }
+{
+    match will {
+        None => Ok(None),
+        Some(will) => retained_of_will(alloc, replica, will),
+    }
+}
+
+/// And then the will is published: a message for each recipient; and it is retained, where it asks
+/// for that.
+fn publish_will<R: Replica>(
+    alloc: Global,
+    replica: &R,
+    client: &ClientId,
+    will: &Option<Will>,
+    draft: &mut Draft,
+) -> Result<(), NoMemory>
+    ensures { OnOk result (draft.new ≡ spec.published (seen_of (R.kept replica.now)) client.now
+        will.now draft.old) }
+{
+    let puts = will_puts(alloc, replica, client, will)?;
+    draft.put_all(puts)?;
+    draft.retain_if(will_retained(alloc, replica, will)?);
+    Ok(())
+}
+
 /// And then the client is lost: its will is published, and it has no address any more.
 fn lose<R: Replica>(
     alloc: Global,
@@ -237,8 +270,7 @@ fn lose<R: Replica>(
     ensures { OnOk result (draft.new ≡ spec.lost (seen_of (R.kept replica.now)) client.now
         session.now draft.old) }
 {
-    let puts = will_puts(alloc, replica, client, &session.will)?;
-    draft.put_all(puts)?;
+    publish_will(alloc, replica, client, &session.will, draft)?;
     draft.change(SessionOp::Presence {
         presence: Presence::Lost,
         duration: session.duration,

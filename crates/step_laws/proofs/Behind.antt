@@ -1,23 +1,18 @@
--- What waits for clients after a plan that makes no message.
+-- What waits for clients after a plan that makes no message and hands nothing.
 use Rattle.std.proofs.Common.{◌≡◌, ℕ, Bool, true, false, cond, not, ◌&&◌, ◌||◌, ◌==◌, nat_le, List, [], ◌∷◌, ◌++◌, map, Option, Some, None, refl, sym, ap, ◌∙◌, arith}
 use Rattle.std.proofs.lemmas.Bool.Decides.{nat_tests}
-use Rattle.std.proofs.lemmas.Option.{same_Some}
 use Rattle.rep_op.specs.declared.op.Op.{Op}
-use Rattle.rep_op.specs.declared.op.Op.TheVariants.{Session as OfSession, Put as OfPut, Ack}
-use Rattle.rep_op.specs.Sets.{put_of, puts, put_at, acknowledges, is_acknowledged}
-use Rattle.rep_model.specs.Views.{pending_at, pending, view}
-use Rattle.rep_model.specs.Fresh.{next_epoch, next_seq}
+use Rattle.rep_op.specs.Sets.{puts, put_at, acknowledges, is_acknowledged}
+use Rattle.rep_model.specs.Views.{pending_at, pending}
 use Rattle.rep_model.proofs.Readers.{is_acknowledged_both}
 use Rattle.rep_model.proofs.Thin.{pending_at-reads}
 use Rattle.sn_plan.specs.declared.plan.Plan.{Plan}
 use Rattle.sn_plan.specs.Drafts.{Drafted}
-use Rattle.sn_plan.specs.Numbering.{with_puts, ack_of}
+use Rattle.sn_plan.specs.Numbering.{ack_of}
 use Rattle.sn_local.specs.Seen.{seen_of}
 use Rattle.sn_plan.specs.Plans.{plan_of}
-use Rattle.sn_plan.proofs.Lists.{all-append, all-weaken, all-map, none_pass}
 use Rattle.sn_local.proofs.Entries.{same_client-itself, same_client-apart, puts-other}
-use Rattle.row_laws.proofs.Planned.{Parts, planned-parts}
-use Rattle.row_laws.proofs.Names.{IsWritten, start-written}
+use Rattle.row_laws.proofs.Freshness.{bare-puts}
 use Rattle.row_laws.proofs.Leaving.{acked-plan}
 use Rattle.sn_exchange.specs.Exchanges.{same_name, is_done, left}
 use Rattle.step_laws.proofs.Pending.{pending-by, pending-left}
@@ -56,27 +51,9 @@ or_none : (a b : Bool) → b ≡ false → (a || b) ≡ a
 or_none true b h = refl
 or_none false b h = h
 
-no_put : (c e : List ℕ) (op : Op) → Type 0
-no_put c e op = put_of e op ≡ None
-
-written_no_put : (g : ℕ) (c e : List ℕ) (op : Op) → IsWritten g c op → put_of e op ≡ None
-written_no_put g c e (OfSession d stamp counter change) h = refl
-written_no_put g c e (OfPut d p) h = absurd h
-written_no_put g c e (Ack d origin first last) h = absurd h
-
-module _ (g : ℕ) (c : List ℕ) (S : List Op) (d : Drafted) (plan : Plan) (planned : plan_of g c (seen_of S) d ≡ Some plan) (none : d.puts ≡ []) where
-  cut : Parts g c (view c S) (next_epoch c S) (λ e. next_seq e g S) d plan.ops
-  cut = planned-parts g c (view c S) (next_epoch c S) (λ e. next_seq e g S) d plan planned
-
+module _ (g : ℕ) (c : List ℕ) (S : List Op) (d : Drafted) (plan : Plan) (planned : plan_of g c (seen_of S) d ≡ Some plan) (bare : d.handed ≡ []) (none : d.puts ≡ []) where
   without_puts : (e : List ℕ) → puts e plan.ops ≡ []
-  without_puts e =
-      let before : List Op = cut.w.ops ++ map (ack_of c) d.acks in
-      let whole : with_puts g (λ e. next_seq e g S) [] before ≡ Some plan.ops = ap (λ xs. with_puts g (λ e. next_seq e g S) xs before) (sym none) ∙ cut.is_numbered in
-      let is : before ≡ plan.ops = same_Some before plan.ops whole in
-      ap (puts e) (sym is)
-      ∙ none_pass (put_of e) before (all-append (λ op. put_of e op ≡ None) cut.w.ops (map (ack_of c) d.acks)
-      (all-weaken (IsWritten g c) (λ op. put_of e op ≡ None) (written_no_put g c e) cut.w.ops (start-written g c (view c S) (next_epoch c S) d.changes cut.w cut.is_written))
-      (all-map (λ op. put_of e op ≡ None) (ack_of c) (λ name. refl) d.acks))
+  without_puts e = bare-puts g c S d plan planned bare none e
 
   after_reads : (e : List ℕ) (name : ℕ × ℕ)
       → pending_at e (S ++ plan.ops) name ≡ cond (not (is_acknowledged e S name || is_acknowledged e (map (ack_of c) d.acks) name)) (put_at e S name) None

@@ -1,11 +1,11 @@
 -- A step whose operations are all of clients that the set names leaves the clients as they are.
 use Rattle.std.proofs.Common.{◌≡◌, ℕ, Bool, true, false, ◌||◌, if◌then◌else◌, nat_le, List, [], ◌∷◌, ◌++◌, filter_map, Some, None, refl, sym, ap, ◌∙◌, true≢false, subst, inl, inr}
-use Rattle.std.specs.List.{list_any, AllByRecursion}
+use Rattle.std.specs.List.{list_any, AllByRecursion, cons_option}
 use Rattle.std.specs.FinMap.Entries.{same_entries}
 use Rattle.std.proofs.lemmas.Bool.{and_parts, or_cases}
 use Rattle.std.proofs.lemmas.List.Folds.{list_any-append}
 use Rattle.rep_op.specs.declared.op.Op.{Op}
-use Rattle.rep_op.specs.declared.op.Op.TheVariants.{Session as OfSession, Put as OfPut, Ack}
+use Rattle.rep_op.specs.declared.op.Op.TheVariants.{Session as OfSession, Put as OfPut, Ack, Retain as OfRetain}
 use Rattle.rep_op.specs.Orders.{client_cmp}
 use Rattle.rep_op.specs.Sets.{same_client}
 use Rattle.rep_model.specs.Views.{names, in_order, named, clients, names_client, is_named}
@@ -17,10 +17,11 @@ use Rattle.sn_plan.specs.declared.plan.Plan.{Plan}
 use Rattle.sn_plan.specs.Drafts.{Drafted}
 use Rattle.sn_local.specs.Seen.{Seen}
 use Rattle.sn_plan.specs.Plans.{plan_of}
-use Rattle.sn_plan.specs.Own.{IsOwn, messages}
-use Rattle.sn_plan.proofs.Lists.{all-both}
+use Rattle.sn_plan.specs.Numbering.{handed_to}
+use Rattle.sn_plan.specs.Own.{IsOwn, unnamed, messages, handed_in}
+use Rattle.sn_plan.proofs.Lists.{all-both, all-map}
 use Rattle.row_laws.proofs.Names.{plan-own}
-use Rattle.row_laws.proofs.Waiting.{plan-messages}
+use Rattle.row_laws.proofs.Waiting.{plan-messages, plan-handed}
 
 or_absorbed : (a b : Bool) → (b ≡ true → a ≡ true) → (a || b) ≡ a
 or_absorbed true b h = refl
@@ -59,16 +60,24 @@ abbrev IsPutForNamed : List Op → Op → Type 0
 IsPutForNamed S (OfSession d stamp counter change) = Unit {0}
 IsPutForNamed S (OfPut d p) = is_named d S ≡ true
 IsPutForNamed S (Ack d origin first last) = Unit {0}
+IsPutForNamed S (OfRetain topic kept) = Unit {0}
 
-puts_for_named : (S ops : List Op) → AllByRecursion (IsForNamed S) (messages ops) → AllByRecursion (IsPutForNamed S) ops
-puts_for_named S [] all = tt
-puts_for_named S (OfSession d stamp counter change ∷ ops) all = (tt, puts_for_named S ops all)
-puts_for_named S (OfPut d p ∷ ops) all = (all.0, puts_for_named S ops all.1)
-puts_for_named S (Ack d origin first last ∷ ops) all = (tt, puts_for_named S ops all)
+puts_for_named : (S ops : List Op) → AllByRecursion (IsForNamed S) (messages ops) → AllByRecursion (IsForNamed S) (handed_in ops) → AllByRecursion (IsPutForNamed S) ops
+puts_for_named S [] all given = tt
+puts_for_named S (OfSession d stamp counter change ∷ ops) all given = (tt, puts_for_named S ops all given)
+puts_for_named S (OfPut d p ∷ ops) all given =
+    elim p.retain as (λ b. AllByRecursion (IsForNamed S) (cons_option (if b then None else Some (unnamed d p)) (messages ops)) → AllByRecursion (IsForNamed S) (cons_option (if b then Some (unnamed d p) else None) (handed_in ops))
+    → (is_named d S ≡ true) × AllByRecursion (IsPutForNamed S) ops) [
+      | true ↦ λ made handed. (handed.0, puts_for_named S ops made handed.1)
+      | false ↦ λ made handed. (made.0, puts_for_named S ops made.1 handed)
+    ] all given
+puts_for_named S (Ack d origin first last ∷ ops) all given = (tt, puts_for_named S ops all given)
+puts_for_named S (OfRetain t k ∷ ops) all given = (tt, puts_for_named S ops all given)
 
 own_named : (g : ℕ) (c : List ℕ) (S : List Op) → is_named c S ≡ true → (op : Op) → IsOwn g c op → IsPutForNamed S op → IsOfNamed S op
 own_named g c S there (OfSession d stamp counter change) own is e h = ap (λ x. is_named x S) (same_client-true e d h ∙ own.0) ∙ there
 own_named g c S there (OfPut d p) own is e h = ap (λ x. is_named x S) (same_client-true e d h) ∙ is
+own_named g c S there (OfRetain t k) own is e h = absurd (true≢false (sym h))
 own_named g c S there (Ack d origin first last) own is e h =
     ap (λ x. is_named x S) (same_client-true e d (and_parts (same_client e d) (nat_le first last) h).0 ∙ own) ∙ there
 
@@ -78,4 +87,6 @@ pub plan-clients : (g : ℕ) (c : List ℕ) (S : List Op) (seen : Seen) (d : Dra
 plan-clients g c S seen d plan planned there all =
     clients_stay S plan.ops
     (all-both (IsOwn g c) (IsPutForNamed S) (IsOfNamed S) (own_named g c S there) plan.ops (plan-own g c seen d plan planned)
-    (puts_for_named S plan.ops (subst (AllByRecursion (IsForNamed S)) (sym (plan-messages g c seen d plan planned)) all)))
+    (puts_for_named S plan.ops
+    (subst (AllByRecursion (IsForNamed S)) (sym (plan-messages g c seen d plan planned)) all)
+    (subst (AllByRecursion (IsForNamed S)) (sym (plan-handed g c seen d plan planned)) (all-map (IsForNamed S) (handed_to c) (λ m. there) d.handed))))

@@ -1,5 +1,5 @@
 -- Each plan of the step table, and of a tick, is the plan of a draft with at most one message a client.
-use Rattle.std.proofs.Common.{◌≡◌, ℕ, ◌==◌, Bool, true, false, ◌&&◌, if◌then◌else◌, nat_le, is_none, List, [], ◌∷◌, ◌++◌, Option, Some, None, filter, length, refl, sym, ap, ◌∙◌, subst, true≢false, Ordering, Less, Equal, Greater}
+use Rattle.std.proofs.Common.{◌≡◌, ℕ, ◌==◌, ◌⊎◌, Bool, true, false, ◌&&◌, if◌then◌else◌, nat_le, is_none, List, [], ◌∷◌, ◌++◌, Option, Some, None, filter, length, refl, sym, ap, ◌∙◌, subst, true≢false, inl, inr, Ordering, Less, Equal, Greater}
 use Rattle.std.specs.List.{AllByRecursion}
 use Rattle.std.specs.Ordering.{ordering_reverse}
 use Rattle.std.specs.List.Sorted.{IsStrictlySortedBy}
@@ -30,9 +30,10 @@ use Rattle.rep_model.proofs.Named.{clients-ascend}
 use Rattle.rep_model.proofs.Readers.{client_total}
 use Rattle.sn_local.specs.declared.config.Addr.{Addr}
 use Rattle.sn_plan.specs.declared.draft.NewPut.{NewPut}
+use Rattle.sn_plan.specs.declared.draft.Posted.{Posted}
 use Rattle.sn_local.specs.declared.local.Timer.{Timer}
 use Rattle.sn_local.specs.declared.local.WillDialog.{WillDialog}
-use Rattle.sn_local.specs.declared.local.LocalChange.TheVariants.{Retried}
+use Rattle.sn_local.specs.declared.local.LocalChange.TheVariants.{Heard, Retried}
 use Rattle.sn_plan.specs.declared.plan.Plan.{Plan}
 use Rattle.sn_plan.specs.declared.row.Row.{Row}
 use Rattle.sn_plan.specs.declared.row.Follow.{Follow}
@@ -44,8 +45,10 @@ use Rattle.sn_local.specs.Bindings.{client_at, is_stamp_of}
 use Rattle.sn_local.specs.Locals.{Local}
 use Rattle.sn_plan.specs.Bound.{bound_to, session_of}
 use Rattle.sn_plan.specs.Rows.{row_of, row_of_none, heard_row}
-use Rattle.sn_plan.specs.Own.{IsOneEach, IsOfDraft}
-use Rattle.row_laws.proofs.Drafting.{row-drafted, connect-puts, disconnect-puts, will_topic-puts, will_msg-puts, will_topic_update-puts, will_msg_update-puts, register-puts, subscribe-puts, unsubscribe-puts, other-puts}
+use Rattle.sn_plan.specs.Asking.{retain_asked}
+use Rattle.sn_plan.specs.Own.{IsOneEach, IsApart, IsOfDraft}
+use Rattle.sn_plan.proofs.Made.{Made, made, SameMade, no_puts, no_handed}
+use Rattle.row_laws.proofs.Drafting.{row-drafted, connect-made, disconnect-made, will_topic-made, will_msg-made, will_topic_update-made, will_msg_update-made, register-made, subscribe-puts, unsubscribe-made, other-made}
 use Rattle.sn_exchange.specs.declared.form.Form.{Form}
 use Rattle.sn_exchange.specs.declared.peer.Peer.{Peer}
 use Rattle.sn_exchange.specs.declared.delivery.ToldId.{ToldId}
@@ -69,100 +72,112 @@ use Rattle.sn_tick.specs.Due.{elapsed, first_due}
 use Rattle.sn_tick.specs.Ticking.{dialog_ended, dialogs_ended, needs_timer, timer_begun, cleaned, may_advertise, advertised, will_puts, lost, plan_due, plan_if_due, tick}
 use Rattle.step_laws.proofs.Keeping.{fold_keeps}
 
--- the draft has the messages that the other has
-abbrev pub SamePuts : Drafted → Drafted → Type 0
-SamePuts e d = e.puts ≡ d.puts
+-- the draft makes nothing
+abbrev pub MakesNone : Drafted → Type 0
+MakesNone d = SameMade d nothing
 
--- the draft has no messages
-abbrev pub NoPuts : Drafted → Type 0
-NoPuts d = d.puts ≡ []
-
-choose_same : (b : Bool) (x y d : Drafted) → SamePuts x d → SamePuts y d → SamePuts (if b then x else y) d
+choose_same : (b : Bool) (x y d : Drafted) → SameMade x d → SameMade y d → SameMade (if b then x else y) d
 choose_same true x y d h k = h
 choose_same false x y d h k = k
 
-choose_none : (b : Bool) (x y : Drafted) → NoPuts x → NoPuts y → NoPuts (if b then x else y)
+choose_none : (b : Bool) (x y : Drafted) → MakesNone x → MakesNone y → MakesNone (if b then x else y)
 choose_none true x y h k = h
 choose_none false x y h k = k
 
-choose_stop : (b : Bool) (x y : Stop) (d : Drafted) → SamePuts x.1 d → SamePuts y.1 d → SamePuts (if b then x else y).1 d
+choose_stop : (b : Bool) (x y : Stop) (d : Drafted) → SameMade x.1 d → SameMade y.1 d → SameMade (if b then x else y).1 d
 choose_stop true x y d h k = h
 choose_stop false x y d h k = k
 
-changed_puts : (change : Option SessionOp) (d : Drafted) → SamePuts (changed_if change d) d
+changed_puts : (change : Option SessionOp) (d : Drafted) → SameMade (changed_if change d) d
 changed_puts None d = refl
 changed_puts (Some change) d = refl
 
 -- ---- what follows a row makes no message
 
 module _ (predefined : Entries) (peer : Peer) (s : Session) where
-  none_puts : (d : Drafted) → SamePuts (none_left peer s d) d
+  none_puts : (d : Drafted) → SameMade (none_left peer s d) d
   none_puts d = choose_same (is_awake s.presence) _ d d refl refl
 
-  register_puts : (put : Put) (found : Option ToldId) (d : Drafted) → SamePuts (register_first peer s put found d).1 d
+  register_puts : (put : Put) (found : Option ToldId) (d : Drafted) → SameMade (register_first peer s put found d).1 d
   register_puts put None d = refl
   register_puts put (Some found) d = changed_puts found.change d
 
-  form_puts : (put : Put) (form : Option Form) (d : Drafted) → SamePuts (deliver_by peer s put form d).1 d
+  form_puts : (put : Put) (form : Option Form) (d : Drafted) → SameMade (deliver_by peer s put form d).1 d
   form_puts put None d = register_puts put (id_to_tell s put.topic) d
   form_puts put (Some form) d = choose_stop (put.qos == 0) _ _ d refl refl
 
-  stop_puts : (more : Drafted → Drafted) (stop : Stop) (d : Drafted) → ((e : Drafted) → SamePuts (more e) e) → SamePuts stop.1 d → SamePuts (and_then more stop) d
+  stop_puts : (more : Drafted → Drafted) (stop : Stop) (d : Drafted) → ((e : Drafted) → SameMade (more e) e) → SameMade stop.1 d → SameMade (and_then more stop) d
   stop_puts more (true, e) d keeps h = h
   stop_puts more (false, e) d keeps h = keeps e ∙ h
 
-  deliver_puts : (pending : List Put) (d : Drafted) → SamePuts (deliver predefined peer s pending d) d
+  deliver_puts : (pending : List Put) (d : Drafted) → SameMade (deliver predefined peer s pending d) d
   deliver_puts [] d = none_puts d
   deliver_puts (put ∷ rest) d =
       stop_puts (deliver predefined peer s rest) (deliver_by peer s put (form_of predefined s put.topic) d) d (λ e. deliver_puts rest e) (form_puts put (form_of predefined s put.topic) d)
 
-  left_puts : (pending : List Put) (d : Drafted) → SamePuts (deliver_left predefined peer s pending d) d
+  left_puts : (pending : List Put) (d : Drafted) → SameMade (deliver_left predefined peer s pending d) d
   left_puts pending d = deliver_puts (left d.acks pending) d
 
-  deliver_if_puts : (pending : List Put) (d : Drafted) → SamePuts (deliver_if predefined peer s pending d) d
+  deliver_if_puts : (pending : List Put) (d : Drafted) → SameMade (deliver_if predefined peer s pending d) d
   deliver_if_puts pending d = choose_same (is_served s.presence && is_none (open_exchange s d.acks pending)) _ d d (left_puts pending d) refl
 
-  register_by_puts : (put : Put) (msg_id : ℕ) (entry : Option TopicEntry) (d : Drafted) → SamePuts (register_by peer s put msg_id entry d).1 d
+  register_by_puts : (put : Put) (msg_id : ℕ) (entry : Option TopicEntry) (d : Drafted) → SameMade (register_by peer s put msg_id entry d).1 d
   register_by_puts put msg_id None d = refl
   register_by_puts put msg_id (Some entry) d = refl
 
-  register_again_puts : (msg_id : ℕ) (put : Option Put) (d : Drafted) → SamePuts (register_again peer s msg_id put d).1 d
+  register_again_puts : (msg_id : ℕ) (put : Option Put) (d : Drafted) → SameMade (register_again peer s msg_id put d).1 d
   register_again_puts msg_id None d = refl
   register_again_puts msg_id (Some put) d = register_by_puts put msg_id (topic_named put.topic s.topics) d
 
-  publish_by_puts : (put : Put) (msg_id : ℕ) (form : Option Form) (d : Drafted) → SamePuts (publish_by peer s put msg_id form d).1 d
+  publish_by_puts : (put : Put) (msg_id : ℕ) (form : Option Form) (d : Drafted) → SameMade (publish_by peer s put msg_id form d).1 d
   publish_by_puts put msg_id None d = refl
   publish_by_puts put msg_id (Some form) d = refl
 
-  publish_again_puts : (msg_id : ℕ) (put : Option Put) (d : Drafted) → SamePuts (publish_again predefined peer s msg_id put d).1 d
+  publish_again_puts : (msg_id : ℕ) (put : Option Put) (d : Drafted) → SameMade (publish_again predefined peer s msg_id put d).1 d
   publish_again_puts msg_id None d = refl
   publish_again_puts msg_id (Some put) d = publish_by_puts put msg_id (form_again predefined s put.topic) d
 
-  resend_in_puts : (msg_id : ℕ) (phase : Phase) (put : Option Put) (d : Drafted) → SamePuts (resend_in predefined peer s msg_id phase put d).1 d
+  resend_in_puts : (msg_id : ℕ) (phase : Phase) (put : Option Put) (d : Drafted) → SameMade (resend_in predefined peer s msg_id phase put d).1 d
   resend_in_puts msg_id Registering put d = register_again_puts msg_id put d
   resend_in_puts msg_id Published put d = publish_again_puts msg_id put d
   resend_in_puts msg_id Released put d = refl
 
-  resend_puts : (pending : List Put) (x : Option Exchange) (d : Drafted) → SamePuts (resend_if predefined peer s pending x d) d
+  resend_puts : (pending : List Put) (x : Option Exchange) (d : Drafted) → SameMade (resend_if predefined peer s pending x d) d
   resend_puts pending None d = deliver_if_puts pending d
   resend_puts pending (Some x) d =
       stop_puts (deliver_left predefined peer s pending) (resend_in predefined peer s x.msg_id x.phase (put_left d.acks pending (message_of x)) d) d
       (λ e. left_puts pending e) (resend_in_puts x.msg_id x.phase (put_left d.acks pending (message_of x)) d)
 
-pub followed_by_puts : (predefined : Entries) (peer : Peer) (s : Session) (pending : List Put) (d : Drafted) (follow : Follow) → SamePuts (followed_by predefined peer s pending d follow) d
-followed_by_puts predefined peer s pending d follows.Nothing = refl
-followed_by_puts predefined peer s pending d follows.Delivery = deliver_if_puts predefined peer (session_after s d) pending d
-followed_by_puts predefined peer s pending d follows.Resend = resend_puts predefined peer (session_after s d) pending (open_exchange (session_after s d) d.acks pending) d
+pub followed_by_made : (predefined : Entries) (peer : Peer) (s : Session) (pending : List Put) (d : Drafted) (follow : Follow) → SameMade (followed_by predefined peer s pending d follow) d
+followed_by_made predefined peer s pending d follows.Nothing = refl
+followed_by_made predefined peer s pending d follows.Delivery = deliver_if_puts predefined peer (session_after s d) pending d
+followed_by_made predefined peer s pending d follows.Resend = resend_puts predefined peer (session_after s d) pending (open_exchange (session_after s d) d.acks pending) d
 
-pub followed_for_puts : (predefined : Entries) (seen : Seen) (a : Addr) (now : ℕ) (d : Drafted) (follow : Follow) (client : Option (List ℕ)) → SamePuts (followed_for predefined seen a now d follow client) d
-followed_for_puts predefined seen a now d follow None = refl
-followed_for_puts predefined seen a now d follow (Some c) = followed_by_puts predefined (peer_at a c now) (session_of seen c) (seen.of c).pending d follow
+pub followed_by_puts : (predefined : Entries) (peer : Peer) (s : Session) (pending : List Put) (d : Drafted) (follow : Follow) → (followed_by predefined peer s pending d follow).puts ≡ d.puts
+followed_by_puts predefined peer s pending d follow = ap (λ (m : Made). m.0) (followed_by_made predefined peer s pending d follow)
+
+pub followed_by_handed : (predefined : Entries) (peer : Peer) (s : Session) (pending : List Put) (d : Drafted) (follow : Follow) → (followed_by predefined peer s pending d follow).handed ≡ d.handed
+followed_by_handed predefined peer s pending d follow = ap (λ (m : Made). m.1) (followed_by_made predefined peer s pending d follow)
+
+pub followed_for_made : (predefined : Entries) (seen : Seen) (a : Addr) (now : ℕ) (d : Drafted) (follow : Follow) (client : Option (List ℕ)) → SameMade (followed_for predefined seen a now d follow client) d
+followed_for_made predefined seen a now d follow None = refl
+followed_for_made predefined seen a now d follow (Some c) = followed_by_made predefined (peer_at a c now) (session_of seen c) (seen.of c).pending d follow
+
+pub followed_for_puts : (predefined : Entries) (seen : Seen) (a : Addr) (now : ℕ) (d : Drafted) (follow : Follow) (client : Option (List ℕ)) → (followed_for predefined seen a now d follow client).puts ≡ d.puts
+followed_for_puts predefined seen a now d follow client = ap (λ (m : Made). m.0) (followed_for_made predefined seen a now d follow client)
+
+-- a draft that makes the same is as well apart
+apart_as : (d e : Drafted) → SameMade e d → IsApart d → IsApart e
+apart_as d e same h = record {
+  one_each = subst (λ (m : Made). IsOneEach m.0) (sym same) h.one_each;
+  alone = subst (λ (m : Made). (m.1 ≡ []) ⊎ (m.0 ≡ [])) (sym same) h.alone;
+}
 
 -- the plan of a row with what follows it
-pub next-drafted : (g : ℕ) (predefined : Entries) (seen : Seen) (a : Addr) (now : ℕ) (row : Row) (plan : Plan) → IsOneEach row.draft.puts → deliver_next g predefined seen a now row ≡ Some plan → IsOfDraft g seen plan
-next-drafted g predefined seen a now row plan one e =
+pub next-drafted : (g : ℕ) (predefined : Entries) (seen : Seen) (a : Addr) (now : ℕ) (row : Row) (plan : Plan) → IsApart row.draft → deliver_next g predefined seen a now row ≡ Some plan → IsOfDraft g seen plan
+next-drafted g predefined seen a now row plan apart e =
     row-drafted g seen (followed predefined seen a now row) plan
-    (subst IsOneEach (sym (followed_for_puts predefined seen a now row.draft row.follow row.client)) one) e
+    (apart_as row.draft (followed_for predefined seen a now row.draft row.follow row.client) (followed_for_made predefined seen a now row.draft row.follow row.client) apart) e
 
 -- ---- recipients are all different
 
@@ -234,23 +249,18 @@ module _ (seen : Seen) (topic : List ℕ) (qos : ℕ) (body : List ℕ) where
 
 -- ---- the rows of publications
 
--- at most one message a client
-abbrev OneEach : Drafted → Type 0
-OneEach d = IsOneEach d.puts
+no_message : (d : Drafted) → d.puts ≡ [] → IsApart d
+no_message d h = record { one_each = subst IsOneEach (sym h) tt; alone = inr h }
 
-none_one : (d : Drafted) → NoPuts d → OneEach d
-none_one d h = subst IsOneEach (sym h) tt
+none_one : (d : Drafted) → MakesNone d → IsApart d
+none_one d h = no_message d (no_puts d h)
 
-none_row : (row : Row) → NoPuts row.draft → OneEach row.draft
+none_row : (row : Row) → MakesNone row.draft → IsApart row.draft
 none_row row h = none_one row.draft h
 
-choose_one : (b : Bool) (x y : Drafted) → OneEach x → OneEach y → OneEach (if b then x else y)
+choose_one : (b : Bool) (x y : Drafted) → IsApart x → IsApart y → IsApart (if b then x else y)
 choose_one true x y h k = h
 choose_one false x y h k = k
-
-heard_one : (bound : Option (List ℕ)) (now : ℕ) (row : Row) → OneEach row.draft → OneEach (heard_row bound now row).draft
-heard_one None now row h = h
-heard_one (Some c) now row h = h
 
 module _ (S : List Op) where
   puts_one : (topic : List ℕ) (qos : ℕ) (body : List ℕ) → IsOneEach (puts_for (seen_of S) topic qos body)
@@ -260,136 +270,140 @@ module _ (S : List Op) where
   will_one c None = tt
   will_one c (Some will) = among_each (seen_of S) will.topic will.qos will.message (filter (is_another c) (clients S)) (filter_apart (is_another c) (clients S) (clients_apart S))
 
-  twice_one : (a : Addr) (s : Session) (topic msg_id : ℕ) (body name : List ℕ) → OneEach (spread_twice (seen_of S) a s topic msg_id body name)
-  twice_one a s topic msg_id body name =
-      choose_one (is_received msg_id s.received) _ _ tt
-      (choose_one (id_has_no_room msg_id s.received) _ _ tt (puts_one name 2 body))
+  twice_one : (asked : Bool) (a : Addr) (s : Session) (topic msg_id : ℕ) (body name : List ℕ) → IsApart (spread_twice (seen_of S) asked a s topic msg_id body name)
+  twice_one asked a s topic msg_id body name =
+      choose_one (is_received msg_id s.received) _ _ (record { one_each = tt; alone = inl refl })
+      (choose_one (id_has_no_room msg_id s.received) _ _ (record { one_each = tt; alone = inl refl }) (record { one_each = puts_one name 2 body; alone = inl refl }))
 
-  publish_at_one : (a : Addr) (s : Session) (topic msg_id : ℕ) (body name : List ℕ) (qos : Qos) → OneEach (publish_at (seen_of S) a s topic msg_id body name qos)
-  publish_at_one a s topic msg_id body name levels.Zero = puts_one name 0 body
-  publish_at_one a s topic msg_id body name levels.One = puts_one name 1 body
-  publish_at_one a s topic msg_id body name levels.Two = twice_one a s topic msg_id body name
-  publish_at_one a s topic msg_id body name levels.MinusOne = puts_one name 0 body
+  publish_at_one : (asked : Bool) (a : Addr) (s : Session) (topic msg_id : ℕ) (body name : List ℕ) (qos : Qos) → IsApart (publish_at (seen_of S) asked a s topic msg_id body name qos)
+  publish_at_one asked a s topic msg_id body name levels.Zero = record { one_each = puts_one name 0 body; alone = inl refl }
+  publish_at_one asked a s topic msg_id body name levels.One = record { one_each = puts_one name 1 body; alone = inl refl }
+  publish_at_one asked a s topic msg_id body name levels.Two = twice_one asked a s topic msg_id body name
+  publish_at_one asked a s topic msg_id body name levels.MinusOne = record { one_each = puts_one name 0 body; alone = inl refl }
 
-  publish_meant_one : (a : Addr) (s : Session) (topic msg_id : ℕ) (body : List ℕ) (qos : Qos) (meant : Meant) → OneEach (publish_meant (seen_of S) a s topic msg_id body qos meant)
-  publish_meant_one a s topic msg_id body qos (Refused code) = tt
-  publish_meant_one a s topic msg_id body qos (Topic name) = publish_at_one a s topic msg_id body name qos
+  publish_meant_one : (asked : Bool) (a : Addr) (s : Session) (topic msg_id : ℕ) (body : List ℕ) (qos : Qos) (meant : Meant) → IsApart (publish_meant (seen_of S) asked a s topic msg_id body qos meant)
+  publish_meant_one asked a s topic msg_id body qos (Refused code) = record { one_each = tt; alone = inl refl }
+  publish_meant_one asked a s topic msg_id body qos (Topic name) = publish_at_one asked a s topic msg_id body name qos
 
-  spread_meant_one : (body : List ℕ) (meant : Meant) → OneEach (spread_meant (seen_of S) body meant)
-  spread_meant_one body (Refused code) = tt
-  spread_meant_one body (Topic name) = puts_one name 0 body
+  spread_meant_one : (asked : Bool) (body : List ℕ) (meant : Meant) → IsApart (spread_meant (seen_of S) asked body meant)
+  spread_meant_one asked body (Refused code) = record { one_each = tt; alone = inl refl }
+  spread_meant_one asked body (Topic name) = record { one_each = puts_one name 0 body; alone = inl refl }
 
-  publish_of_one : (predefined : Entries) (a : Addr) (bound : Option (List ℕ)) (bits topic msg_id : ℕ) (body : List ℕ) (now : ℕ) → OneEach (publish_of predefined (seen_of S) a bound bits topic msg_id body now).draft
-  publish_of_one predefined a None bits topic msg_id body now = tt
+  heard_one : (c : List ℕ) (now : ℕ) (d : Drafted) → IsApart d → IsApart (moved (Heard c now) d)
+  heard_one c now d h = record { one_each = h.one_each; alone = h.alone }
+
+  publish_of_one : (predefined : Entries) (a : Addr) (bound : Option (List ℕ)) (bits topic msg_id : ℕ) (body : List ℕ) (now : ℕ) → IsApart (publish_of predefined (seen_of S) a bound bits topic msg_id body now).draft
+  publish_of_one predefined a None bits topic msg_id body now = record { one_each = tt; alone = inl refl }
   publish_of_one predefined a (Some c) bits topic msg_id body now =
-      publish_meant_one a (session_of (seen_of S) c) topic msg_id body (qos_of bits) (publication_meant predefined (session_of (seen_of S) c) bits topic body)
+      heard_one c now _
+      (publish_meant_one (retain_asked bits) a (session_of (seen_of S) c) topic msg_id body (qos_of bits) (publication_meant predefined (session_of (seen_of S) c) bits topic body))
 
-  publish_in_one : (predefined : Entries) (local : Local) (a : Addr) (bits topic msg_id : ℕ) (body : List ℕ) (now : ℕ) (qos : Qos) → OneEach (publish_in_at predefined (seen_of S) local a bits topic msg_id body now qos).draft
-  publish_in_one predefined local a bits topic msg_id body now levels.MinusOne = spread_meant_one body (publication_meant predefined empty_session bits topic body)
+  publish_in_one : (predefined : Entries) (local : Local) (a : Addr) (bits topic msg_id : ℕ) (body : List ℕ) (now : ℕ) (qos : Qos) → IsApart (publish_in_at predefined (seen_of S) local a bits topic msg_id body now qos).draft
+  publish_in_one predefined local a bits topic msg_id body now levels.MinusOne = spread_meant_one (retain_asked bits) body (publication_meant predefined empty_session bits topic body)
   publish_in_one predefined local a bits topic msg_id body now levels.Zero = publish_of_one predefined a (client_at a local.bindings) bits topic msg_id body now
   publish_in_one predefined local a bits topic msg_id body now levels.One = publish_of_one predefined a (client_at a local.bindings) bits topic msg_id body now
   publish_in_one predefined local a bits topic msg_id body now levels.Two = publish_of_one predefined a (client_at a local.bindings) bits topic msg_id body now
 
 -- ---- acknowledgements make no message
 
-forgotten_puts : (s : Session) (put : Put) (entry : Option TopicEntry) → NoPuts (forgotten s put entry)
+forgotten_puts : (s : Session) (put : Put) (entry : Option TopicEntry) → MakesNone (forgotten s put entry)
 forgotten_puts s put None = refl
 forgotten_puts s put (Some entry) = refl
 
-puback_puts : (predefined : Entries) (s : Session) (code : ℕ) (put : Option Put) → NoPuts (puback_of predefined s code put)
+puback_puts : (predefined : Entries) (s : Session) (code : ℕ) (put : Option Put) → MakesNone (puback_of predefined s code put)
 puback_puts predefined s code None = refl
 puback_puts predefined s code (Some put) =
     choose_none (code == 0) _ _ (choose_none (put.qos == 1) _ _ refl refl)
     (choose_none (code == 1) _ _ refl (choose_none (code == 2) _ _ (forgotten_puts s put (entry_published predefined s put.topic)) refl))
 
-pubrec_again_puts : (peer : Peer) (msg_id : ℕ) (x : Option Exchange) → NoPuts (pubrec_again peer msg_id x)
+pubrec_again_puts : (peer : Peer) (msg_id : ℕ) (x : Option Exchange) → MakesNone (pubrec_again peer msg_id x)
 pubrec_again_puts peer msg_id None = refl
 pubrec_again_puts peer msg_id (Some x) = refl
 
-pubrec_puts : (peer : Peer) (s : Session) (pending : List Put) (msg_id : ℕ) (x : Option Exchange) → NoPuts (pubrec_of peer s pending msg_id x)
+pubrec_puts : (peer : Peer) (s : Session) (pending : List Put) (msg_id : ℕ) (x : Option Exchange) → MakesNone (pubrec_of peer s pending msg_id x)
 pubrec_puts peer s pending msg_id None = pubrec_again_puts peer msg_id (awaiting s pending Released msg_id)
 pubrec_puts peer s pending msg_id (Some x) = refl
 
-pubcomp_puts : (s : Session) (x : Option Exchange) → NoPuts (pubcomp_of s x)
+pubcomp_puts : (s : Session) (x : Option Exchange) → MakesNone (pubcomp_of s x)
 pubcomp_puts s None = refl
 pubcomp_puts s (Some x) = refl
 
-registered_puts : (s : Session) (entry : Option TopicEntry) → NoPuts (registered s entry)
+registered_puts : (s : Session) (entry : Option TopicEntry) → MakesNone (registered s entry)
 registered_puts s None = refl
 registered_puts s (Some entry) = refl
 
-regack_puts : (s : Session) (code : ℕ) (put : Option Put) → NoPuts (regack_of s code put)
+regack_puts : (s : Session) (code : ℕ) (put : Option Put) → MakesNone (regack_of s code put)
 regack_puts s code None = refl
 regack_puts s code (Some put) =
     choose_none (code == 0) _ _ (registered_puts s (topic_named put.topic s.topics)) (choose_none (code == 1) _ _ refl refl)
 
-acknowledge_puts : (predefined : Entries) (peer : Peer) (s : Session) (pending : List Put) (frame : Frame) → NoPuts (acknowledge predefined peer s pending frame)
+acknowledge_puts : (predefined : Entries) (peer : Peer) (s : Session) (pending : List Put) (frame : Frame) → MakesNone (acknowledge predefined peer s pending frame)
 acknowledge_puts predefined peer s pending (frames.PubAck topic_id msg_id code) = puback_puts predefined s code (put_awaiting s pending Published msg_id)
 acknowledge_puts predefined peer s pending (frames.PubRec msg_id) = pubrec_puts peer s pending msg_id (awaiting_pubrec s pending msg_id)
 acknowledge_puts predefined peer s pending (frames.PubComp msg_id) = pubcomp_puts s (awaiting s pending Released msg_id)
 acknowledge_puts predefined peer s pending (frames.RegAck topic_id msg_id code) = regack_puts s code (put_awaiting s pending Registering msg_id)
 acknowledge_puts predefined peer s pending frame = refl
 
-pub pubrel_of_puts : (seen : Seen) (a : Addr) (bound : Option (List ℕ)) (msg_id now : ℕ) → NoPuts (pubrel_of seen a bound msg_id now).draft
-pubrel_of_puts seen a None msg_id now = refl
-pubrel_of_puts seen a (Some c) msg_id now = changed_puts (release (session_of seen c) msg_id) nothing
+pub pubrel_of_made : (seen : Seen) (a : Addr) (bound : Option (List ℕ)) (msg_id now : ℕ) → MakesNone (pubrel_of seen a bound msg_id now).draft
+pubrel_of_made seen a None msg_id now = refl
+pubrel_of_made seen a (Some c) msg_id now = changed_puts (release (session_of seen c) msg_id) nothing
 
-pub ack_of_puts : (predefined : Entries) (seen : Seen) (a : Addr) (bound : Option (List ℕ)) (frame : Frame) (now : ℕ) → NoPuts (ack_of predefined seen a bound frame now).draft
-ack_of_puts predefined seen a None frame now = refl
-ack_of_puts predefined seen a (Some c) frame now = acknowledge_puts predefined (peer_at a c now) (session_of seen c) (seen.of c).pending frame
+pub ack_of_made : (predefined : Entries) (seen : Seen) (a : Addr) (bound : Option (List ℕ)) (frame : Frame) (now : ℕ) → MakesNone (ack_of predefined seen a bound frame now).draft
+ack_of_made predefined seen a None frame now = refl
+ack_of_made predefined seen a (Some c) frame now = acknowledge_puts predefined (peer_at a c now) (session_of seen c) (seen.of c).pending frame
 
 -- ---- waking makes no message
 
-choose_row : (b : Bool) (x y : Row) → NoPuts x.draft → NoPuts y.draft → NoPuts (if b then x else y).draft
+choose_row : (b : Bool) (x y : Row) → MakesNone x.draft → MakesNone y.draft → MakesNone (if b then x else y).draft
 choose_row true x y h k = h
 choose_row false x y h k = k
 
-woken_puts : (a : Addr) (c : List ℕ) (s : Session) (idle : Bool) (d : Drafted) (state : State) → NoPuts d → NoPuts (woken_by a c s idle d state).draft
+woken_puts : (a : Addr) (c : List ℕ) (s : Session) (idle : Bool) (d : Drafted) (state : State) → MakesNone d → MakesNone (woken_by a c s idle d state).draft
 woken_puts a c s idle d Active h = h
 woken_puts a c s idle d Asleep h = choose_row idle _ _ h h
 woken_puts a c s idle d Awake h = choose_row idle _ _ h h
 woken_puts a c s idle d Disconnected h = refl
 woken_puts a c s idle d Lost h = refl
 
-woken_if_puts : (g : ℕ) (a : Addr) (c : List ℕ) (v : ClientView) (now : ℕ) (session : Option Session) → NoPuts (woken_if g a c v now session).draft
+woken_if_puts : (g : ℕ) (a : Addr) (c : List ℕ) (v : ClientView) (now : ℕ) (session : Option Session) → MakesNone (woken_if g a c v now session).draft
 woken_if_puts g a c v now None = refl
 woken_if_puts g a c v now (Some s) =
     woken_puts a c s (has_nothing s v.pending) (bound_to a c now (claimed g v s)) s.presence
     (choose_none (is_stamp_of g v.stamp) nothing (changed (Take s) nothing) refl refl)
 
-wake_of_puts : (g : ℕ) (seen : Seen) (a : Addr) (bound : Option (List ℕ)) (now : ℕ) → NoPuts (wake_of g seen a bound now).draft
+wake_of_puts : (g : ℕ) (seen : Seen) (a : Addr) (bound : Option (List ℕ)) (now : ℕ) → MakesNone (wake_of g seen a bound now).draft
 wake_of_puts g seen a None now = refl
 wake_of_puts g seen a (Some c) now = woken_if_puts g a c (seen.of c) now (seen.of c).session
 
-heard_none : (bound : Option (List ℕ)) (now : ℕ) (row : Row) → NoPuts row.draft → NoPuts (heard_row bound now row).draft
+heard_none : (bound : Option (List ℕ)) (now : ℕ) (row : Row) → MakesNone row.draft → MakesNone (heard_row bound now row).draft
 heard_none None now row h = h
 heard_none (Some c) now row h = h
 
-pub wake_puts : (g : ℕ) (seen : Seen) (local : Local) (a : Addr) (c : List ℕ) (now : ℕ) → NoPuts (wake g seen local a c now).draft
-wake_puts g seen local a c now =
+pub wake_made : (g : ℕ) (seen : Seen) (local : Local) (a : Addr) (c : List ℕ) (now : ℕ) → MakesNone (wake g seen local a c now).draft
+wake_made g seen local a c now =
     choose_row (length c == 0) _ _ (wake_of_puts g seen a (client_at a local.bindings) now)
     (heard_none (client_at a local.bindings) now (woken g seen a c now) (woken_if_puts g a c (seen.of c) now (seen.of c).session))
 
 -- ---- each row has at most one message a client
 
-row_one : (g : ℕ) (predefined : Entries) (S : List Op) (local : Local) (a : Addr) (frame : Frame) (now : ℕ) → OneEach (row_for g predefined (seen_of S) local a frame now).draft
-row_one g predefined S local a (frames.Connect flags protocol duration client) now = none_row (row_for g predefined (seen_of S) local a (frames.Connect flags protocol duration client) now) (connect-puts (seen_of S) local a flags.bits protocol duration client now)
-row_one g predefined S local a (frames.WillTopic will) now = none_row (row_for g predefined (seen_of S) local a (frames.WillTopic will) now) (will_topic-puts (seen_of S) a now local will)
-row_one g predefined S local a (frames.WillMsg message) now = none_row (row_for g predefined (seen_of S) local a (frames.WillMsg message) now) (will_msg-puts (seen_of S) a now local message)
-row_one g predefined S local a (frames.Disconnect duration) now = none_row (row_for g predefined (seen_of S) local a (frames.Disconnect duration) now) (disconnect-puts (seen_of S) local a duration now)
-row_one g predefined S local a (frames.Register topic_id msg_id name) now = none_row (row_for g predefined (seen_of S) local a (frames.Register topic_id msg_id name) now) (register-puts (seen_of S) a now local msg_id name)
-row_one g predefined S local a (frames.Subscribe flags msg_id topic) now = none_row (row_for g predefined (seen_of S) local a (frames.Subscribe flags msg_id topic) now) (subscribe-puts (seen_of S) a now predefined local flags.bits msg_id topic)
-row_one g predefined S local a (frames.Unsubscribe flags msg_id topic) now = none_row (row_for g predefined (seen_of S) local a (frames.Unsubscribe flags msg_id topic) now) (unsubscribe-puts (seen_of S) a now predefined local flags.bits msg_id topic)
-row_one g predefined S local a (frames.WillTopicUpd will) now = none_row (row_for g predefined (seen_of S) local a (frames.WillTopicUpd will) now) (will_topic_update-puts local a will now)
-row_one g predefined S local a (frames.WillMsgUpd message) now = none_row (row_for g predefined (seen_of S) local a (frames.WillMsgUpd message) now) (will_msg_update-puts (seen_of S) a now local message)
+row_one : (g : ℕ) (predefined : Entries) (S : List Op) (local : Local) (a : Addr) (frame : Frame) (now : ℕ) → IsApart (row_for g predefined (seen_of S) local a frame now).draft
+row_one g predefined S local a (frames.Connect flags protocol duration client) now = none_row (row_for g predefined (seen_of S) local a (frames.Connect flags protocol duration client) now) (connect-made (seen_of S) local a flags.bits protocol duration client now)
+row_one g predefined S local a (frames.WillTopic will) now = none_row (row_for g predefined (seen_of S) local a (frames.WillTopic will) now) (will_topic-made (seen_of S) a now local will)
+row_one g predefined S local a (frames.WillMsg message) now = none_row (row_for g predefined (seen_of S) local a (frames.WillMsg message) now) (will_msg-made (seen_of S) a now local message)
+row_one g predefined S local a (frames.Disconnect duration) now = none_row (row_for g predefined (seen_of S) local a (frames.Disconnect duration) now) (disconnect-made (seen_of S) local a duration now)
+row_one g predefined S local a (frames.Register topic_id msg_id name) now = none_row (row_for g predefined (seen_of S) local a (frames.Register topic_id msg_id name) now) (register-made (seen_of S) a now local msg_id name)
+row_one g predefined S local a (frames.Subscribe flags msg_id topic) now = no_message (row_for g predefined (seen_of S) local a (frames.Subscribe flags msg_id topic) now).draft (subscribe-puts (seen_of S) a now predefined local flags.bits msg_id topic)
+row_one g predefined S local a (frames.Unsubscribe flags msg_id topic) now = none_row (row_for g predefined (seen_of S) local a (frames.Unsubscribe flags msg_id topic) now) (unsubscribe-made (seen_of S) a now predefined local flags.bits msg_id topic)
+row_one g predefined S local a (frames.WillTopicUpd will) now = none_row (row_for g predefined (seen_of S) local a (frames.WillTopicUpd will) now) (will_topic_update-made local a will now)
+row_one g predefined S local a (frames.WillMsgUpd message) now = none_row (row_for g predefined (seen_of S) local a (frames.WillMsgUpd message) now) (will_msg_update-made (seen_of S) a now local message)
 row_one g predefined S local a (frames.Publish flags topic msg_id body) now = publish_in_one S predefined local a flags.bits topic msg_id body now (qos_of flags.bits)
-row_one g predefined S local a (frames.PubRel msg_id) now = none_row (row_for g predefined (seen_of S) local a (frames.PubRel msg_id) now) (pubrel_of_puts (seen_of S) a (client_at a local.bindings) msg_id now)
-row_one g predefined S local a (frames.PubAck topic_id msg_id code) now = none_row (row_for g predefined (seen_of S) local a (frames.PubAck topic_id msg_id code) now) (ack_of_puts predefined (seen_of S) a (client_at a local.bindings) (frames.PubAck topic_id msg_id code) now)
-row_one g predefined S local a (frames.PubRec msg_id) now = none_row (row_for g predefined (seen_of S) local a (frames.PubRec msg_id) now) (ack_of_puts predefined (seen_of S) a (client_at a local.bindings) (frames.PubRec msg_id) now)
-row_one g predefined S local a (frames.PubComp msg_id) now = none_row (row_for g predefined (seen_of S) local a (frames.PubComp msg_id) now) (ack_of_puts predefined (seen_of S) a (client_at a local.bindings) (frames.PubComp msg_id) now)
-row_one g predefined S local a (frames.RegAck topic_id msg_id code) now = none_row (row_for g predefined (seen_of S) local a (frames.RegAck topic_id msg_id code) now) (ack_of_puts predefined (seen_of S) a (client_at a local.bindings) (frames.RegAck topic_id msg_id code) now)
-row_one g predefined S local a (frames.PingReq client) now = none_row (row_for g predefined (seen_of S) local a (frames.PingReq client) now) (wake_puts g (seen_of S) local a client now)
-row_one g predefined S local a frame now = none_row (row_for g predefined (seen_of S) local a frame now) (other-puts g local a frame now)
+row_one g predefined S local a (frames.PubRel msg_id) now = none_row (row_for g predefined (seen_of S) local a (frames.PubRel msg_id) now) (pubrel_of_made (seen_of S) a (client_at a local.bindings) msg_id now)
+row_one g predefined S local a (frames.PubAck topic_id msg_id code) now = none_row (row_for g predefined (seen_of S) local a (frames.PubAck topic_id msg_id code) now) (ack_of_made predefined (seen_of S) a (client_at a local.bindings) (frames.PubAck topic_id msg_id code) now)
+row_one g predefined S local a (frames.PubRec msg_id) now = none_row (row_for g predefined (seen_of S) local a (frames.PubRec msg_id) now) (ack_of_made predefined (seen_of S) a (client_at a local.bindings) (frames.PubRec msg_id) now)
+row_one g predefined S local a (frames.PubComp msg_id) now = none_row (row_for g predefined (seen_of S) local a (frames.PubComp msg_id) now) (ack_of_made predefined (seen_of S) a (client_at a local.bindings) (frames.PubComp msg_id) now)
+row_one g predefined S local a (frames.RegAck topic_id msg_id code) now = none_row (row_for g predefined (seen_of S) local a (frames.RegAck topic_id msg_id code) now) (ack_of_made predefined (seen_of S) a (client_at a local.bindings) (frames.RegAck topic_id msg_id code) now)
+row_one g predefined S local a (frames.PingReq client) now = none_row (row_for g predefined (seen_of S) local a (frames.PingReq client) now) (wake_made g (seen_of S) local a client now)
+row_one g predefined S local a frame now = none_row (row_for g predefined (seen_of S) local a frame now) (other-made g local a frame now)
 
 pub step-drafted : (g : ℕ) (predefined : Entries) (S : List Op) (local : Local) (a : Addr) (frame : Frame) (now : ℕ) (plan : Plan) → step g predefined (seen_of S) local a frame now ≡ Some plan → IsOfDraft g (seen_of S) plan
 unfolding step
@@ -400,26 +414,35 @@ step-drafted g predefined S local a frame now plan e =
 
 -- a plan without operations
 without-drafted : (g : ℕ) (seen : Seen) (d : Drafted) (plan : Plan) → Some (plan_without d) ≡ Some plan → IsOfDraft g seen plan
-without-drafted g seen d plan e = row-drafted g seen (row_of_none (record d { puts = [] })) plan tt e
+without-drafted g seen d plan e = row-drafted g seen (row_of_none (record d { handed = []; retain = None; puts = [] })) plan (record { one_each = tt; alone = inl refl }) e
 
-ended_puts : (now : ℕ) (d : Drafted) (dialog : WillDialog) → SamePuts (dialog_ended now d dialog) d
+ended_puts : (now : ℕ) (d : Drafted) (dialog : WillDialog) → SameMade (dialog_ended now d dialog) d
 ended_puts now d dialog = choose_same (nat_le 60 (elapsed now dialog.begun)) _ d d refl refl
 
-begun_puts : (g : ℕ) (seen : Seen) (timers : List Timer) (now : ℕ) (d : Drafted) (c : List ℕ) → SamePuts (timer_begun g seen timers now d c) d
+begun_puts : (g : ℕ) (seen : Seen) (timers : List Timer) (now : ℕ) (d : Drafted) (c : List ℕ) → SameMade (timer_begun g seen timers now d c) d
 begun_puts g seen timers now d c = choose_same (needs_timer g timers c (seen.of c)) _ d d refl refl
 
-pub cleaned_puts : (g : ℕ) (seen : Seen) (local : Local) (now : ℕ) → NoPuts (cleaned g seen local now)
-cleaned_puts g seen local now =
-    fold_keeps (timer_begun g seen local.timers now) (λ d. d.puts) (begun_puts g seen local.timers now) seen.all (dialogs_ended now local.dialogs nothing)
-    ∙ fold_keeps (dialog_ended now) (λ d. d.puts) (ended_puts now) local.dialogs nothing
+pub cleaned_made : (g : ℕ) (seen : Seen) (local : Local) (now : ℕ) → SameMade (cleaned g seen local now) nothing
+cleaned_made g seen local now =
+    fold_keeps (timer_begun g seen local.timers now) made (begun_puts g seen local.timers now) seen.all (dialogs_ended now local.dialogs nothing)
+    ∙ fold_keeps (dialog_ended now) made (ended_puts now) local.dialogs nothing
 
-module _ (g : ℕ) (predefined : Entries) (S : List Op) (now : ℕ) (plan : Plan) (d : Drafted) (none : NoPuts d) where
+module _ (g : ℕ) (predefined : Entries) (S : List Op) (now : ℕ) (plan : Plan) (d : Drafted) (same : SameMade d nothing) where
+  none : d.puts ≡ []
+  none = no_puts d same
+
+  bare : d.handed ≡ []
+  bare = no_handed d same
+
   due-drafted : (c : List ℕ) (due : Due) → plan_due g predefined (seen_of S) now d c due ≡ Some plan → IsOfDraft g (seen_of S) plan
   due-drafted c dues.Loss e =
       row-drafted g (seen_of S) (row_of follows.Nothing c (lost (seen_of S) c (session_of (seen_of S) c) d)) plan
-      (subst (λ (puts : List NewPut). IsOneEach (puts ++ will_puts (seen_of S) c (session_of (seen_of S) c).will)) (sym none) (will_one S c (session_of (seen_of S) c).will)) e
-  due-drafted c (dues.Retry a) e = next-drafted g predefined (seen_of S) a now (row_of follows.Resend c (moved (Retried c now) d)) plan (none_one d none) e
-  due-drafted c (dues.Delivery a) e = next-drafted g predefined (seen_of S) a now (row_of follows.Delivery c d) plan (none_one d none) e
+      (record {
+        one_each = subst (λ (puts : List NewPut). IsOneEach (puts ++ will_puts (seen_of S) c (session_of (seen_of S) c).will)) (sym none) (will_one S c (session_of (seen_of S) c).will);
+        alone = inl bare;
+      }) e
+  due-drafted c (dues.Retry a) e = next-drafted g predefined (seen_of S) a now (row_of follows.Resend c (moved (Retried c now) d)) plan (none_one (moved (Retried c now) d) same) e
+  due-drafted c (dues.Delivery a) e = next-drafted g predefined (seen_of S) a now (row_of follows.Delivery c d) plan (none_one d same) e
 
   if_due-drafted : (found : Option (List ℕ × Due)) → plan_if_due g predefined (seen_of S) now d found ≡ Some plan → IsOfDraft g (seen_of S) plan
   if_due-drafted None e = without-drafted g (seen_of S) d plan e
@@ -433,7 +456,7 @@ module _ (g : ℕ) (predefined : Entries) (S : List Op) (now : ℕ) (plan : Plan
 pub tick-drafted : (g advertise : ℕ) (field : List Addr) (predefined : Entries) (S : List Op) (local : Local) (now : ℕ) (plan : Plan) → tick g advertise field predefined (seen_of S) local now ≡ Some plan → IsOfDraft g (seen_of S) plan
 tick-drafted g advertise field predefined S local now plan e =
     let d = cleaned g (seen_of S) local now in
-    either-drafted g predefined S now plan d (cleaned_puts g (seen_of S) local now) (may_advertise advertise field now local.advertised)
+    either-drafted g predefined S now plan d (cleaned_made g (seen_of S) local now) (may_advertise advertise field now local.advertised)
     (Some (plan_without (advertised g advertise field now d))) (plan_if_due g predefined (seen_of S) now d (first_due g (seen_of S) local now (clients S)))
     (without-drafted g (seen_of S) (advertised g advertise field now d) plan)
-    (if_due-drafted g predefined S now plan d (cleaned_puts g (seen_of S) local now) (first_due g (seen_of S) local now (clients S))) e
+    (if_due-drafted g predefined S now plan d (cleaned_made g (seen_of S) local now) (first_due g (seen_of S) local now (clients S))) e

@@ -7,7 +7,7 @@ use Rattle.sn_session.specs.declared.change.SessionOp.{SessionOp}
 use Rattle.sn_session.specs.declared.change.SessionOp.TheVariants.{Presence, Register, Subscribe, Received, Outbound}
 use Rattle.rep_op.specs.declared.op.Put.{Put}
 use Rattle.rep_op.specs.declared.op.Op.{Op}
-use Rattle.rep_op.specs.declared.op.Op.TheVariants.{Session as OfSession, Put as OfPut, Ack}
+use Rattle.rep_op.specs.declared.op.Op.TheVariants.{Session as OfSession, Put as OfPut, Ack, Retain as OfRetain}
 use Rattle.rep_model.specs.Views.{gapless}
 use Rattle.rep_model.proofs.Joins.{same_refl}
 use Rattle.sn_frame.specs.declared.frame.Frame.TheVariants as frames
@@ -41,7 +41,7 @@ abbrev asks_for_ab : List Op
 asks_for_ab = first_take ∷ at 1 (Subscribe (codes "ab") 2) ∷ []
 
 abbrev x_on_ab : ℕ → Put
-x_on_ab qos = record { origin = 1; seq = 1; topic = codes "ab"; qos = qos; body = codes "x" }
+x_on_ab qos = record { origin = 1; seq = 1; topic = codes "ab"; qos = qos; retain = false; expires = 0; body = codes "x" }
 
 -- PUBLISH without a connection: the client gets it, nothing is answered
 unconnected : deliver_next 1 [] (seen_of asks_for_ab) (record { host = 0; port = 99 }) 2 (publish_in [] (seen_of asks_for_ab) bound_seven (record { host = 0; port = 99 }) 0x62 0x6162 0 (codes "x") 2)
@@ -71,7 +71,7 @@ published_twice = refl
 
 -- a client whose topic `t/b` needs registering, with a message at quality of service 1
 abbrev h_on_tb : Put
-h_on_tb = record { origin = 1; seq = 1; topic = codes "t/b"; qos = 1; body = codes "H" }
+h_on_tb = record { origin = 1; seq = 1; topic = codes "t/b"; qos = 1; retain = false; expires = 0; body = codes "H" }
 
 abbrev exchange_one : ℕ → SessionOp
 exchange_one n = Outbound (Some (record { origin = 1; seq = 1; msg_id = n; phase = Registering })) 2

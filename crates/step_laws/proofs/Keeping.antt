@@ -18,7 +18,7 @@ use Rattle.sn_local.specs.declared.config.Send.{Send}
 use Rattle.sn_local.specs.declared.local.Timer.{Timer}
 use Rattle.sn_local.specs.declared.local.WillDialog.{WillDialog}
 use Rattle.sn_local.specs.declared.local.LocalChange.TheVariants.{Heard, EndDialog}
-use Rattle.sn_plan.specs.Drafts.{Drafted, nothing, changed, changed_if, acked, put_all, sent, moved, session_after}
+use Rattle.sn_plan.specs.Drafts.{Drafted, nothing, changed, changed_if, acked, sent, moved, session_after}
 use Rattle.sn_local.specs.Seen.{Seen}
 use Rattle.sn_plan.specs.Plans.{plan_without}
 use Rattle.sn_local.specs.Locals.{Local}
@@ -26,7 +26,7 @@ use Rattle.sn_exchange.specs.declared.form.Form.{Form}
 use Rattle.sn_exchange.specs.declared.peer.Peer.{Peer}
 use Rattle.sn_exchange.specs.declared.delivery.ToldId.{ToldId}
 use Rattle.sn_exchange.specs.Forms.{form_of, publication}
-use Rattle.sn_publish.specs.Recipients.{puts_for}
+use Rattle.sn_publish.specs.Publishing.{posted}
 use Rattle.sn_exchange.specs.Exchanges.{put_left, message_of, open_exchange, is_served, is_awake}
 use Rattle.sn_exchange.specs.Delivery.{Stop, id_to_tell, begun, register_first, deliver_by, none_left, and_then, deliver, deliver_left, then_deliver}
 use Rattle.sn_exchange.specs.Resending.{publish_by, publish_again, resend_in}
@@ -46,9 +46,9 @@ choose_acks : (b : Bool) (x d : Drafted) → x.acks ≡ d.acks → (if b then x 
 choose_acks true x d e = e
 choose_acks false x d e = refl
 
-choose_puts : (b : Bool) (x y : Drafted) → b ≡ true → x.puts ≡ [] → (if b then x else y).puts ≡ []
-choose_puts true x y e none = none
-choose_puts false x y e none = absurd (true≢false (sym e))
+choose_made : (b : Bool) (x y : Drafted) → b ≡ true → (x.puts ≡ []) × (x.retain ≡ None) → ((if b then x else y).puts ≡ []) × ((if b then x else y).retain ≡ None)
+choose_made true x y e none = none
+choose_made false x y e none = absurd (true≢false (sym e))
 
 -- ---- a repeated publication
 
@@ -64,17 +64,17 @@ if_room false s made id e h = h
 
 pub puts-once : PutsOnce
 puts-once = record {
-  recorded = λ seen a s topic msg_id body name fresh room.
+  recorded = λ seen asked a s topic msg_id body name fresh room.
       choose_last (is_received msg_id s.received) (id_has_no_room msg_id s.received) (sent a (frames.PubRec msg_id) nothing) (sent a (frames.PubAck topic msg_id 1) nothing)
-      (sent a (frames.PubRec msg_id) (changed (Received msg_id) (put_all (puts_for seen name 2 body) nothing)))
+      (sent a (frames.PubRec msg_id) (changed (Received msg_id) (posted seen asked name 2 body)))
       (λ d. is_received msg_id (session_after s d).received ≡ true) fresh room
       (if_room (id_has_no_room msg_id s.received) s (changed_by s (Received msg_id)) msg_id room (added msg_id s.received));
   stays = stays-received;
-  repeated = λ seen a s topic msg_id body name received.
-      choose_puts (is_received msg_id s.received) (sent a (frames.PubRec msg_id) nothing)
+  repeated = λ seen asked a s topic msg_id body name received.
+      choose_made (is_received msg_id s.received) (sent a (frames.PubRec msg_id) nothing)
       (if id_has_no_room msg_id s.received then sent a (frames.PubAck topic msg_id 1) nothing
-      else sent a (frames.PubRec msg_id) (changed (Received msg_id) (put_all (puts_for seen name 2 body) nothing)))
-      received refl;
+      else sent a (frames.PubRec msg_id) (changed (Received msg_id) (posted seen asked name 2 body)))
+      received (refl, refl);
 }
 
 -- ---- an exchange that is open

@@ -113,10 +113,11 @@ module _ (P : List LocalChange → Type 0) (predefined : Entries) (peer : Peer)
 abbrev pub Anyone : List ℕ → Type 0
 Anyone x = Unit {0}
 
--- a draft that changes no session, acknowledges and makes nothing, and keeps the local state
+-- a draft that changes no session, acknowledges, hands and makes nothing, and keeps the local state
 pub record IsClean (now : ℕ) (local : Local) (d : Drafted) : Type 0 where
   pub changes : d.changes ≡ []
   pub acks : d.acks ≡ []
+  pub handed : d.handed ≡ []
   pub puts : d.puts ≡ []
   pub kept : AreKept now local Anyone d.local
 
@@ -130,14 +131,14 @@ none_is (Some x) e = absurd (true≢false (sym e))
 
 module _ (now : ℕ) (local : Local) where
   clean_moved : (change : LocalChange) (d : Drafted) → IsClean now local d → AreKept now local Anyone (d.local ++ change ∷ []) → IsClean now local (moved change d)
-  clean_moved change d h kept = record { changes = h.changes; acks = h.acks; puts = h.puts; kept = kept }
+  clean_moved change d h kept = record { changes = h.changes; acks = h.acks; handed = h.handed; puts = h.puts; kept = kept }
 
   clean_if : (b : Bool) (x d : Drafted) → (b ≡ true → IsClean now local x) → IsClean now local d → IsClean now local (if b then x else d)
   clean_if true x d h k = h refl
   clean_if false x d h k = k
 
   nothing_clean : IsClean now local nothing
-  nothing_clean = record { changes = refl; acks = refl; puts = refl; kept = record { bindings = refl; advertised = refl; timers = λ x is. inl refl } }
+  nothing_clean = record { changes = refl; acks = refl; handed = refl; puts = refl; kept = record { bindings = refl; advertised = refl; timers = λ x is. inl refl } }
 
   dialog_clean : (d : Drafted) (dialog : WillDialog) → IsClean now local d → IsClean now local (dialog_ended now d dialog)
   dialog_clean d dialog h =

@@ -30,7 +30,7 @@ use Rattle.sn_plan.specs.Bound.{session_of}
 use Rattle.sn_plan.specs.Drafts.{Drafted, moved}
 use Rattle.sn_plan.specs.Flush.{IsFlush, session_with}
 use Rattle.sn_local.specs.Locals.{Local, after_all}
-use Rattle.sn_plan.specs.Numbering.{planned, plan_with, rest_of, with_puts, written, start_of, ack_of}
+use Rattle.sn_plan.specs.Numbering.{planned, plan_with, rest_of, numbered, written, start_of, ack_of}
 use Rattle.sn_plan.specs.Others.{is_up, can_wake}
 use Rattle.sn_local.specs.Seen.{Seen, seen_of}
 use Rattle.sn_plan.specs.Plans.{plan_of}
@@ -49,7 +49,7 @@ use Rattle.step_laws.proofs.Behind.{plan-left, plan-others}
 use Rattle.sn_tick.proofs.Calm.{either_none}
 use Rattle.step_laws.proofs.Clients.{IsForNamed, plan-clients}
 use Rattle.step_laws.proofs.Counting.{IsAmong, among-contains}
-use Rattle.step_laws.proofs.Drafting.{filter_all, followed_by_puts}
+use Rattle.step_laws.proofs.Drafting.{filter_all, followed_by_puts, followed_by_handed}
 use Rattle.step_laws.proofs.Locally.{IsClean, IsAnother, delivery-kept, retry-kept}
 use Rattle.step_laws.proofs.Lowering.{IsDue, is-due, due-same, is_up_in, is_due_in, work, lost-lowers, done-lowers, view-behind, clients-behind}
 use Rattle.step_laws.proofs.Pending.{pending-apart}
@@ -61,8 +61,8 @@ use Rattle.step_laws.proofs.Timing.{AreKept, due-alike, still_told}
 plan-local : (g : ℕ) (c : List ℕ) (seen : Seen) (d : Drafted) (plan : Plan) → plan_of g c seen d ≡ Some plan → plan.local ≡ d.local
 unfolding planned
 plan-local g c seen d plan e =
-    let m = and_then-some (rest_of g c (λ e. seen.seq e g) d) (written c g d.changes (start_of g (seen.of c) (seen.epoch c))) plan e in
-    let n = map-some (plan_with d) (with_puts g (λ e. seen.seq e g) d.puts (m.0.ops ++ map (ack_of c) d.acks)) plan m.2 in
+    let m = and_then-some (rest_of g c (λ e. seen.seq e g) seen.clock d) (written c g d.changes (start_of g (seen.of c) (seen.epoch c))) plan e in
+    let n = map-some (plan_with d) (numbered g c (λ e. seen.seq e g) seen.clock d (m.0.ops ++ map (ack_of c) d.acks)) plan m.2 in
     ap (λ (p : Plan). p.local) (sym n.2)
 
 -- ---- the messages of a will are for clients that the set names
@@ -131,22 +131,22 @@ module _ (g advertise : ℕ) (field : List Addr) (now : ℕ) (c : List ℕ) (S :
   was_up : (s : Session) → (view c S).session ≡ Some s → is_up s.presence ≡ true → is_up_in g advertise field now S c ≡ true
   was_up s is up = ap can_wake is ∙ up
 
-  -- without messages: what waits for others
-  pending_stays : e.puts ≡ [] → (x : List ℕ) → ¬ (x ≡ c) → (view x behind).pending ≡ (view x S).pending
-  pending_stays none x h = ap (λ (v : ClientView). v.pending) (view-behind S plan.ops delta same x) ∙ plan-others g c S e plan is_planned none x h
+  -- where nothing is handed and without messages: what waits for others
+  pending_stays : e.handed ≡ [] → e.puts ≡ [] → (x : List ℕ) → ¬ (x ≡ c) → (view x behind).pending ≡ (view x S).pending
+  pending_stays bare none x h = ap (λ (v : ClientView). v.pending) (view-behind S plan.ops delta same x) ∙ plan-others g c S e plan is_planned bare none x h
 
-  pending_made : e.puts ≡ [] → (view c behind).pending ≡ left e.acks (view c S).pending
-  pending_made none = ap (λ (v : ClientView). v.pending) (view-behind S plan.ops delta same c) ∙ plan-left g c S e plan is_planned none
+  pending_made : e.handed ≡ [] → e.puts ≡ [] → (view c behind).pending ≡ left e.acks (view c S).pending
+  pending_made bare none = ap (λ (v : ClientView). v.pending) (view-behind S plan.ops delta same c) ∙ plan-left g c S e plan is_planned bare none
 
   -- something is done with the client, and with no other
-  done_with : IsFlush g c S → IsAmong c (clients S) → (reason : Due) → IsDue g now local c (view c S) reason → e.puts ≡ [] → AreKept now local (IsAnother c) e.local
+  done_with : IsFlush g c S → IsAmong c (clients S) → (reason : Due) → IsDue g now local c (view c S) reason → e.handed ≡ [] → e.puts ≡ [] → AreKept now local (IsAnother c) e.local
       → ((b : Option Addr) → due_after now c (session_of (seen_of S) c) (view c S).pending local.timers b e ≡ None)
       → work g advertise field now behind (after_all local e.local) < work g advertise field now S local
-  done_with flush among reason due none kept settled =
+  done_with flush among reason due bare none kept settled =
       let M : Local = after_all local e.local in
       let x : Session = due.session in
       let rest : due_session now (view c behind).pending (timer_of c M.timers) (address_of c M.bindings) (view c behind).session ≡ None =
-      (λ i. due_session now (pending_made none i) (timer_of c M.timers) (address_of c M.bindings) (session_made flush x due.is i))
+      (λ i. due_session now (pending_made bare none i) (timer_of c M.timers) (address_of c M.bindings) (session_made flush x due.is i))
       ∙ ap (λ (o : Option Session). due_session now (left e.acks (view c S).pending) (timer_of c M.timers) (address_of c M.bindings) (Some (fold applied (unwrap_or o empty_session) e.changes))) (sym due.is)
       ∙ settled (address_of c M.bindings) in
       let was : due_with g (seen_of S) local now c ≡ Some reason =
@@ -156,7 +156,7 @@ module _ (g advertise : ℕ) (field : List Addr) (now : ℕ) (c : List ℕ) (S :
       c among
       (λ y. by_client (λ y. is_due_in g advertise field now behind M y ≡ true → is_due_in g advertise field now S local y ≡ true) y c
       (λ is _. ap (is_due_in g advertise field now S local) is ∙ ap is_some was)
-      (λ other is. sym (ap is_some (due-same g now y (view y S) (view y behind) local M (stamp_stays y other) (pending_stays none y other) (session_stays y other) kept.bindings (kept.timers y other))) ∙ is))
+      (λ other is. sym (ap is_some (due-same g now y (view y S) (view y behind) local M (stamp_stays y other) (pending_stays bare none y other) (session_stays y other) kept.bindings (kept.timers y other))) ∙ is))
       (ap is_some was)
       (ap is_some (either_none (is_stamp_of g (view c behind).stamp) (due_session now (view c behind).pending (timer_of c M.timers) (address_of c M.bindings) (view c behind).session) rest))
       kept.advertised
@@ -195,8 +195,15 @@ module _ (g advertise : ℕ) (field : List Addr) (predefined : Entries) (now : �
   retry_puts a =
       followed_by_puts predefined (peer_at a c now) (session_of (seen_of S) c) (view c S).pending (moved (Retried c now) d) follows.Resend ∙ clean.puts
 
+  retry_handed : (a : Addr) → (due_draft predefined (seen_of S) now c d (Retry a)).handed ≡ []
+  retry_handed a =
+      followed_by_handed predefined (peer_at a c now) (session_of (seen_of S) c) (view c S).pending (moved (Retried c now) d) follows.Resend ∙ clean.handed
+
   delivery_puts : (a : Addr) → (due_draft predefined (seen_of S) now c d (Delivery a)).puts ≡ []
   delivery_puts a = followed_by_puts predefined (peer_at a c now) (session_of (seen_of S) c) (view c S).pending d follows.Delivery ∙ clean.puts
+
+  delivery_handed : (a : Addr) → (due_draft predefined (seen_of S) now c d (Delivery a)).handed ≡ []
+  delivery_handed a = followed_by_handed predefined (peer_at a c now) (session_of (seen_of S) c) (view c S).pending d follows.Delivery ∙ clean.handed
 
   lowered : (plan : Plan) (delta : List Op) → Same delta plan.ops → (reason : Due) → IsDue g now local c (view c S) reason
       → plan_of g c (seen_of S) (due_draft predefined (seen_of S) now c d reason) ≡ Some plan
@@ -208,10 +215,10 @@ module _ (g advertise : ℕ) (field : List Addr) (predefined : Entries) (now : �
       (subst (λ (puts : List NewPut). AllByRecursion (IsForNamed S) (puts ++ will_puts (seen_of S) c s.will)) (sym clean.puts) (will_named S c s.will))
       (still_told local.advertised d.local (Unbind c) (λ o. refl) clean.kept.advertised)
   lowered plan delta same (Retry a) due e =
-      done_with g advertise field now c S local (due_draft predefined (seen_of S) now c d (Retry a)) plan delta e same flush among (Retry a) due (retry_puts a)
+      done_with g advertise field now c S local (due_draft predefined (seen_of S) now c d (Retry a)) plan delta e same flush among (Retry a) due (retry_handed a) (retry_puts a)
       (retry-kept predefined (seen_of S) a now c local d clean.kept) (settled (Retry a) due)
   lowered plan delta same (Delivery a) due e =
-      done_with g advertise field now c S local (due_draft predefined (seen_of S) now c d (Delivery a)) plan delta e same flush among (Delivery a) due (delivery_puts a)
+      done_with g advertise field now c S local (due_draft predefined (seen_of S) now c d (Delivery a)) plan delta e same flush among (Delivery a) due (delivery_handed a) (delivery_puts a)
       (delivery-kept predefined (seen_of S) a now c local d clean.kept) (settled (Delivery a) due)
 
   -- so a tick that does what is due with the client leaves less to do

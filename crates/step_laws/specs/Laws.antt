@@ -27,7 +27,7 @@ use Rattle.sn_local.specs.Timers.{timer_of, timers_after}
 use Rattle.sn_local.specs.Locals.{Local}
 use Rattle.sn_exchange.specs.declared.form.Form.{Form}
 use Rattle.sn_exchange.specs.declared.peer.Peer.{Peer}
-use Rattle.sn_exchange.specs.Forms.{form_of, form_again, publication, qos_bits}
+use Rattle.sn_exchange.specs.Forms.{form_of, form_again, publication, qos_bits, retain_bit}
 use Rattle.sn_session.specs.declared.outbound.Outbound.{Outbound as Exchange}
 use Rattle.sn_tick.specs.declared.due.Due.{Due}
 use Rattle.sn_tick.specs.declared.due.Due.TheVariants.{Loss, Retry, Delivery}
@@ -77,17 +77,19 @@ ends_received id change = false
 
 -- Exactly once. The first publication at quality of service 2 records its message id. No change but
 -- a Take and the release of the id ends that. While it lasts, a publication of the id makes no
--- message.
+-- message, and nothing is retained of it.
 pub record PutsOnce : Type 0 where
-  pub recorded : (seen : Seen) (a : Addr) (s : Session) (topic msg_id : ℕ) (body name : List ℕ)
+  pub recorded : (seen : Seen) (asked : Bool) (a : Addr) (s : Session) (topic msg_id : ℕ)
+      (body name : List ℕ)
       → is_received msg_id s.received ≡ false → id_has_no_room msg_id s.received ≡ false
-      → is_received msg_id (session_after s (spread_twice seen a s topic msg_id body name)).received
-      ≡ true
+      → is_received msg_id
+      (session_after s (spread_twice seen asked a s topic msg_id body name)).received ≡ true
   pub stays : (s : Session) (change : SessionOp) (msg_id : ℕ) → ends_received msg_id change ≡ false
       → is_received msg_id s.received ≡ true → is_received msg_id (applied s change).received ≡ true
-  pub repeated : (seen : Seen) (a : Addr) (s : Session) (topic msg_id : ℕ) (body name : List ℕ)
-      → is_received msg_id s.received ≡ true
-      → (spread_twice seen a s topic msg_id body name).puts ≡ []
+  pub repeated : (seen : Seen) (asked : Bool) (a : Addr) (s : Session) (topic msg_id : ℕ)
+      (body name : List ℕ) → is_received msg_id s.received ≡ true
+      → ((spread_twice seen asked a s topic msg_id body name).puts ≡ [])
+      × ((spread_twice seen asked a s topic msg_id body name).retain ≡ None)
 
 -- these changes are those before, or they first end the exchange that was open before
 abbrev pub EndsFirst : List SessionOp → ℕ → List SessionOp → Type 0
@@ -118,8 +120,9 @@ ResentWithDup =
     → form_again predefined s put.topic ≡ Some form
     → (resend predefined peer s pending x d).sends
     ≡ (sent peer.address
-    (frames.Publish (record { bits = 128 + qos_bits put.qos + kind_bits form.kind }) form.topic
-    x.msg_id put.body) d).sends
+    (frames.Publish (record {
+      bits = 128 + qos_bits put.qos + retain_bit put.retain + kind_bits form.kind;
+    }) form.topic x.msg_id put.body) d).sends
 
 -- a plan that makes no operation and sends no frame
 abbrev pub IsQuiet : Plan → Type 0

@@ -29,7 +29,8 @@ pub fn delivery_keeps()
 
 /// Exactly once: the first publication of a message id at quality of service 2 records the id, if
 /// the session has room for it. Nothing but its release, and a session that is taken over as a
-/// whole, ends that. Until then a publication of the id makes no message.
+/// whole, ends that. Until then a publication of the id makes no message, and nothing is retained
+/// of it.
 pub fn puts_once()
     ensures { PutsOnce }
 {}
@@ -95,8 +96,9 @@ pub fn ticks_end()
 {}
 
 /// The laws of `row_laws` hold of every step and of every tick: each of their plans is the plan of
-/// a draft with at most one message a client. So no step loses a message but by an acknowledgement
-/// of its own, and a gateway whose set is flush never refuses for a conflict what it made itself.
+/// a draft with at most one message a client, or what was retained for its own alone. So no step
+/// loses a message but by an acknowledgement of its own, and a gateway whose set is flush never
+/// refuses for a conflict what it made itself.
 pub fn every_step()
     ensures steps { (g : ℕ) (predefined : Entries) (S : List Op) (local : Local) (a : Addr)
         (frame : Frame) (now : ℕ) (plan : Plan) → step g predefined (seen_of S) local a frame now

@@ -2,7 +2,7 @@
 use Rattle.std.specs.Prelude.{ℕ, Bool, true, false, ◌&&◌, ◌||◌, ◌==◌, ◌≡◌, not, List, ◌++◌, is_none}
 use Rattle.std.specs.List.{list_all}
 use Rattle.rep_op.specs.declared.op.Op.{Op}
-use Rattle.rep_op.specs.declared.op.Op.TheVariants.{Session as OfSession, Put as OfPut, Ack}
+use Rattle.rep_op.specs.declared.op.Op.TheVariants.{Session as OfSession, Put as OfPut, Ack, Retain as OfRetain}
 use Rattle.rep_model.specs.Keep.{IsKeptOf}
 use Rattle.sn_local.specs.declared.local.LocalChange.{LocalChange}
 use Rattle.sn_local.specs.declared.local.LocalChange.TheVariants.{Bind, Unbind, Time, Heard, Sent, Resent, Retried, Ask, EndDialog, Advertised}
@@ -42,6 +42,7 @@ leaves_all g seen local (OfSession c stamp counter change) =
     not (counter == 0) || is_left g seen local c
 leaves_all g seen local (OfPut c put) = true
 leaves_all g seen local (Ack c origin first last) = true
+leaves_all g seen local (OfRetain t kept) = true
 
 -- whether an address or a timer that the change notes is of a client that the gateway owns
 abbrev pub notes_owned : ℕ → Seen → LocalChange → Bool

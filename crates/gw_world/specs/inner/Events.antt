@@ -5,12 +5,12 @@ use Rattle.std.specs.List.{AllByRecursion}
 use Rattle.std.specs.declared.alloc.Global.{Global}
 use Rattle.rep_op.specs.declared.op.Op.{Op}
 use Rattle.rep_ops.specs.Spelling.{max_octets}
-use Rattle.rep_digest.specs.declared.entry.ClientEntry.{ClientEntry}
 use Rattle.rep_answer.specs.Answers.{IsAnswer}
-use Rattle.rep_digest.specs.Digests.{digest}
+use Rattle.rep_digest.specs.Digests.{Digested, digest}
 use Rattle.rep_digest.specs.Spelling.{spelling, IsWithinLimit as IsDigestWithinLimit}
 use Rattle.sn_local.specs.declared.config.Config.{Config}
 use Rattle.jr_disk.specs.declared.disk.Disk.{Ghosts}
+use Rattle.rep_model.specs.Topics.{all_retained}
 use Rattle.gw_answer.specs.declared.out.Out.{Out}
 use Rattle.gw_answer.specs.declared.refusal.Refusal.{Refusal}
 use Rattle.gw_answer.specs.declared.refusal.Refusal.TheVariants as refusals
@@ -70,7 +70,7 @@ abbrev pub IsStood : {D : Type 0} {G : Ghosts D} → State G → Type 0
 IsStood state = (gateway : Gateway) × IsShown gateway state
 
 -- what a peer answers to a digest, by what it keeps
-abbrev pub IsAnswered : List ClientEntry → List Op → Result Out Refusal → Type 0
+abbrev pub IsAnswered : Digested → List Op → Result Out Refusal → Type 0
 IsAnswered asked kept (Ok out) =
     IsAnswer asked kept out.answer × (out ≡ record (only_sends []) { answer = out.answer })
 IsAnswered asked kept (Err refusal) = ⊥
@@ -139,7 +139,7 @@ abbrev pub OwnAnswered : {D : Type 0} {G : Ghosts D} → List (State G) → List
     → List (State G) → List (List Op) → Answer → Type 0
 OwnAnswered olds deltas i step news next (Node answer) =
     StepsAt olds i step (said answer) news × Join deltas (made_of (said answer)) next
-OwnAnswered olds deltas i step news next (Views views) = ⊥
+OwnAnswered olds deltas i step news next (Views views topics) = ⊥
 OwnAnswered olds deltas i step news next (Records count) = ⊥
 OwnAnswered olds deltas i step news next Nothing = ⊥
 
@@ -147,7 +147,7 @@ OwnAnswered olds deltas i step news next Nothing = ⊥
 abbrev pub StepAnswered : {D : Type 0} {G : Ghosts D} → List (State G) → ℕ → Step → List (State G)
     → Answer → Type 0
 StepAnswered olds i step news (Node answer) = StepsAt olds i step (said answer) news
-StepAnswered olds i step news (Views views) = ⊥
+StepAnswered olds i step news (Views views topics) = ⊥
 StepAnswered olds i step news (Records count) = ⊥
 StepAnswered olds i step news Nothing = ⊥
 
@@ -157,7 +157,7 @@ abbrev pub RestartAnswered : {D : Type 0} {G : Ghosts D} → List (State G) → 
 RestartAnswered olds i kept news (Records count) =
     Moves olds i (λ old new. StartsAgain old kept count new) news
 RestartAnswered olds i kept news (Node answer) = ⊥
-RestartAnswered olds i kept news (Views views) = ⊥
+RestartAnswered olds i kept news (Views views topics) = ⊥
 RestartAnswered olds i kept news Nothing = ⊥
 
 -- the answer if a failure is arranged
@@ -166,7 +166,7 @@ abbrev pub FailAnswered : {D : Type 0} {G : Ghosts D} → List (State G) → ℕ
 FailAnswered olds i bytes sync news Nothing =
     Moves olds i (λ old new. FailsNext old bytes sync new) news
 FailAnswered olds i bytes sync news (Node answer) = ⊥
-FailAnswered olds i bytes sync news (Views views) = ⊥
+FailAnswered olds i bytes sync news (Views views topics) = ⊥
 FailAnswered olds i bytes sync news (Records count) = ⊥
 
 -- the answer of a peer in its place to the digest of the i-th node, and the list of deltas after it
@@ -174,7 +174,7 @@ abbrev pub AskAnswered : {D : Type 0} {G : Ghosts D} → List (State G) → List
     → List (List Op) → Answer → Type 0
 AskAnswered olds deltas i j next (Node answer) =
     AskAt olds i j (said answer) × Join deltas (answered_of (said answer)) next
-AskAnswered olds deltas i j next (Views views) = ⊥
+AskAnswered olds deltas i j next (Views views topics) = ⊥
 AskAnswered olds deltas i j next (Records count) = ⊥
 AskAnswered olds deltas i j next Nothing = ⊥
 
@@ -190,8 +190,9 @@ abbrev pub ShowAnswered : {D : Type 0} {G : Ghosts D} → List (State G) → ℕ
 ShowAnswered olds i (Node answer) = ⊥
 ShowAnswered olds i (Records count) = ⊥
 ShowAnswered olds i Nothing = ⊥
-ShowAnswered {G = G} olds i (Views views) = (state : State G) × (slice_get olds i ≡ Some state)
-    × (views ≡ shown state.kept)
+ShowAnswered {G = G} olds i (Views views topics) =
+    (state : State G) × (slice_get olds i ≡ Some state)
+    × (views ≡ shown state.kept) × (topics ≡ all_retained state.kept)
 
 -- the delta of this number; the first has number 1
 abbrev pub IsListed : List (List Op) → ℕ → List Op → Type 0

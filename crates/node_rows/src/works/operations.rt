@@ -102,6 +102,8 @@ fn put(alloc: Global, client: u8, seq: u64, numbers: &mut Numbers) -> Result<Op,
         seq,
         topic,
         qos: level(client),
+        retain: false,
+        expires: 0,
         body: body(alloc, numbers)?,
     };
     Ok(Op::Put {

@@ -112,6 +112,8 @@ fn put(alloc: Global, client: u16, message: u16) -> Result<Op, OpsFault> {
         seq: 1 + u64::from(message / ORIGINS),
         topic: TopicName::new(alloc, b"field/soil")?,
         qos: QosLevel::one(),
+        retain: false,
+        expires: 0,
         body: body(alloc, client.wrapping_add(message))?,
     };
     Ok(Op::Put {

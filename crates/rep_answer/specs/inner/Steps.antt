@@ -1,12 +1,15 @@
 -- What a digest leaves of an operation.
 use Rattle.std.specs.Prelude.{ℕ, ◌+◌, ◌-◌, Bool, false, ◌&&◌, ◌||◌, if◌then◌else◌, nat_le, nat_lt, List, [], ◌∷◌, ◌++◌, map, Option, Some, None}
 use Rattle.rep_op.specs.declared.op.Op.{Op}
-use Rattle.rep_op.specs.declared.op.Op.TheVariants.{Session as OfSession, Put as OfPut, Ack}
-use Rattle.rep_op.specs.Orders.{client_of}
+use Rattle.rep_op.specs.declared.op.Op.TheVariants.{Session as OfSession, Put as OfPut, Ack, Retain as OfRetain}
+use Rattle.rep_op.specs.declared.op.Retained.{Retained}
+use Rattle.rep_op.specs.Orders.{clock_of}
 use Rattle.rep_digest.specs.declared.entry.ClientEntry.{ClientEntry}
+use Rattle.rep_digest.specs.declared.entry.RetainedEntry.{RetainedEntry}
+use Rattle.rep_digest.specs.Digests.{Digested}
 use Rattle.rep_model.specs.Keep.{keep}
 use Rattle.rep_model.specs.Ranges.{in_ranges}
-use Rattle.rep_answer.specs.Answers.{entry_of, acknowledged_in, waiting_in, sees, IsRest}
+use Rattle.rep_answer.specs.Answers.{entry_of, topic_entry_of, acknowledged_in, waiting_in, sees, is_as_late, IsRest}
 
 -- ranges from the first that does not end before the number
 abbrev pub ending_from : ℕ → List (ℕ × ℕ) → List (ℕ × ℕ)
@@ -49,7 +52,7 @@ outside r ranges = outside_from (Some r) ranges
 abbrev pub ack_of : List ℕ → ℕ → ℕ × ℕ → Op
 ack_of c origin r = Ack c origin r.0 r.1
 
--- what an entry leaves of an operation
+-- what the entry of a client leaves of an operation; all of one of a topic
 abbrev pub left_of : Option ClientEntry → Op → List Op
 left_of entry (OfSession c stamp counter change) =
     if sees entry (stamp, counter) then [] else OfSession c stamp counter change ∷ []
@@ -58,11 +61,21 @@ left_of entry (OfPut c put) =
     || in_ranges put.seq (acknowledged_in put.origin entry) then [] else OfPut c put ∷ []
 left_of entry (Ack c origin first last) =
     map (ack_of c origin) (outside (first, last) (acknowledged_in origin entry))
+left_of entry (OfRetain t kept) = OfRetain t kept ∷ []
+
+-- what the entry of a topic leaves of what was retained of it
+abbrev pub left_retained : Option RetainedEntry → List ℕ → Retained → List Op
+left_retained entry t kept = if is_as_late entry (clock_of kept) then [] else OfRetain t kept ∷ []
 
 -- what a digest leaves of an operation
-abbrev pub left_by : List ClientEntry → Op → List Op
-left_by digest op = left_of (entry_of (client_of op) digest) op
+abbrev pub left_by : Digested → Op → List Op
+left_by digest (OfSession c stamp counter change) =
+    left_of (entry_of c digest.clients) (OfSession c stamp counter change)
+left_by digest (OfPut c put) = left_of (entry_of c digest.clients) (OfPut c put)
+left_by digest (Ack c origin first last) =
+    left_of (entry_of c digest.clients) (Ack c origin first last)
+left_by digest (OfRetain t kept) = left_retained (topic_entry_of t digest.topics) t kept
 
 -- the operations are what a digest leaves of what must be kept
-abbrev pub IsLeft : List ClientEntry → List Op → List Op → Type 0
+abbrev pub IsLeft : Digested → List Op → List Op → Type 0
 IsLeft digest K X = IsRest digest (keep K) X

@@ -3,13 +3,16 @@ use Rattle.std.specs.Prelude.{◌≡◌, ℕ, ◌+◌, ◌==◌, if◌then◌els
 use Rattle.std.specs.List.{filter_map}
 use Rattle.rep_op.specs.declared.op.Put.{Put}
 use Rattle.rep_op.specs.declared.op.Op.{Op}
-use Rattle.rep_op.specs.declared.op.Op.TheVariants.{Session as OfSession, Put as OfPut, Ack}
+use Rattle.rep_op.specs.declared.op.Op.TheVariants.{Session as OfSession, Put as OfPut, Ack, Retain as OfRetain}
 use Rattle.rep_op.specs.Sets.{same_client}
 use Rattle.rep_digest.specs.declared.groups.Acknowledged.{Acknowledged}
 use Rattle.rep_model.specs.declared.view.ClientView.{ClientView}
 use Rattle.rep_digest.specs.declared.entry.OriginEntry.{OriginEntry}
 use Rattle.rep_digest.specs.declared.entry.ClientEntry.{ClientEntry}
-use Rattle.rep_digest.specs.Digests.{has_ranges, numbers_from}
+use Rattle.rep_op.specs.declared.op.Retained.{Retained}
+use Rattle.rep_op.specs.Orders.{clock_of}
+use Rattle.rep_digest.specs.declared.entry.RetainedEntry.{RetainedEntry}
+use Rattle.rep_digest.specs.Digests.{has_ranges, numbers_from, entry_of_topic}
 
 -- ---- the acknowledgements of each client
 
@@ -19,6 +22,7 @@ acknowledged_by c (OfSession d stamp counter change) = None
 acknowledged_by c (OfPut d put) = None
 acknowledged_by c (Ack d origin first last) =
     if same_client c d then Some (record { origin = origin; first = first; last = last }) else None
+acknowledged_by c (OfRetain topic kept) = None
 
 -- the client's acknowledgements in these operations
 abbrev pub group : List Op → List ℕ → List Acknowledged
@@ -73,3 +77,9 @@ drafted_entry c view acks = record {
   prefix = view.prefix;
   origins = drafted_origins acks view.pending;
 }
+
+-- ---- the entry of a topic
+
+-- the entry of a topic with what is retained of it
+abbrev pub entry_for : List ℕ × Retained → RetainedEntry
+entry_for e = entry_of_topic e.0 (clock_of e.1)

@@ -1,7 +1,7 @@
 //! An entry.
 
 ghost use Rattle.std.specs.Prelude.{◌≡◌, []};
-ghost use Rattle.rep_octets.specs.Reading.{Gives, many_at};
+ghost use Rattle.rep_read.specs.Reading.{Gives, many_at};
 ghost use Rattle.rep_digest.specs.Reading.{origin_at, origins_at, entry_at};
 ghost use Rattle.rep_digest.specs.Reading as spec;
 

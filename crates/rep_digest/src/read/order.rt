@@ -5,7 +5,8 @@ ghost use Rattle.std.specs.List.{list_all};
 ghost use Rattle.rep_digest.specs.Reading.{ranges_apart};
 ghost use Rattle.rep_digest.specs.Reading as spec;
 
-use crate::entry::{ClientEntry, OriginEntry};
+use crate::entry::{ClientEntry, OriginEntry, RetainedEntry};
+use rep_op::topic_order;
 use std::cmp::Ordering;
 
 /// Whether each range leaves out a number after the one before it.
@@ -81,4 +82,21 @@ fn is_next(entry: &ClientEntry, next: &ClientEntry) -> bool
     ensures { result ≡ spec.is_next entry.now next.now }
 {
     entry.client < next.client
+}
+
+/// Whether the entry of a topic may stand after these.
+pub fn topic_may_follow(entries: &[RetainedEntry], entry: &RetainedEntry) -> bool
+    ensures { result ≡ spec.topic_may_follow entries.now entry.now }
+{
+    match entries.last() {
+        None => true,
+        Some(last) => is_next_topic(last, entry),
+    }
+}
+
+/// Whether the topic of the second comes after that of the first.
+fn is_next_topic(entry: &RetainedEntry, next: &RetainedEntry) -> bool
+    ensures { result ≡ spec.is_next_topic entry.now next.now }
+{
+    topic_order(&entry.topic, &next.topic).is_lt()
 }

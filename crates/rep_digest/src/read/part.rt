@@ -1,7 +1,7 @@
 //! The parts of an entry.
 
 ghost use Rattle.std.specs.Prelude.{◌≡◌, []};
-ghost use Rattle.rep_octets.specs.Reading.{Gives, range_at, many_at};
+ghost use Rattle.rep_read.specs.Reading.{Gives, range_at, many_at};
 ghost use Rattle.rep_digest.specs.Reading.{ranges_at, origin_at, seen_at};
 
 use crate::entry::OriginEntry;
@@ -13,7 +13,7 @@ use rep_ops::{
 use std::alloc::Global;
 
 /// A range.
-#[tactic(auto, unfolding(rep_octets::specs::Reading::range_at))]
+#[tactic(auto, unfolding(rep_read::specs::Reading::range_at))]
 fn read_range(bytes: &[u8]) -> Result<((u64, u64), &[u8]), OpsFault>
     ensures { Gives (λ x. (x.0, x.1.now)) result (range_at bytes.now) }
 {

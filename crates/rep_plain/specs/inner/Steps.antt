@@ -4,7 +4,7 @@ use Rattle.std.specs.List.{filter_map, list_any}
 use Rattle.rep_op.specs.declared.op.Stamp.{Stamp}
 use Rattle.rep_op.specs.declared.op.Put.{Put}
 use Rattle.rep_op.specs.declared.op.Op.{Op}
-use Rattle.rep_op.specs.declared.op.Op.TheVariants.{Session as OfSession, Put as OfPut, Ack}
+use Rattle.rep_op.specs.declared.op.Op.TheVariants.{Session as OfSession, Put as OfPut, Ack, Retain as OfRetain}
 use Rattle.rep_op.specs.Sets.{same_client, puts}
 use Rattle.rep_model.specs.Keep.{is_below}
 use Rattle.rep_model.specs.Limits.{joined, above_a_gap, sum_to}
@@ -21,6 +21,7 @@ range_in c (OfSession d stamp counter change) = None
 range_in c (OfPut d put) = None
 range_in c (Ack d origin first last) =
     if same_client c d then Some (record { origin = origin; first = first; last = last }) else None
+range_in c (OfRetain topic kept) = None
 
 -- whether the range has the name of the put
 abbrev pub covers : ℕ × ℕ → Range → Bool
@@ -46,3 +47,4 @@ abbrev pub must_stay : Option Stamp → List Range → Op → Bool
 must_stay seen ranges (OfSession c stamp counter change) = not (is_below stamp seen)
 must_stay seen ranges (OfPut c put) = not (list_any (covers (put.seq, put.origin)) ranges)
 must_stay seen ranges (Ack c origin first last) = true
+must_stay seen ranges (OfRetain topic kept) = true

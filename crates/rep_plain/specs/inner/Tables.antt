@@ -4,7 +4,7 @@ use Rattle.std.specs.Global.{Global}
 use Rattle.std.specs.List.{list_any}
 use Rattle.std.specs.FinMap.{find, is_sorted}
 use Rattle.rep_op.specs.declared.op.Op.{Op}
-use Rattle.rep_op.specs.declared.op.Op.TheVariants.{Session as OfSession, Put as OfPut, Ack}
+use Rattle.rep_op.specs.declared.op.Op.TheVariants.{Session as OfSession, Put as OfPut, Ack, Retain as OfRetain}
 use Rattle.rep_op.specs.Orders.{client_cmp}
 use Rattle.rep_op.specs.Sets.{same_client, operation_at, put_at}
 use Rattle.rep_model.specs.declared.fault.TheConstants.{MOST_PENDING, MOST_PARKED, MOST_EXCEPTIONS}
@@ -35,14 +35,16 @@ pub record AreMovable (entries fresh : List (List ℕ × Entry)) : Type 0 where
 abbrev pub has_range : List ℕ → ℕ → ℕ → ℕ → Op → Bool
 has_range c origin first last (OfSession d stamp counter change) = false
 has_range c origin first last (OfPut d put) = false
+has_range c origin first last (OfRetain topic kept) = false
 has_range c origin first last (Ack d o start end) =
     same_client c d && (origin == o) && nat_le start first && nat_le last end
 
--- whether the list has the operation's name
+-- whether the list has the operation's name; it has none of a topic
 abbrev pub is_known : List Op → Op → Bool
 is_known S (OfSession c stamp counter change) = is_some (operation_at c S (stamp, counter))
 is_known S (OfPut c put) = is_some (put_at c S (put.seq, put.origin))
 is_known S (Ack c origin first last) = list_any (has_range c origin first last) S
+is_known S (OfRetain topic kept) = false
 
 -- whether more than 16,384 messages wait for the client
 abbrev pub too_many_pending : List ℕ × Entry → Bool

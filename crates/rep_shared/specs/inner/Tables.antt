@@ -1,7 +1,7 @@
 -- Which limit is passed, and why an operation is refused.
 use Rattle.std.specs.Prelude.{◌≡◌, ℕ, Bool, List, Option, Some, None, nat_lt, if◌then◌else◌}
 use Rattle.rep_op.specs.declared.op.Op.{Op}
-use Rattle.rep_op.specs.Orders.{client_of}
+use Rattle.rep_op.specs.Orders.{subject_of}
 use Rattle.rep_op.specs.Sets.{Agrees}
 use Rattle.rep_model.specs.declared.fault.TheConstants.{MOST_CLIENTS}
 use Rattle.rep_model.specs.declared.fault.Limit.{Limit}
@@ -18,9 +18,9 @@ passed_of count pending parked exceptions =
     else (if parked then Some Parked
     else (if exceptions then Some Exceptions else None)))
 
--- why the operation is refused: it contradicts one that is there, and its client is named; or
+-- why the operation is refused: it contradicts one that is there, and what it is about is named; or
 -- memory ran out
 abbrev pub IsRefusalOf : List Op → Op → TakeFault → Type 0
-IsRefusalOf S op (Conflict c) = (client_of op ≡ c) × (¬ (Agrees S op))
+IsRefusalOf S op (Conflict about) = (subject_of op ≡ about) × (¬ (Agrees S op))
 IsRefusalOf S op (Full limit) = ⊥
 IsRefusalOf S op Memory = Unit {0}

@@ -4,4 +4,4 @@ use Rattle.rep_answer.specs.inner.Steps.{left_by}
 use Rattle.rep_answer.proofs.answering.add_left.Given as goal
 
 abbrev pub invariant-loop-op : goal.invariant-loop-op
-invariant-loop-op l = l.left.items ≡ l.fn.left.items ++ flat_map (left_by l.entries) (take l.op-index l.ops)
+invariant-loop-op l = l.left.items ≡ l.fn.left.items ++ flat_map (left_by l.digest) (take l.op-index l.ops)

@@ -5,4 +5,4 @@ use Rattle.rep_answer.specs.inner.Steps.{left_by}
 use Rattle.rep_answer.proofs.answering.left_of_deltas.Given as goal
 
 abbrev pub invariant-loop-delta : goal.invariant-loop-delta
-invariant-loop-delta l = l.left.items ≡ flat_map (left_by l.entries) (all_of (take l.delta-index l.deltas))
+invariant-loop-delta l = l.left.items ≡ flat_map (left_by l.digest) (all_of (take l.delta-index l.deltas))

@@ -8,7 +8,7 @@ use Rattle.rep_answer.proofs.answering.left_of_replica.Goals as goal
 
 pub returns : goal.returns
 returns g c =
-    let d = c.args.entries.now in
+    let d = c.args.digest.now in
     IfOk-weaker c.left_of_deltas.result _ _
-    (λ ops e. left_held d c.requires (g.R.Replica.kept c.args.replica.now) c.in-Ok.held.items ops.items c.in-Ok.ensures.ok (e ∙ ap (λ ds. flat_map (left_by d) (all_of ds)) c.as_slice.ensures.value))
+    (λ ops e. left_held d c.clients-clients.ensures.digest (g.R.Replica.kept c.args.replica.now) c.in-Ok.held.items ops.items c.in-Ok.ensures.ok (e ∙ ap (λ ds. flat_map (left_by d) (all_of ds)) c.as_slice.ensures.value))
     c.left_of_deltas.ensures

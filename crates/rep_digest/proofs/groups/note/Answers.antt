@@ -7,3 +7,6 @@ returns-in-Session c = λ W h. h ∙ sym (unchanged W c.args.op.now c.args.clien
 
 pub returns-in-Put : goal.returns-in-Put
 returns-in-Put c = λ W h. h ∙ sym (unchanged W c.args.op.now c.args.clients.now (λ d. rw c.in-Put.is refl))
+
+pub returns-in-Retain : goal.returns-in-Retain
+returns-in-Retain c = λ W h. h ∙ sym (unchanged W c.args.op.now c.args.clients.now (λ d. rw c.in-Retain.is refl))

@@ -1,9 +1,8 @@
 use Rattle.std.proofs.Common.{arith}
-use Rattle.rep_digest.proofs.Format.{length_entries, writable}
+use Rattle.rep_digest.proofs.Format.{topics_within, fits_topics}
 use Rattle.rep_digest.proofs.write.write_digest.Goals as goal
 
-pub overflow_cast-entries : goal.overflow_cast-entries
-overflow_cast-entries c = let few = length_entries c.args.entries.now in let size = c.requires.size in omega arith
-
-pub write_entries-requires : goal.write_entries-requires
-write_entries-requires c = writable c.args.entries.now c.requires.digest c.requires.size
+pub write_both-requires-clause-few : goal.write_both-requires-clause-few
+write_both-requires-clause-few c =
+    let back = topics_within c.args.clients.now c.args.topics.now in
+    (fits_topics c.args.topics.now c.requires.topics (omega (arith, back, c.requires.size))).few

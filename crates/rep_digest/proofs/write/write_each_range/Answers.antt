@@ -1,7 +1,7 @@
 use Rattle.std.proofs.Common.{take}
 use Rattle.std.specs.List.{flat_map}
 use Rattle.std.proofs.lemmas.Result.{err_from_is_err_and}
-use Rattle.rep_octets.proofs.Writing.{keeps_through}
+use Rattle.rep_write.proofs.Writing.{keeps_through}
 use Rattle.rep_digest.specs.Spelling.{range_octets}
 use Rattle.rep_digest.proofs.write.write_each_range.Goals as goal
 

@@ -1,6 +1,6 @@
 use Rattle.std.proofs.Common.{◌≡◌, ◌≤◌, ◌+◌, ◌*◌, length, take}
 use Rattle.std.specs.List.{flat_map}
-use Rattle.rep_octets.specs.Sessions.{subscription_octets}
+use Rattle.rep_op.specs.Sessions.{subscription_octets}
 use Rattle.rep_ops.proofs.session_size.subscriptions_size.Given as goal
 
 abbrev pub invariant-loop-entry : goal.invariant-loop-entry

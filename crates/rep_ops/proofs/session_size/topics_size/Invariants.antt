@@ -1,6 +1,6 @@
 use Rattle.std.proofs.Common.{◌≡◌, ◌≤◌, ◌+◌, ◌*◌, length, take}
 use Rattle.std.specs.List.{flat_map}
-use Rattle.rep_octets.specs.Sessions.{topic_octets}
+use Rattle.rep_op.specs.Sessions.{topic_octets}
 use Rattle.rep_ops.proofs.session_size.topics_size.Given as goal
 
 abbrev pub invariant-loop-entry : goal.invariant-loop-entry

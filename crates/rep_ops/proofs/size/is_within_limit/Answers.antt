@@ -1,7 +1,7 @@
-use Rattle.std.proofs.Common.{arith}
-use Rattle.rep_ops.proofs.Sizes.{length_more}
+use Rattle.std.proofs.Common.{◌≤◌, length, subst}
+use Rattle.std.specs.Prelude.{IsTrue, ◌↔◌}
+use Rattle.rep_ops.specs.Spelling.{spelled_in, max_octets}
 use Rattle.rep_ops.proofs.size.is_within_limit.Goals as goal
 
-pub returns-then-size-gt-MAX_OCTETS : goal.returns-then-size-gt-MAX_OCTETS
-returns-then-size-gt-MAX_OCTETS c =
-    (λ t. absurd cc, λ within. absurd (let more = length_more c.args.ops.now c.loop-op.op-index c.op-item.result c.loop-op-test.true c.op-item.is in omega arith))
+pub returns : goal.returns
+returns c = subst (λ v. IsTrue c.is_within.result ↔ (length (spelled_in v c.args.ops.now) ≤ max_octets)) c.version_of.ensures c.is_within.ensures

@@ -1,4 +1,4 @@
-use Rattle.std.proofs.Common.{◌++◌, ◌∷◌, [], not, if◌then◌else◌, sym, ap, subst, ◌∙◌, append-nil, true≢false, ⊎_elim}
+use Rattle.std.proofs.Common.{◌++◌, ◌∷◌, [], not, if◌then◌else◌, refl, sym, ap, subst, ◌∙◌, append-nil, true≢false, ⊎_elim}
 use Rattle.rep_op.specs.Sets.{Agrees}
 use Rattle.rep_shared.specs.Rows.{flat, own}
 use Rattle.rep_plain.specs.Tables.{rows_of}
@@ -15,7 +15,7 @@ returns-then-not-agrees-clause-fault c =
     let op = c.args.op.now in
     let same = c.own_ops-kept.ensures ∙ ap (λ x. own x rows) c.client.ensures in
     ⊎_elim
-    (λ is. subst (IsRefusalOf (flat rows) op) (sym is) (sym c.client-then-not-agrees.ensures, λ h. true≢false (sym (c.agrees.ensures.1 (subst (λ S. Agrees S op) (sym same) (agrees_own rows c.requires op h))) ∙ c.if-not-agrees.true)))
+    (λ is. subst (IsRefusalOf (flat rows) op) (sym is) (refl, λ h. true≢false (sym (c.agrees.ensures.1 (subst (λ S. Agrees S op) (sym same) (agrees_own rows c.requires.rows op h))) ∙ c.if-not-agrees.true)))
     (λ is. subst (IsRefusalOf (flat rows) op) (sym is) tt)
     c.conflict.ensures
 
@@ -23,14 +23,14 @@ pub returns-clause-agrees : goal.returns-clause-agrees
 returns-clause-agrees c =
     let rows = rows_of c.args.table.now.entries in
     let same = c.own_ops-kept.ensures ∙ ap (λ x. own x rows) c.client.ensures in
-    agrees_flat rows c.requires c.args.op.now (subst (λ S. Agrees S c.args.op.now) same (c.agrees.ensures.0 c.if-not-agrees.false))
+    agrees_flat rows c.requires.rows c.args.op.now (subst (λ S. Agrees S c.args.op.now) same (c.agrees.ensures.0 c.if-not-agrees.false))
 
 pub returns-clause-added : goal.returns-clause-added
 returns-clause-added c =
     let rows = rows_of c.args.table.now.entries in
     let op = c.args.op.now in
     let same = c.own_ops-kept.ensures ∙ ap (λ x. own x rows) c.client.ensures in
-    let known = c.is_known.ensures ∙ ap (λ S. is_known S op) same ∙ known_row rows c.requires op in
+    let known = c.is_known.ensures ∙ ap (λ S. is_known S op) same ∙ known_row rows c.requires.rows op in
     elim c.if-not-is_known.branch [
       | then-not-is_known+in_ok-push_copy w ↦ ap (λ news. news.items) w.news-is ∙ w.in_ok-push_copy.ensures ∙ ap (λ b. c.args.news.now.items ++ (if not b then op ∷ [] else [])) (sym w.if-not-is_known.true ∙ known)
       | else-not-is_known w ↦ ap (λ news. news.items) w.news-is ∙ sym (append-nil c.args.news.now.items) ∙ ap (λ b. c.args.news.now.items ++ (if not b then op ∷ [] else [])) (sym w.if-not-is_known.false ∙ known)

@@ -9,12 +9,12 @@ use Rattle.rep_state.proofs.Reading.{own_found}
 use Rattle.rep_state.proofs.Contradicting.{agrees_nothing}
 use Rattle.rep_state.proofs.agreeing.agrees.Goals as goal
 
-pub agrees_with-requires : goal.agrees_with-requires
-agrees_with-requires c =
+pub agrees_with-requires-clause-rising : goal.agrees_with-requires-clause-rising
+agrees_with-requires-clause-rising c =
     let op = c.args.op.now in
     let es = by_client c.args.table.now.entries in
     let found = c.in-Some.ensures ∙ ap (λ k. find client_cmp k es) (c.bytes.ensures.octets ∙ c.client.ensures) in
-    (found_holds client_cmp client_exact IsKept (client_of op) c.in-Some.entry.now es c.requires (sym found)).entry_is.rising
+    (found_holds client_cmp client_exact IsKept (client_of op) c.in-Some.entry.now es c.requires.kept (sym found)).entry_is.rising
 
 pub returns-in-Some : goal.returns-in-Some
 returns-in-Some c =

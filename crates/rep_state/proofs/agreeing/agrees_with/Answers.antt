@@ -12,11 +12,11 @@ returns-in-None c = agrees_session c.args.entry.now c.in-Session.client c.in-Ses
 pub returns-in-Some-find_put : goal.returns-in-Some-find_put
 returns-in-Some-find_put c =
     let p = c.in-Put.put in
-    let found = c.in-Some-find_put.ensures (subst Rising (sym c.as_slice.ensures) c.requires) ∙ ap (put_named (p.seq, p.origin)) c.as_slice.ensures in
+    let found = c.in-Some-find_put.ensures (subst Rising (sym c.as_slice.ensures) c.requires.rising) ∙ ap (put_named (p.seq, p.origin)) c.as_slice.ensures in
     agrees_put c.args.entry.now c.in-Put.client p c.args.op.now (Some c.in-Some-find_put.kept.now) (IsTrue c.same_put.result) c.in-Put.is found c.same_put.ensures
 
 pub returns-in-None-find_put : goal.returns-in-None-find_put
 returns-in-None-find_put c =
     let p = c.in-Put.put in
-    let found = c.in-None-find_put.ensures (subst Rising (sym c.as_slice.ensures) c.requires) ∙ ap (put_named (p.seq, p.origin)) c.as_slice.ensures in
+    let found = c.in-None-find_put.ensures (subst Rising (sym c.as_slice.ensures) c.requires.rising) ∙ ap (put_named (p.seq, p.origin)) c.as_slice.ensures in
     agrees_put c.args.entry.now c.in-Put.client p c.args.op.now None (IsTrue true) c.in-Put.is found (λ _. tt, λ _. refl)

@@ -1,4 +1,4 @@
-use Rattle.std.proofs.Common.{sym, subst, ◌∙◌, true≢false, ⊎_elim}
+use Rattle.std.proofs.Common.{refl, sym, subst, ◌∙◌, true≢false, ⊎_elim}
 use Rattle.rep_shared.specs.Rows.{flat}
 use Rattle.rep_shared.specs.inner.Tables.{IsRefusalOf}
 use Rattle.rep_shared.proofs.Found.{agrees_flat, agrees_own}
@@ -10,7 +10,7 @@ returns-then-not-agrees-clause-fault c =
     let rows = rows_of (by_client c.args.table.now.entries) in
     let op = c.args.op.now in
     ⊎_elim
-    (λ is. subst (IsRefusalOf (flat rows) op) (sym is) (sym c.client.ensures, λ h. true≢false (sym (c.agrees.ensures.1 (agrees_own rows c.requires.rows op h)) ∙ c.if-not-agrees.true)))
+    (λ is. subst (IsRefusalOf (flat rows) op) (sym is) (refl, λ h. true≢false (sym (c.agrees.ensures.1 (agrees_own rows c.requires.rows op h)) ∙ c.if-not-agrees.true)))
     (λ is. subst (IsRefusalOf (flat rows) op) (sym is) tt)
     c.conflict.ensures
 

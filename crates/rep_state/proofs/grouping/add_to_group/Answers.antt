@@ -51,7 +51,7 @@ returns-in_ok-note-in-Ok-clause-groups c =
     let found = found_at client_cmp client_total client groups c.in-Ok.at q here ∙ ap (λ (g : List ℕ × Fresh). Some g.1) (sym c.index_mut.ensures.value) in
     let group = subst (IsGroupOf client es D) found (h client) in
     let held = c.held-entry.ensures ∙ ap (λ k. held_of k es) c.client-client.ensures in
-    let step = subst (λ (e : Entry). IsStep client e q.1 new op) held (c.in_ok-note-in-Ok.ensures client (subst (λ (e : Entry). IsFresh client e q.1) (sym held) group.fresh_is) (names_client op c.requires.made)) in
+    let step = subst (λ (e : Entry). IsStep client e q.1 new op) held (c.in_ok-note-in-Ok.ensures client (subst (λ (e : Entry). IsFresh client e q.1) (sym held) group.fresh_is) (names_client op c.requires.client c.requires.made)) in
     group_added es D op groups _ client (fresh_row client (held_of client es) q.1) new refl h group.taken step (put_at client_cmp client_total client new groups c.in-Ok.at q c.index_mut.ensures.value here)
 
 pub returns-in_ok-note-in-Ok-clause-sorted : goal.returns-in_ok-note-in-Ok-clause-sorted

@@ -15,5 +15,5 @@ returns-in-Ok-clause-fresh c =
     let op = c.args.op.now in
     let entry = c.args.entry.now in
     let client = client_of op in
-    let step = c.in-Ok.ensures client (c.new-fresh.ensures.fresh client entry c.requires.entry) (names_client op c.requires.made) in
+    let step = c.in-Ok.ensures client (c.new-fresh.ensures.fresh client entry c.requires.entry) (names_client op c.requires.client c.requires.made) in
     (step.0, subst (λ (ops : List Op). Same (fresh_row client entry c.note.new.self) (keep (ops ++ op ∷ []))) (c.new-fresh.ensures.row client entry c.requires.entry) step.1)

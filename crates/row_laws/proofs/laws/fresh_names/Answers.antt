@@ -4,7 +4,7 @@ use Rattle.sn_plan.proofs.Standing.{plan-fits, plan-consistent}
 
 pub returns : goal.returns
 returns c = record {
-  fresh = λ g c S d plan flush one planned. plan-fresh g c S d plan planned flush one;
-  fits = λ g c S d plan flush one planned delta same. plan-fits S plan.ops (plan-fresh g c S d plan planned flush one) delta same;
-  consistent = λ g c S d plan flush one planned. plan-consistent S plan.ops (plan-fresh g c S d plan planned flush one);
+  fresh = λ g c S d plan flush apart planned. plan-fresh g c S d plan planned flush apart;
+  fits = λ g c S d plan flush apart planned delta same. plan-fits S plan.ops (plan-fresh g c S d plan planned flush apart) delta same;
+  consistent = λ g c S d plan flush apart planned. plan-consistent S plan.ops (plan-fresh g c S d plan planned flush apart);
 }

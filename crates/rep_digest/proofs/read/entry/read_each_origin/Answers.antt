@@ -1,8 +1,8 @@
 use Rattle.std.proofs.Common.{[]}
 use Rattle.std.proofs.lemmas.Result.{err_from_is_err_and}
-use Rattle.rep_octets.specs.Reading.{many_at}
+use Rattle.rep_read.specs.Reading.{many_at}
 use Rattle.rep_digest.specs.Reading.{origin_at}
-use Rattle.rep_octets.proofs.Many.{many_goes_on, many_ends, many_done}
+use Rattle.rep_read.proofs.Many.{many_goes_on, many_ends, many_done}
 use Rattle.rep_digest.proofs.read.entry.read_each_origin.Goals as goal
 
 pub returns-in_err-origin : goal.returns-in_err-origin

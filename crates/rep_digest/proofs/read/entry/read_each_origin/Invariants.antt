@@ -1,5 +1,5 @@
 use Rattle.std.proofs.Common.{◌≡◌, ◌-◌, []}
-use Rattle.rep_octets.specs.Reading.{many_at}
+use Rattle.rep_read.specs.Reading.{many_at}
 use Rattle.rep_digest.specs.Reading.{origin_at}
 use Rattle.rep_digest.proofs.read.entry.read_each_origin.Given as goal
 

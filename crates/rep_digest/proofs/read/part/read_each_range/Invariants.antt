@@ -1,5 +1,5 @@
 use Rattle.std.proofs.Common.{◌≡◌, ◌-◌, []}
-use Rattle.rep_octets.specs.Reading.{many_at, range_at}
+use Rattle.rep_read.specs.Reading.{many_at, range_at}
 use Rattle.rep_digest.proofs.read.part.read_each_range.Given as goal
 
 abbrev pub invariant-loop : goal.invariant-loop

@@ -2,7 +2,7 @@ use Rattle.std.proofs.Common.{IsTrue, OnOk, sym, subst}
 use Rattle.rep_op.specs.declared.op.Op.{Op}
 use Rattle.rep_op.specs.WellMade.{is_well_made}
 use Rattle.rep_entry.specs.Entries.{IsStep}
-use Rattle.rep_entry.proofs.Owning.{session_op, put_op, ack_op, ack_made}
+use Rattle.rep_entry.proofs.Owning.{session_op, put_op, ack_op, ack_made, no_own}
 use Rattle.rep_entry.proofs.fresh.Fresh.note.Goals as goal
 
 pub note_session-requires : goal.note_session-requires
@@ -40,3 +40,6 @@ returns-in-Ack c =
     let is = ack_op client _ _ _ _ c.args.op.now c.in-Ack.is own.0 in
     subst (λ (o : Op). OnOk c.note_ack.result (IsStep client entry old new o)) is
     (c.note_ack.ensures client fresh)
+
+pub returns-in-Retain : goal.returns-in-Retain
+returns-in-Retain c = λ client fresh own. no_own client c.in-Retain.topic c.in-Retain.retained c.args.op.now c.in-Retain.is own.0

@@ -3,7 +3,7 @@ use Rattle.std.proofs.lemmas.Result.{err_from_is_err_and}
 use Rattle.rep_ops.specs.Reading.{reading}
 use Rattle.rep_ops.proofs.Format.{read_spelled, spelled_again}
 use Rattle.rep_ops.proofs.Listed.{only_memory}
-use Rattle.rep_octets.proofs.Laws.{ok_is}
+use Rattle.rep_read.proofs.Laws.{ok_is}
 use Rattle.rep_ops.proofs.delta.Delta.decode.Goals as goal
 
 pub returns-in_err-read_delta-clause-only : goal.returns-in_err-read_delta-clause-only

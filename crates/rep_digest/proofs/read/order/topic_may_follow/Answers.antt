@@ -1,0 +1,7 @@
+use Rattle.std.proofs.Common.{sym, ◌∙◌}
+use Rattle.rep_ops.proofs.Loop.{follow_last}
+use Rattle.rep_digest.specs.Reading.{is_next_topic}
+use Rattle.rep_digest.proofs.read.order.topic_may_follow.Goals as goal
+
+pub returns-in-Some : goal.returns-in-Some
+returns-in-Some c = c.is_next_topic.ensures ∙ sym (follow_last is_next_topic c.args.entries.now c.in-Some.last.now c.args.entry.now c.in-Some.ensures.value)

@@ -1,0 +1,9 @@
+use Rattle.std.proofs.Common.{arith}
+use Rattle.rep_digest.specs.Spelling.{entry_octets}
+use Rattle.rep_digest.proofs.Format.{length_more}
+use Rattle.rep_digest.proofs.size.after_entries.Goals as goal
+
+pub returns-in-None : goal.returns-in-None
+returns-in-None c =
+    let more = length_more entry_octets c.args.entries.now c.loop-entry.entry-index c.entry-item.result c.loop-entry-test.true c.entry-item.is in
+    omega (arith, c.loop-entry.invariant, c.in-None.ensures, more)

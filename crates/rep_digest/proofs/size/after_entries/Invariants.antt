@@ -1,0 +1,7 @@
+use Rattle.std.proofs.Common.{◌≡◌, ◌+◌, length, take}
+use Rattle.std.specs.List.{flat_map}
+use Rattle.rep_digest.specs.Spelling.{entry_octets}
+use Rattle.rep_digest.proofs.size.after_entries.Given as goal
+
+abbrev pub invariant-loop-entry : goal.invariant-loop-entry
+invariant-loop-entry l = l.left + length (flat_map entry_octets (take l.entry-index l.entries)) ≡ l.room

@@ -1,8 +1,0 @@
-pub mod Writing
-pub mod Laws
-pub mod Many
-pub mod Tables
-pub mod Fields
-pub mod Parts
-pub mod Changes
-pub mod Operations

@@ -1,9 +1,0 @@
-use Rattle.std.proofs.Common.{◌∷◌, []}
-use Rattle.rep_octets.specs.Spelling.{client_octets, put_octets}
-use Rattle.rep_octets.proofs.Writing.{three_parts}
-use Rattle.rep_octets.proofs.write.write_op.Goals as goal
-
-pub returns-in_ok-write_put-in-Put : goal.returns-in_ok-write_put-in-Put
-returns-in_ok-write_put-in-Put c =
-    rw c.in-Put.is (three_parts c.args.out.now.items (2 ∷ []) (client_octets c.in-Put.client) (put_octets c.in-Put.put) _ _ c.write_put.new.out.items
-    c.in_ok-push-in-Put.ensures.items c.in_ok-write_client-in-Put.ensures c.in_ok-write_put-in-Put.ensures)

@@ -1,4 +1,0 @@
-pub mod Sessions
-pub mod Spelling
-pub mod Writing
-pub mod Reading

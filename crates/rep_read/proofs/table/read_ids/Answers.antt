@@ -1,0 +1,18 @@
+use Rattle.std.proofs.Common.{[]}
+use Rattle.std.proofs.lemmas.Result.{err_from_is_err_and}
+use Rattle.std.specs.Int.{w16}
+use Rattle.rep_read.specs.Reading.{many_at, number_at}
+use Rattle.rep_read.proofs.Many.{many_goes_on, many_ends, many_done}
+use Rattle.rep_read.proofs.table.read_ids.Goals as goal
+
+pub returns-in_err-entry : goal.returns-in_err-entry
+returns-in_err-entry c =
+    let p = err_from_is_err_and c.from_residual.result c.from_residual.ensures.1 in
+    rw (p.1, p.2) (many_ends (number_at w16) c.in_err-entry.field-0.0 c.loop.entries.items c.args.count c.loop.counter c.loop.rest.now (many_at (number_at w16) c.args.count [] c.args.bytes.now) c.loop-test.true c.in_err-entry.ensures c.loop.invariant)
+
+pub loop-preserved : goal.loop-preserved
+loop-preserved c =
+    rw c.in_ok-push.ensures.items (many_goes_on (number_at w16) c.loop.entries.items c.args.count c.loop.counter c.loop.rest.now c.in_ok-entry.entry c.in_ok-entry.after.now (many_at (number_at w16) c.args.count [] c.args.bytes.now) c.loop-test.true c.in_ok-entry.ensures c.loop.invariant)
+
+pub returns : goal.returns
+returns c = many_done (number_at w16) c.loop.entries.items c.args.count c.loop.counter c.loop.rest.now (many_at (number_at w16) c.args.count [] c.args.bytes.now) c.loop-test.false c.loop.invariant

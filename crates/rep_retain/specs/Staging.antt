@@ -1,0 +1,18 @@
+-- What is staged of a table, and the table once that is in its place.
+use Rattle.std.specs.Prelude.{ℕ, ◌<◌, List, length, slice_set}
+use Rattle.rep_op.specs.declared.op.Retained.{Retained}
+use Rattle.rep_retain.specs.declared.staged.TopicsStaged.{TopicsStaged}
+use Rattle.rep_retain.specs.declared.staged.TopicsStaged.TheVariants.{Nothing, Entry, Table}
+use Rattle.rep_retain.specs.Tables.{IsTable}
+
+-- the table once what is staged is in its place; if nothing is staged, it stays
+abbrev pub moved : List (List ℕ × Retained) → TopicsStaged → List (List ℕ × Retained)
+moved es Nothing = es
+moved es (Entry at e) = slice_set es at e
+moved es (Table next) = next
+
+-- it is staged of this table: an entry takes a place in it, and leaves a table
+abbrev pub IsReady : List (List ℕ × Retained) → TopicsStaged → Type 0
+IsReady es Nothing = Unit {0}
+IsReady es (Entry at e) = (at < length es) × IsTable (slice_set es at e)
+IsReady es (Table next) = Unit {0}

@@ -1,0 +1,19 @@
+-- What was there stays in front through one writer after another.
+use Rattle.std.proofs.Common.{◌≡◌, ℕ, List, ◌++◌, ◌≤◌, length, take, sym, ap, ◌∙◌, arith, refl, append_assoc}
+use Rattle.std.proofs.lemmas.List.{take_all, take-take, length-append, take_at}
+use Rattle.rep_write.specs.Writing.{Keeps}
+
+pub keeps_itself : (old : List ℕ) → Keeps old old
+keeps_itself old = take_all (length old) old (omega arith)
+
+pub keeps_more : (old text new : List ℕ) → new ≡ old ++ text → Keeps old new
+keeps_more old text new e = rw e (take_at old text (length old) refl)
+
+pub keeps_through : (old text mid new : List ℕ) → mid ≡ old ++ text → Keeps mid new → Keeps old new
+keeps_through old text mid new e keeps =
+    let len : length old ≤ length mid = omega (arith, ap length e, length-append old text) in
+    sym (take-take (length old) (length mid) new len) ∙ (ap (take (length old)) keeps ∙ (ap (take (length old)) e ∙ take_at old text (length old) refl))
+
+pub three_parts : (old head a b x y z : List ℕ) → x ≡ old ++ head → y ≡ x ++ a → z ≡ y ++ b → z ≡ old ++ (head ++ (a ++ b))
+three_parts old head a b x y z ex ey ez =
+    ez ∙ (ap (λ (t : List ℕ). t ++ b) ey ∙ (ap (λ (t : List ℕ). (t ++ a) ++ b) ex ∙ simp append_assoc))

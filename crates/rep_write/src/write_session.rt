@@ -1,0 +1,253 @@
+//! Writing a session and a change of one.
+
+#![tactic(auto, using(crate::proofs::Writing::keeps_itself, crate::proofs::Writing::keeps_more, crate::proofs::Writing::keeps_through))]
+
+ghost use Rattle.std.specs.Prelude.{◌≡◌, ◌<◌, ◌^◌, ◌++◌, ◌∷◌, [], length, IsTrue};
+ghost use Rattle.std.specs.List.{flat_map};
+ghost use Rattle.byteorder.specs.Endian.{big_bytes};
+ghost use Rattle.rep_op.specs.Ranges.{is_will, is_session, is_change};
+ghost use Rattle.rep_op.specs.Sessions.{text_octets, flag_octet, presence_octet, phase_octet, table_octets, option_octets, topic_octets, subscription_octets, will_octets, will_topic_octets, exchange_octets, session_octets, change_octets};
+ghost use Rattle.rep_write.specs.Writing.{Writes};
+
+use octets::{NoMemory, append_u16, append_u64};
+use sn_session::{Outbound, Phase, Presence, Session, SessionOp, Will, WillTopic};
+use sn_tables::{Received, Subscription, Subscriptions, TopicEntry, Topics};
+
+/// The octet of a presence.
+fn presence_code(presence: Presence) -> u8
+    ensures { result ≡ presence_octet presence }
+{
+    match presence {
+        Presence::Active => 0,
+        Presence::Asleep => 1,
+        Presence::Awake => 2,
+        Presence::Disconnected => 3,
+        Presence::Lost => 4,
+    }
+}
+
+/// The octet of a phase.
+fn phase_code(phase: Phase) -> u8
+    ensures { result ≡ phase_octet phase }
+{
+    match phase {
+        Phase::Registering => 0,
+        Phase::Published => 1,
+        Phase::Released => 2,
+    }
+}
+
+/// Writes a text.
+pub fn write_text(out: &mut Vec<u8>, text: &[u8]) -> Result<(), NoMemory>
+    requires { length text.now < 2 ^ 16 }
+    ensures { Writes (text_octets text.now) out.old.items out.new.items result }
+{
+    append_u16(out, text.len() as u16)?;
+    out.extend_from_slice(text)?;
+    Ok(())
+}
+
+/// Writes a topic id.
+fn write_entry(out: &mut Vec<u8>, entry: &TopicEntry) -> Result<(), NoMemory>
+    ensures { Writes (topic_octets entry.now) out.old.items out.new.items result }
+{
+    append_u16(out, entry.id)?;
+    out.push(entry.known as u8)?;
+    write_text(out, entry.name.bytes())?;
+    Ok(())
+}
+
+/// Writes topic ids one after the other.
+fn write_entries(out: &mut Vec<u8>, entries: &[TopicEntry]) -> Result<(), NoMemory>
+    ensures { Writes (flat_map topic_octets entries.now) out.old.items out.new.items result }
+{
+    for entry in entries {
+        write_entry(out, entry)?;
+    }
+    Ok(())
+}
+
+/// Writes topic ids.
+fn write_topics(out: &mut Vec<u8>, topics: &Topics) -> Result<(), NoMemory>
+    ensures { Writes (table_octets topic_octets topics.now) out.old.items out.new.items result }
+{
+    append_u16(out, topics.len() as u16)?;
+    write_entries(out, topics.as_slice())?;
+    Ok(())
+}
+
+/// Writes a subscription.
+fn write_subscription(out: &mut Vec<u8>, entry: &Subscription) -> Result<(), NoMemory>
+    ensures { Writes (subscription_octets entry.now) out.old.items out.new.items result }
+{
+    write_text(out, entry.filter.bytes())?;
+    out.push(entry.qos.number())?;
+    Ok(())
+}
+
+/// Writes subscriptions one after the other.
+fn write_each_subscription(out: &mut Vec<u8>, entries: &[Subscription]) -> Result<(), NoMemory>
+    ensures { Writes (flat_map subscription_octets entries.now) out.old.items out.new.items result }
+{
+    for entry in entries {
+        write_subscription(out, entry)?;
+    }
+    Ok(())
+}
+
+/// Writes subscriptions.
+fn write_subscriptions(out: &mut Vec<u8>, entries: &Subscriptions) -> Result<(), NoMemory>
+    ensures { Writes (table_octets subscription_octets entries.now) out.old.items
+        out.new.items result }
+{
+    append_u16(out, entries.len() as u16)?;
+    write_each_subscription(out, entries.as_slice())?;
+    Ok(())
+}
+
+/// Writes message ids one after the other.
+fn write_ids(out: &mut Vec<u8>, ids: &[u16]) -> Result<(), NoMemory>
+    ensures { Writes (flat_map (big_bytes 2) ids.now) out.old.items out.new.items result }
+{
+    for id in ids {
+        append_u16(out, *id)?;
+    }
+    Ok(())
+}
+
+/// Writes received message ids.
+fn write_received(out: &mut Vec<u8>, received: &Received) -> Result<(), NoMemory>
+    ensures { Writes (table_octets (big_bytes 2) received.now) out.old.items out.new.items result }
+{
+    append_u16(out, received.len() as u16)?;
+    write_ids(out, received.as_slice())?;
+    Ok(())
+}
+
+/// Writes a will.
+fn write_will(out: &mut Vec<u8>, will: &Option<Will>) -> Result<(), NoMemory>
+    requires { IsTrue (is_will will.now) }
+    ensures { Writes (option_octets will_octets will.now) out.old.items out.new.items result }
+{
+    match will {
+        None => out.push(0)?,
+        Some(will) => {
+            out.extend_from_slice(&[1, will.qos.number(), will.retain as u8])?;
+            write_text(out, will.topic.bytes())?;
+            write_text(out, will.message.as_slice())?;
+        }
+    }
+    Ok(())
+}
+
+/// Writes a will's topic.
+fn write_will_topic(out: &mut Vec<u8>, asked: &Option<WillTopic>) -> Result<(), NoMemory>
+    ensures { Writes (option_octets will_topic_octets asked.now) out.old.items
+        out.new.items result }
+{
+    match asked {
+        None => out.push(0)?,
+        Some(asked) => {
+            out.extend_from_slice(&[1, asked.qos.number(), asked.retain as u8])?;
+            write_text(out, asked.topic.bytes())?;
+        }
+    }
+    Ok(())
+}
+
+/// Writes an exchange.
+fn write_exchange(out: &mut Vec<u8>, exchange: &Option<Outbound>) -> Result<(), NoMemory>
+    ensures { Writes (option_octets exchange_octets exchange.now) out.old.items
+        out.new.items result }
+{
+    match exchange {
+        None => out.push(0)?,
+        Some(exchange) => {
+            out.extend_from_slice(&[1, exchange.origin])?;
+            append_u64(out, exchange.seq)?;
+            append_u16(out, exchange.msg_id)?;
+            out.push(phase_code(exchange.phase))?;
+        }
+    }
+    Ok(())
+}
+
+/// Writes where the client is, and the numbers of a session.
+fn write_head(out: &mut Vec<u8>, session: &Session) -> Result<(), NoMemory>
+    ensures { Writes ((presence_octet session.now.presence ∷ flag_octet session.now.clean ∷ []) ++
+        big_bytes 2 session.now.duration ++ big_bytes 2 session.now.next_id) out.old.items
+        out.new.items result }
+{
+    out.extend_from_slice(&[presence_code(session.presence), session.clean as u8])?;
+    append_u16(out, session.duration)?;
+    append_u16(out, session.next_id)?;
+    Ok(())
+}
+
+/// Writes a session.
+fn write_session(out: &mut Vec<u8>, session: &Session) -> Result<(), NoMemory>
+    requires { IsTrue (is_session session.now) }
+    ensures { Writes (session_octets session.now) out.old.items out.new.items result }
+{
+    write_head(out, session)?;
+    write_topics(out, &session.topics)?;
+    write_subscriptions(out, &session.subscriptions)?;
+    write_will(out, &session.will)?;
+    write_received(out, &session.received)?;
+    write_exchange(out, &session.outbound)?;
+    Ok(())
+}
+
+/// Writes a change of a session.
+pub fn write_change(out: &mut Vec<u8>, change: &SessionOp) -> Result<(), NoMemory>
+    requires { IsTrue (is_change change.now) }
+    ensures { Writes (change_octets change.now) out.old.items out.new.items result }
+{
+    match change {
+        SessionOp::Take(session) => {
+            out.push(0)?;
+            write_session(out, session)?;
+        }
+        SessionOp::Presence { presence, duration } => {
+            out.extend_from_slice(&[1, presence_code(*presence)])?;
+            append_u16(out, *duration)?;
+        }
+        SessionOp::Register { id, name, known } => {
+            out.push(2)?;
+            append_u16(out, *id)?;
+            out.push(*known as u8)?;
+            write_text(out, name.bytes())?;
+        }
+        SessionOp::Subscribe { filter, qos } => {
+            out.push(3)?;
+            write_text(out, filter.bytes())?;
+            out.push(qos.number())?;
+        }
+        SessionOp::Unsubscribe { filter } => {
+            out.push(4)?;
+            write_text(out, filter.bytes())?;
+        }
+        SessionOp::WillTopic(asked) => {
+            out.push(5)?;
+            write_will_topic(out, asked)?;
+        }
+        SessionOp::WillMsg(message) => {
+            out.push(6)?;
+            write_text(out, message.as_slice())?;
+        }
+        SessionOp::Received { id } => {
+            out.push(7)?;
+            append_u16(out, *id)?;
+        }
+        SessionOp::Released { id } => {
+            out.push(8)?;
+            append_u16(out, *id)?;
+        }
+        SessionOp::Outbound { exchange, next_id } => {
+            out.push(9)?;
+            append_u16(out, *next_id)?;
+            write_exchange(out, exchange)?;
+        }
+    }
+    Ok(())
+}
