@@ -76,7 +76,7 @@ pub struct Link<S: Drop> {
     pub(crate) mute: bool,
     /// This end has said its number and its digest.
     pub(crate) greeted: bool,
-    /// The number of the last call of the shift whose delta was told.
+    /// The number of a call of the shift: the delta of each call up to it was told.
     pub told: u64,
 }
 

@@ -365,19 +365,23 @@ fn say_digest_of<S: Drop>(
     Ok(())
 }
 
-/// Tells of each delta that the gateway made in this shift and that was not told of.
+/// Tells of each delta that the gateway made in this shift and that was not told of. The next look
+/// goes on after the calls that are known to have made none.
 pub(crate) fn tell_all<T: Wait, R: Replica, D: Disk + Drop, S: Drop>(
     rt: &T,
     alloc: Global,
     shift: &Shift<R, D>,
     pass: &Pass,
     link: &mut Link<S>,
+    stage: &Stage,
     relay: &Relay,
 ) -> Result<(), End> {
     for _ in rt.forever() {
+        let known = stage.made();
         let made = made_after(rt, alloc, shift, pass, link.told)?;
         if made.is_empty() {
             drop(made);
+            link.told = link.told.max(known);
             return Ok(());
         }
         tell_some(rt, alloc, link, made, relay)?;

@@ -67,10 +67,12 @@ fn take_turn<T: Wait + Clock, R: Replica, D: Disk + Drop, S: Write + Drop>(
 {
     let (pass, heard) = hear_in_turn(rt, alloc, shift, pass, link, gateway, stage, relay);
     match heard {
-        Ok(()) | Err(End::Full) => match tell(rt, alloc, shift, &pass, link, phase, relay) {
-            Ok(()) => (pass, heard),
-            Err(end) => (pass, Err(end)),
-        },
+        Ok(()) | Err(End::Full) => {
+            match tell(rt, alloc, shift, &pass, link, stage, phase, relay) {
+                Ok(()) => (pass, heard),
+                Err(end) => (pass, Err(end)),
+            }
+        }
         Err(end) => (pass, Err(end)),
     }
 }
@@ -115,6 +117,7 @@ fn tell<T: Wait, R: Replica, D: Disk + Drop, S: Write + Drop>(
     shift: &Shift<R, D>,
     pass: &Pass,
     link: &mut Link<S>,
+    stage: &Stage,
     phase: Phase,
     relay: &Relay,
 ) -> Result<(), End> {
@@ -123,7 +126,7 @@ fn tell<T: Wait, R: Replica, D: Disk + Drop, S: Write + Drop>(
     }
     // a link begins with its greeting; the answer to the peer's digest has what was made before
     if link.greeted && (link.is_told() || phase == Phase::Quiet) {
-        tell_all(rt, alloc, shift, pass, link, relay)?;
+        tell_all(rt, alloc, shift, pass, link, stage, relay)?;
         hand_all(rt, alloc, link, relay)?;
     }
     if phase == Phase::Quiet && link.stalls > 0 {

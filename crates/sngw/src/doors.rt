@@ -1,5 +1,6 @@
 //! How links are made: peers are dialled, others are accepted.
 
+use crate::lines::Said;
 use gw_link::{Link, Origin, Phase, Report, Stage, Trouble};
 use gw_main::options::Settings;
 use gw_relay::next_pause;
@@ -7,7 +8,7 @@ use gw_run::{MOST_ACCEPTED, Pool};
 use gw_wire::{address, moment};
 use sn_local::Addr;
 use std::alloc::Global;
-use std::io::Eprint;
+use std::io::{Eprint, Print};
 use std::net::{Net, TcpListener, TcpStream};
 use std::sync::Wait;
 use std::thread;
@@ -71,16 +72,17 @@ pub(crate) fn keep_all<T>(
     listener: &TcpListener,
     pool: &Pool<TcpStream>,
     over: &Stage,
+    said: Said<'_>,
 )
 where
-    T: Threads + Wait + Sync + Clock + Eprint,
+    T: Threads + Wait + Sync + Clock + Print + Eprint,
     T: Net<Listener = TcpListener, Stream = TcpStream>,
 {
     let count = doors.len();
     if count > 0 {
         let at = |_place: usize, door: &mut Door| {
             match door.origin {
-                Origin::Accepted => accept_all(rt, alloc, listener, pool, over),
+                Origin::Accepted => accept_all(rt, alloc, listener, pool, over, said),
                 Origin::Dialled(_) => dial_all(rt, alloc, *door, pool, over),
             }
         };
@@ -133,18 +135,19 @@ where
 }
 
 /// Accepts those who dial, as many as may be, and tells the troubles.
-fn accept_all<T: Wait + Clock + Eprint>(
+fn accept_all<T: Wait + Clock + Print + Eprint>(
     rt: &T,
     alloc: Global,
     listener: &TcpListener,
     pool: &Pool<TcpStream>,
     over: &Stage,
+    said: Said<'_>,
 ) {
     for _ in rt.forever() {
         if over.phase(rt) != Phase::Serving {
             return;
         }
-        tell_all(rt, pool);
+        tell_all(rt, alloc, pool, said);
         match listener.accept() {
             Ok((stream, _)) => {
                 if pool.may_open(rt, Origin::Accepted) {
@@ -176,46 +179,50 @@ fn open<T: Wait>(rt: &T, alloc: Global, stream: TcpStream, origin: Origin, pool:
 
 /// Tells the troubles that are to be told, each in a line of standard error: that nothing can be
 /// sent, and those of links.
-fn tell_all<T: Wait + Clock + Eprint>(rt: &T, pool: &Pool<TcpStream>) {
+fn tell_all<T>(rt: &T, alloc: Global, pool: &Pool<TcpStream>, said: Said<'_>)
+where
+    T: Wait + Clock + Print + Eprint,
+{
     if pool.outage.is_to_tell(rt) {
-        let _ = eprintln!(rt;
+        let line = format!(in alloc;
             "listen: for a minute nothing could be sent; no time passes for clients"
         );
+        said.err.say(rt, line.ok());
     }
     for _ in 0..MOST_LINES {
         match pool.relay.report(rt, moment(rt)) {
             None => return,
-            Some(report) => tell(rt, report),
+            Some(report) => said.err.say(rt, line_of(alloc, report)),
         }
     }
 }
 
-/// Tells a trouble.
-fn tell<T: Eprint>(rt: &T, report: Report) {
+/// The line that tells a trouble. `None` if memory runs out.
+fn line_of(alloc: Global, report: Report) -> Option<String> {
     let Report {
         trouble,
         number,
         count,
     } = report;
-    let _ = match trouble {
-        Trouble::SameNumber => eprintln!(rt;
+    let line = match trouble {
+        Trouble::SameNumber => format!(in alloc;
             "link: another gateway has the number {number} of this one, and is not linked: {count} times"
         ),
-        Trouble::Stranger => eprintln!(rt;
+        Trouble::Stranger => format!(in alloc;
             "link: gateway {number} is not among numbers, and is not linked: {count} times"
         ),
-        Trouble::Conflict => eprintln!(rt;
+        Trouble::Conflict => format!(in alloc;
             "link: gateway {number} told what contradicts what is kept, and was refused: {count} times"
         ),
-        Trouble::TooMuch => eprintln!(rt;
+        Trouble::TooMuch => format!(in alloc;
             "link: gateway {number} told more than may be kept, and was refused: {count} times"
         ),
-        Trouble::TurnedAway => eprintln!(rt;
-            "link: {} that dialled are linked, and another was turned away: {} times",
-            MOST_ACCEPTED, count
+        Trouble::TurnedAway => format!(in alloc;
+            "link: {MOST_ACCEPTED} that dialled are linked, and another was turned away: {count} times"
         ),
-        Trouble::Twice => eprintln!(rt;
+        Trouble::Twice => format!(in alloc;
             "link: gateway {number} was linked once more while it was linked: {count} times"
         ),
     };
+    line.ok()
 }

@@ -15,6 +15,7 @@
 //! - `ignored`: keys of it that mean nothing where they stand.
 //! - `stop`: why the program ends early (`Stop`).
 //! - `running`: shifts one after the other.
+//! - `lines`: lines that are printed beside the work.
 //! - `keeping`: when the journal is written anew, and when a gateway that cannot write tries again.
 //! - `doors`: how links are made: peers are dialled, others are accepted.
 //! - `working`: the threads of one shift.
@@ -29,6 +30,7 @@ mod doors;
 mod ignored;
 mod keeping;
 mod late;
+mod lines;
 mod posting;
 mod reading;
 mod running;
@@ -37,6 +39,7 @@ mod watched;
 mod words;
 mod working;
 
+use crate::lines::{Lines, Output, Said};
 use crate::reading::settings_at;
 use crate::running::run;
 use crate::stop::Stop;
@@ -53,28 +56,69 @@ use std::fs::{File, Files};
 use std::io::{Eprint, Print, Write};
 use std::net::{Net, TcpListener, TcpStream};
 use std::process::ExitCode;
-use std::sync::Wait;
+use std::sync::{Arc, Wait};
 use std::thread::Threads;
 use std::time::Clock;
-use std::{env, io};
+use std::{env, io, thread};
 
 fn main(rt: HostRuntime) -> ExitCode {
     let errors = rt.stderr();
-    let mut out = io::writer(&rt);
     let mut err = io::writer(&errors);
-    match start(&rt, rt.alloc(), &mut out, &mut err) {
+    let Some((out, lines)) = outputs(rt.alloc()) else {
+        let _ = writeln!(&mut err, "sngw: {}", Stop::Memory);
+        return ExitCode::from(Stop::Memory.status());
+    };
+    for printed in [&out, &lines] {
+        let is_printed = match printed.clone() {
+            Ok(theirs) => thread::spawn(&rt, move || theirs.print_all(&rt)).is_ok(),
+            Err(_) => false,
+        };
+        if !is_printed {
+            printed.be_alone(&rt);
+        }
+    }
+    let said = Said {
+        out: &*out,
+        err: &*lines,
+    };
+    let started = start(&rt, rt.alloc(), said, &mut io::writer(&rt), &mut err);
+    end(&rt, said, started)
+}
+
+/// The lines of both outputs. `None` if memory runs out.
+fn outputs(alloc: Global) -> Option<(Arc<Lines>, Arc<Lines>)> {
+    let out = Arc::new(alloc, Lines::of(alloc, Output::Standard)?).ok()?;
+    let err = Arc::new(alloc, Lines::of(alloc, Output::Errors)?).ok()?;
+    Some((out, err))
+}
+
+/// The program's status. What was said is printed before, if anybody reads it.
+fn end<T>(rt: &T, said: Said<'_>, started: Result<(), Stop>) -> ExitCode
+where
+    T: Wait + Clock + Print + Eprint,
+{
+    let status = match started {
         Ok(()) => ExitCode::SUCCESS,
         Err(stop) => {
             if stop != Stop::Opening {
-                let _ = writeln!(&mut err, "sngw: {stop}");
+                said.err.say_end(rt, stop);
             }
             ExitCode::from(stop.status())
         }
-    }
+    };
+    said.out.end(rt);
+    said.err.end(rt);
+    status
 }
 
 /// Everything that the program does.
-fn start<T, O: Write, E: Write>(rt: &T, alloc: Global, out: &mut O, err: &mut E) -> Result<(), Stop>
+fn start<T, O: Write, E: Write>(
+    rt: &T,
+    alloc: Global,
+    said: Said<'_>,
+    out: &mut O,
+    err: &mut E,
+) -> Result<(), Stop>
 where
     T: Env + Files<File = File> + Print + Eprint + Threads + Wait + Sync + Clock,
     T: Net<Listener = TcpListener, Stream = TcpStream>,
@@ -86,7 +130,7 @@ where
     let shifts = asked.shifts;
     drop(asked);
     let settings = settings?;
-    let done = start_by(rt, alloc, &settings, shifts, out, err);
+    let done = start_by(rt, alloc, &settings, shifts, said, out, err);
     drop(settings);
     done
 }
@@ -97,6 +141,7 @@ fn start_by<T, O: Write, E: Write>(
     alloc: Global,
     settings: &Settings,
     shifts: u64,
+    said: Said<'_>,
     out: &mut O,
     err: &mut E,
 ) -> Result<(), Stop>
@@ -113,7 +158,7 @@ where
         drop(node);
         return Ok(());
     }
-    run(rt, alloc, settings, node, shifts)
+    run(rt, alloc, settings, node, shifts, said)
 }
 
 /// What the command line asks for.

@@ -4,6 +4,7 @@ use crate::admission::Admission;
 use crate::doors::{Door, doors_of, keep_all};
 use crate::keeping::{Keeper, is_written};
 use crate::late::{Inlet, Late};
+use crate::lines::Said;
 use crate::posting::Fence;
 use crate::stop::Stop;
 use crate::working::{Worked, work};
@@ -31,6 +32,7 @@ pub(crate) fn run<T, R, D>(
     settings: &Settings,
     node: Node<R, D>,
     shifts: u64,
+    said: Said<'_>,
 ) -> Result<(), Stop>
 where
     T: Threads + Wait + Sync + Clock + Print + Eprint + Files<File = File>,
@@ -53,6 +55,7 @@ where
         &opened.listener,
         &opened.pool,
         &over,
+        said,
     );
     drop(place);
     drop(opened);
@@ -150,6 +153,7 @@ fn run_beside<T, R, D>(
     listener: &TcpListener,
     pool: &Pool<TcpStream>,
     over: &Stage,
+    said: Said<'_>,
 ) -> Result<(), Stop>
 where
     T: Threads + Wait + Sync + Clock + Print + Eprint + Files<File = File>,
@@ -159,10 +163,10 @@ where
     D: Disk + Drop + Send,
 {
     let mut keeping = || {
-        keep_all(rt, alloc, doors, listener, pool, over);
+        keep_all(rt, alloc, doors, listener, pool, over, said);
     };
     let mut shifting = || -> Result<(), Stop> {
-        work_through(rt, alloc, settings, place, inlet, pool, shifts, over)
+        work_through(rt, alloc, settings, place, inlet, pool, shifts, over, said)
     };
     let ((), worked) = thread::join_mut(rt, &mut keeping, &mut shifting);
     worked
@@ -178,6 +182,7 @@ fn work_through<T, R, D>(
     pool: &Pool<TcpStream>,
     shifts: u64,
     over: &Stage,
+    said: Said<'_>,
 ) -> Result<(), Stop>
 where
     T: Threads + Wait + Sync + Clock + Print + Eprint + Files<File = File>,
@@ -185,7 +190,7 @@ where
     R::Staged: Send,
     D: Disk + Drop + Send,
 {
-    let worked = work_all(rt, alloc, settings, place, inlet, pool, shifts);
+    let worked = work_all(rt, alloc, settings, place, inlet, pool, shifts, said);
     over.go_to(rt, Phase::Quiet);
     worked
 }
@@ -201,6 +206,7 @@ fn work_all<T, R, D>(
     inlet: &mut Inlet,
     pool: &Pool<TcpStream>,
     shifts: u64,
+    said: Said<'_>,
 ) -> Result<(), Stop>
 where
     T: Threads + Wait + Sync + Clock + Print + Eprint + Files<File = File>,
@@ -209,7 +215,7 @@ where
     D: Disk + Drop + Send,
 {
     let mut keeper = Keeper::of(settings.journal.as_str());
-    write_first(rt, alloc, place, inlet, pool, &mut keeper)?;
+    write_first(rt, alloc, place, inlet, pool, &mut keeper, said)?;
     listen_first(rt, settings, pool);
     for number in 0..shifts {
         let Some(node) = place.lock(rt).take() else {
@@ -226,6 +232,7 @@ where
             pool,
             number + 1,
             &mut keeper,
+            said,
         );
         put_back(rt, place, worked.node);
         ended?;
@@ -243,6 +250,7 @@ fn end_shift<T, R, D>(
     pool: &Pool<TcpStream>,
     number: u64,
     keeper: &mut Keeper<'_>,
+    said: Said<'_>,
 ) -> Result<(), Stop>
 where
     T: Wait + Clock + Print + Eprint + Files<File = File>,
@@ -250,12 +258,13 @@ where
     D: Disk + Drop,
 {
     if let Some(other) = pool.relay.found_by(rt) {
-        return Err(used(rt, settings.gateway, other));
+        return Err(used(rt, alloc, settings.gateway, other, said));
     }
     let steps = worked.steps;
-    begin_anew(rt, alloc, &worked.node, pool, worked.tended);
-    let _ = println!(rt; "shift {} steps {}", number, steps);
-    go_on(rt, alloc, worked, inlet, pool, keeper)
+    begin_anew(rt, alloc, &worked.node, pool, worked.tended, said);
+    let line = format!(in alloc; "shift {number} steps {steps}");
+    said.out.say(rt, line.ok());
+    go_on(rt, alloc, worked, inlet, pool, keeper, said)
 }
 
 /// Puts a gateway into its place.
@@ -276,15 +285,16 @@ fn go_on<T, R, D>(
     inlet: &mut Inlet,
     pool: &Pool<TcpStream>,
     keeper: &mut Keeper<'_>,
+    said: Said<'_>,
 ) -> Result<(), Stop>
 where
-    T: Wait + Clock + Print + Files<File = File>,
+    T: Wait + Clock + Print + Eprint + Files<File = File>,
     R: Replica,
     D: Disk + Drop,
 {
     let has_failed = worked.tended == Tended::Reopened || worked.node.is_halted();
     if has_failed || (worked.has_written && keeper.is_grown(rt, alloc)) {
-        tend_behind(rt, alloc, &mut worked.node, pool, keeper)?;
+        tend_behind(rt, alloc, &mut worked.node, pool, keeper, said)?;
     }
     let silence = keeper.silence_after(worked.has_recorded, has_failed);
     be_silent(rt, inlet, &pool.clock, silence);
@@ -316,10 +326,14 @@ fn listen_first<T: Wait + Clock>(rt: &T, settings: &Settings, pool: &Pool<TcpStr
 }
 
 /// Says that another gateway has what this one must have made, and has not.
-fn used<T: Eprint>(rt: &T, own: u8, other: u8) -> Stop {
-    let _ = eprintln!(rt;
+fn used<T>(rt: &T, alloc: Global, own: u8, other: u8, said: Said<'_>) -> Stop
+where
+    T: Wait + Print + Eprint,
+{
+    let line = format!(in alloc;
         "link: gateway {other} has what gateway {own} made, and this journal does not: it is not the newest one, or the number was used before"
     );
+    said.err.say(rt, line.ok());
     Stop::Number
 }
 
@@ -334,16 +348,17 @@ fn write_first<T, R, D>(
     inlet: &mut Inlet,
     pool: &Pool<TcpStream>,
     keeper: &mut Keeper<'_>,
+    said: Said<'_>,
 ) -> Result<(), Stop>
 where
-    T: Wait + Clock + Print + Files<File = File>,
+    T: Wait + Clock + Print + Eprint + Files<File = File>,
     R: Replica,
     D: Disk + Drop,
 {
     let Some(mut node) = place.lock(rt).take() else {
         return Ok(());
     };
-    let written = write_anew(rt, alloc, &mut node, inlet, pool, keeper);
+    let written = write_anew(rt, alloc, &mut node, inlet, pool, keeper, said);
     put_back(rt, place, node);
     written
 }
@@ -356,9 +371,10 @@ fn write_anew<T, R, D>(
     inlet: &mut Inlet,
     pool: &Pool<TcpStream>,
     keeper: &mut Keeper<'_>,
+    said: Said<'_>,
 ) -> Result<(), Stop>
 where
-    T: Wait + Clock + Print + Files<File = File>,
+    T: Wait + Clock + Print + Eprint + Files<File = File>,
     R: Replica,
     D: Disk + Drop,
 {
@@ -366,13 +382,13 @@ where
         return Ok(());
     }
     for _ in rt.forever() {
-        let tended = tend_behind(rt, alloc, node, pool, keeper)?;
+        let tended = tend_behind(rt, alloc, node, pool, keeper, said)?;
         if is_written(tended) {
             keeper.note_written();
             return Ok(());
         }
         if tended == Tended::Starved {
-            tell(rt, alloc, node);
+            tell(rt, alloc, node, said);
         }
         let silence = keeper.wait_longer();
         be_silent(rt, inlet, &pool.clock, silence);
@@ -395,9 +411,10 @@ fn tend_behind<T, R, D, S>(
     node: &mut Node<R, D>,
     pool: &Pool<S>,
     keeper: &mut Keeper<'_>,
+    said: Said<'_>,
 ) -> Result<Tended, Stop>
 where
-    T: Wait + Print + Files<File = File>,
+    T: Wait + Print + Eprint + Files<File = File>,
     R: Replica,
     D: Disk + Drop,
     S: Drop,
@@ -405,7 +422,7 @@ where
     let before = keeper.lengths(rt, alloc);
     match tend(alloc, node) {
         Ok(tended) => {
-            begin_anew(rt, alloc, node, pool, tended);
+            begin_anew(rt, alloc, node, pool, tended, said);
             keeper.note_tended(rt, alloc, before, tended);
             Ok(tended)
         }
@@ -415,27 +432,39 @@ where
 
 /// Where a gateway was opened anew, how it stands is printed as at the start, and the links are
 /// closed: it may have read what it never told, and over a new link the other end asks for that.
-fn begin_anew<T, R, D, S>(rt: &T, alloc: Global, node: &Node<R, D>, pool: &Pool<S>, tended: Tended)
+fn begin_anew<T, R, D, S>(
+    rt: &T,
+    alloc: Global,
+    node: &Node<R, D>,
+    pool: &Pool<S>,
+    tended: Tended,
+    said: Said<'_>,
+)
 where
-    T: Wait + Print,
+    T: Wait + Print + Eprint,
     R: Replica,
     D: Disk + Drop,
     S: Drop,
 {
     if tended == Tended::Reopened || tended == Tended::Unwritten {
         pool.close_all(rt);
-        tell(rt, alloc, node);
+        tell(rt, alloc, node, said);
     }
 }
 
-/// Prints how the gateway stands. Where memory runs out the line is let go.
-fn tell<T: Print, R: Replica, D: Disk + Drop>(rt: &T, alloc: Global, node: &Node<R, D>) {
-    if let Ok(clients) = node.clients(alloc) {
-        let _ = println!(rt;
-            "gateway {} records {} clients {}",
-            node.gateway(),
-            node.records(),
-            clients.len()
-        );
-    }
+/// Says how the gateway stands. If memory runs out the line is left out.
+fn tell<T, R, D>(rt: &T, alloc: Global, node: &Node<R, D>, said: Said<'_>)
+where
+    T: Wait + Print + Eprint,
+    R: Replica,
+    D: Disk + Drop,
+{
+    said.out.say(rt, state_of(alloc, node));
+}
+
+/// The line that says how a gateway stands. `None` if memory runs out.
+fn state_of<R: Replica, D: Disk + Drop>(alloc: Global, node: &Node<R, D>) -> Option<String> {
+    let count = node.clients(alloc).ok()?.len();
+    let (gateway, records) = (node.gateway(), node.records());
+    format!(in alloc; "gateway {gateway} records {records} clients {count}").ok()
 }

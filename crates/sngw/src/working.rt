@@ -200,6 +200,7 @@ where
             rt, alloc, shift, serving, seats, inlet, is_claimed, pool, stage,
         );
         stage.go_to(rt, Phase::Quiet);
+        pool.be_quiet(rt);
         served
     };
     let ((), served) = thread::join_mut(rt, &mut talking, &mut working);
