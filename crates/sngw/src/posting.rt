@@ -15,6 +15,10 @@ use std::sync::{Mutex, Wait};
 /// How many groups of addresses are counted apart.
 const GROUPS: usize = 4_096;
 
+/// How many octets the history keeps of a datagram beside its own: of the answer that has it, and of
+/// what the gateway made for it.
+const A_SEND: usize = 256;
+
 /// How many seconds are counted together.
 const A_WHILE: u64 = 8;
 
@@ -158,7 +162,7 @@ impl<'a, T: Wait, P: Post> Post for Outlet<'a, T, P> {
         if is_disconnect(bytes) && !self.fence.may_say(self.rt, self.pool.clock.second(), to) {
             return Err(Unsent);
         }
-        self.stage.keep(self.rt, bytes.len());
+        self.stage.keep(self.rt, bytes.len().saturating_add(A_SEND));
         let sent = self.post.send(to, bytes);
         self.note(to, bytes, sent.is_ok());
         sent
