@@ -30,6 +30,7 @@ The parts, all where none is named, with about the seconds that each takes. An u
   room       5  a compaction without room turns clients away once at most, over many shifts; it needs root, for a small disk in memory
   garbage   10  5,000 datagrams that are no frames end no shift of 64 calls, and memory does not grow
   bound     20  1,300 PUBLISH of 60,000 octets end a shift before its calls are used up, and memory stays below 256 MiB
+  handed    40  a shift ends before what is handed over, 600 times 1,024 messages of one octet, takes more than 256 MiB
   fence      8  a forged DISCONNECT between two gateways is answered at most 150 times, and then no more; it needs root
   ids       65  clients that no pattern of the settings is like, and one newcomer too many, are turned away and leave no trace; a minute later one comes in
   learned   75  clients that came over a link are no newcomers a minute after a shift's begin
@@ -947,6 +948,30 @@ def bound(program: str, folder: str) -> str:
     return said
 
 
+def handed(program: str, folder: str) -> str:
+    """A SUBSCRIBE of six octets is handed what 1,024 topics retain, again and again. Each message has one octet; what the gateway keeps of it has far more."""
+    with Gateway(program, folder, 1, steps="4096") as gateway:
+        gateway.start()
+        with Client(b"p-kept", gateway) as publisher:
+            publisher.connect(clean=True)
+            for one in range(1024):
+                name = bytes([65 + one // 32, 65 + one % 32])
+                publisher.ask(publish(name, b"x", one + 1, 0x32), published(name, one + 1), 30, 5)
+        most, before, rounds = 0, len(gateway.shifts()), 0
+        with Client(b"s-all", gateway) as subscriber:
+            subscriber.connect()
+            while rounds < 600 and len(gateway.shifts()) == before:
+                rounds += 1
+                subscriber.send(subscribe(b"#", rounds, 0x00))
+                subscriber.send(ping())
+                while subscriber.receive(0.5) not in (PONG, None):
+                    pass
+                most = max(most, resident(gateway) if rounds % 20 == 0 else 0)
+    said = f"the shift was closed after {rounds} rounds of 1,024 messages, RssAnon of {most} MiB at most"
+    expect(rounds < 600 and most < 256, said)
+    return said
+
+
 def calls(gateway: Gateway) -> int:
     return sum(steps for _, steps in gateway.shifts())
 
@@ -1206,7 +1231,7 @@ def unit(_program: str, folder: str) -> str:
 
 PARTS = {"herd": herd, "stall": stall, "hang": hang, "backlog": backlog, "radio": radio, "reopens": reopens, "nobody": nobody,
          "idle": idle, "unread": unread, "threads": threads, "slow": slow, "listens": listens, "alone": alone, "wear": wear, "first": first, "waits": waits,
-         "short": short, "hole": hole, "blocks": blocks, "room": room, "garbage": garbage, "bound": bound, "fence": fence, "ids": ids, "learned": learned,
+         "short": short, "hole": hole, "blocks": blocks, "room": room, "garbage": garbage, "bound": bound, "handed": handed, "fence": fence, "ids": ids, "learned": learned,
          "full": full, "zeros": zeros, "begun": begun, "unit": unit}
 
 
