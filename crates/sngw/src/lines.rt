@@ -112,11 +112,7 @@ impl Lines {
         if waiting.is_alone {
             return line;
         }
-        let is_kept = match line {
-            Some(line) if waiting.lines.len() < most => waiting.lines.push_back(line).is_ok(),
-            _ => false,
-        };
-        if !is_kept {
+        if !keep(&mut waiting, line, most) {
             waiting.left_out = waiting.left_out.saturating_add(1);
         }
         self.changed.notify_all();
@@ -179,4 +175,16 @@ impl Lines {
         );
         let _ = waiting.is_done;
     }
+}
+
+/// Puts a line after those that wait, if fewer than so many do. Says whether it did.
+fn keep(waiting: &mut Waiting, line: Option<Line>, most: usize) -> bool {
+    let Some(line) = line else {
+        return false;
+    };
+    if waiting.lines.len() >= most {
+        drop(line);
+        return false;
+    }
+    waiting.lines.push_back(line).is_ok()
 }
