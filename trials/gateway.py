@@ -343,11 +343,12 @@ class Client:
     that was answered and comes again behind a DISCONNECT wakes a client that sleeps. On a machine that is slow `again` must be long."""
 
     again = AGAIN
+    host = HOST
 
     def __init__(self, name: bytes, gateway: Gateway):
         self.name, self.gateway, self.repeats = name, gateway, 0
         self.socket = socket.socket(socket.AF_INET, socket.SOCK_DGRAM)
-        self.socket.bind((HOST, 0))
+        self.socket.bind((self.host, 0))
 
     def send(self, octets: bytes) -> None:
         self.socket.sendto(octets, self.gateway.address)

@@ -13,6 +13,10 @@ The parts, all where none is named, with about the seconds that each takes. An u
                 message afterwards, and one line says so
   reopens   10  while nothing can be sent a write fails: the journal is opened anew all the same
   nobody    20  datagrams from an address to which nothing can be sent do not stop the clock: a client that is dead is found within 40 seconds; it needs root
+  idle      30  a gateway that has nothing to do wakes at most 160 times a second, and a quiet link costs no more at the end of a long shift than at its begin
+  unread    30  nobody reads what the program prints: it serves on, tells later how many lines were left out, and ends when it is to end
+  threads   20  no thread is made for eight seconds: afterwards clients are served within 15
+  slow      15  a shift does not wait for what the network has not taken yet; it needs root, and tc
   listens   40  20 sleepers whose messages came to a peer wake right after a start: none is told that nothing waits; where the peer tells what it made in its shift,
                 where it answers a digest eleven seconds after its last answer, and where each sync of the gateway takes half a second
   alone      7  a gateway whose peer is away answers nobody after a start, and everybody within six seconds
@@ -40,6 +44,7 @@ All goes on at 127.0.0.1, at ports that the system gives, in a folder that is go
 Status 0 only where nothing failed.
 """
 import argparse
+import fcntl
 import os
 import re
 import select
@@ -94,6 +99,12 @@ class Cut(Loaded):
     """Lets no datagram be sent while it is told a number other than 0."""
 
     name = "no_network"
+
+
+class Alone(Loaded):
+    """Lets no thread be made while it is told a number other than 0."""
+
+    name = "no_thread"
 
 
 def sleeps_at(gateway: Gateway, name: bytes, topic: bytes = b"ow") -> None:
@@ -371,6 +382,221 @@ def nobody(program: str, folder: str) -> str:
         took = time.monotonic() - began
     expect(wills.seen == {b"dead dead"}, f"after {took:.0f} seconds the wills of {sorted(wills.seen)[:5]}")
     return f"a client that was dead was found after {took:.0f} seconds"
+
+
+# ---- what it costs to stand there, and what may not hold it up
+
+
+def tasks(gateway: Gateway, file: str) -> list:
+    """What a file of the system says of each thread of the process."""
+    folder, said = f"/proc/{gateway.process.pid}/task", []
+    for task in os.listdir(folder):
+        with open(f"{folder}/{task}/{file}", encoding="ascii") as text:
+            said.append(text.read())
+    return said
+
+
+def worked(gateway: Gateway) -> tuple:
+    """How often its threads were woken, and for how many milliseconds they ran."""
+    woken = sum(int(re.search(r"^voluntary_ctxt_switches:\s+(\d+)$", said, re.M)[1]) for said in tasks(gateway, "status"))
+    return woken, sum(int(said.split()[0]) for said in tasks(gateway, "schedstat")) / 1e6
+
+
+def rests(gateway: Gateway, seconds: int = 10) -> tuple:
+    """The same for each second in which nothing comes, beside what the program's other threads take."""
+    time.sleep(2)
+    before = worked(gateway)
+    time.sleep(seconds)
+    return tuple((now - then) / seconds for now, then in zip(worked(gateway), before))
+
+
+def idle(program: str, folder: str) -> str:
+    """At the end of a long shift a link has thousands of calls before it that made no delta."""
+    with Gateway(program, folder, 1) as gateway:
+        gateway.start()
+        alone = rests(gateway)
+    two = [Gateway(program, folder, 2), Gateway(program, folder, 3)]
+    two[0].values["peers"] = f"[{at_port(two[1].link)}]"
+    with two[0], two[1]:
+        for gateway in two:
+            gateway.start()
+        sleeps_at(two[0], b"s-idle")
+        say(two[0], b"p-idle", b"<first>")
+        two[1].await_octets(b"<first>")
+        fresh = rests(two[0])
+        with Client(b"asker", two[0]) as asker:
+            for _ in range(3900):
+                asker.ask(search(), frame(0x02, b"\x02"), 30, 5)
+        expect(not two[0].shifts(), "a shift was closed meanwhile")
+        late = rests(two[0])
+        # what is made now is told all the same
+        say(two[0], b"p-idle", b"<last>")
+        took = two[1].await_octets(b"<last>")
+    said = (f"{alone[0]:.0f} wakes a second alone, {fresh[0]:.0f} with a link; {fresh[1]:.1f} ms of a processor in each second at a shift's begin, "
+            f"{late[1]:.1f} after 3,900 calls; what was made then came within {took:.2f} seconds")
+    expect(alone[0] <= 160 and late[1] <= 1.3 * fresh[1] + 1 and took < 1, said)
+    return said
+
+
+class Pipe:
+    """A pipe that nobody reads, and that is full."""
+
+    def __init__(self):
+        self.source, self.sink = os.pipe()
+        fcntl.fcntl(self.sink, fcntl.F_SETPIPE_SZ, 4096)
+
+    def first_line(self) -> bytes:
+        line = b""
+        while not line.endswith(b"\n"):
+            line += os.read(self.source, 1)
+        return line
+
+    def fill(self) -> None:
+        os.set_blocking(self.sink, False)
+        try:
+            while True:
+                os.write(self.sink, b"\n" * 256)
+        except BlockingIOError:
+            os.set_blocking(self.sink, True)
+
+    def lines(self, seconds: float) -> list:
+        """All that comes within a while."""
+        octets, end = b"", time.monotonic() + seconds
+        while time.monotonic() < end:
+            if select.select([self.source], [], [], 0.1)[0]:
+                octets += os.read(self.source, 65536)
+        return [line for line in octets.decode().splitlines() if line]
+
+
+def begun_unread(gateway: Gateway, pipe: Pipe, shifts: int) -> None:
+    """Starts the process, reads its first line, and then reads nothing more."""
+    gateway.write()
+    gateway.err = os.path.join(gateway.folder, "unread.err")
+    with open(gateway.err, "wb") as err:
+        gateway.process = subprocess.Popen([gateway.program, "--config", gateway.settings, "--shifts", str(shifts)], stdin=subprocess.DEVNULL,
+                                           stdout=pipe.sink, stderr=err, cwd=gateway.folder)
+    expect(pipe.first_line().startswith(b"gateway"), "the first line is another")
+    pipe.fill()
+
+
+def unread(program: str, folder: str) -> str:
+    with Gateway(program, folder, 1, steps="4") as gateway:
+        pipe, longest = Pipe(), 0.0
+        begun_unread(gateway, pipe, 1_000_000)
+        with Client(b"asker", gateway) as asker:
+            for _ in range(1500):
+                began = time.monotonic()
+                asker.ask(search(), frame(0x02, b"\x01"), 20, 1)
+                longest = max(longest, time.monotonic() - began)
+        lines = pipe.lines(3)
+        told = [int(line.split()[1]) for line in lines if line.startswith("shift ")]
+        left_out = sum(int(line.split()[-1]) for line in lines if line.startswith("lines left out "))
+        gateway.kill()
+    expect(told[:256] == list(range(1, 257)) and left_out > 0, f"{len(told)} lines of shifts, {left_out} left out")
+    with Gateway(program, folder, 2, steps="4") as gateway:
+        pipe, asked = Pipe(), 0
+        begun_unread(gateway, pipe, 3)
+        began = time.monotonic()
+        with Client(b"asker", gateway) as asker:
+            while gateway.process.poll() is None and time.monotonic() - began < 30:
+                asker.send(search())
+                time.sleep(0.05)
+        took, status = time.monotonic() - began, gateway.process.poll()
+        gateway.kill()
+    said = f"the longest answer took {longest:.1f} seconds, {left_out} lines were left out, three shifts ended after {took:.0f} seconds with status {status}"
+    expect(longest < 2 and status == 0, said)
+    return said
+
+
+def threads(program: str, folder: str) -> str:
+    """Shifts of 64 calls: each asks for its threads anew."""
+    with Alone(folder) as alone, Gateway(program, folder, 1, steps="64") as gateway:
+        gateway.start()
+        with Client(b"asker", gateway) as asker:
+            alone.say(1)
+            began, heard = time.monotonic(), 0
+            while time.monotonic() - began < 8:
+                asker.send(search())
+                heard += asker.receive(0.02) is not None
+            alone.say(0)
+            began = time.monotonic()
+            asker.flush()
+            asker.ask(search(), frame(0x02, b"\x01"), 40, 0.5)
+            took = time.monotonic() - began
+            time.sleep(2)
+            before = len(gateway.shifts())
+            for _ in range(200):
+                asker.ask(search(), frame(0x02, b"\x01"), 20, 5)
+            until(lambda: len(gateway.shifts()) > before + 1, 10, "no shift was closed afterwards")
+    said = f"{heard} answers while no thread was made for eight seconds, the next one {took:.1f} seconds afterwards"
+    expect(took < 15, said)
+    return said
+
+
+def in_a_network(program: str, part: str) -> str:
+    """Tries a part in a network of its own, where a sender is not held up by the system's own limit of what may wait to go out."""
+    limit = "/proc/sys/net/core/wmem_max"
+    with open(limit, encoding="ascii") as text:
+        had = text.read()
+    words = f"ip link set lo up && exec {sys.executable} {os.path.abspath(__file__)} {program} {part}"
+    try:
+        with open(limit, "w", encoding="ascii") as text:
+            text.write("8388608")
+        found = subprocess.run(["unshare", "-n", "sh", "-c", words], env={**os.environ, "OWN_NETWORK": "1"}, capture_output=True, text=True, check=False)
+    finally:
+        with open(limit, "w", encoding="ascii") as text:
+            text.write(had)
+    said = found.stdout.strip().split(": ", 1)[-1] or found.stderr.strip()[-200:]
+    expect(found.returncode == 0, said)
+    return said
+
+
+def behind_a_radio(program: str, folder: str) -> tuple:
+    """A network beyond this one, what starts a program there, and who keeps it. What comes from there comes at 10 Mbit/s."""
+    keeper = subprocess.Popen(["unshare", "-n", "sleep", "300"])
+    time.sleep(0.5)
+    there = f"nsenter -t {keeper.pid} -n"
+    for words in (f"ip link add here type veth peer name there netns {keeper.pid}", "ip addr add 10.9.9.2/24 dev here", "ip link set here up",
+                  f"{there} ip link set lo up", f"{there} ip addr add 10.9.9.1/24 dev there", f"{there} ip link set there up",
+                  f"{there} tc qdisc add dev there root tbf rate 10mbit burst 32kb limit 8mb"):
+        subprocess.run(words.split(), check=True)
+    start = os.path.join(folder, "start")
+    with open(start, "w", encoding="ascii") as text:
+        text.write(f'#!/bin/sh\nexec {there} {program} "$@"\n')
+    os.chmod(start, 0o755)
+    return keeper, start
+
+
+def slow(program: str, folder: str) -> str:
+    if not os.environ.get("OWN_NETWORK"):
+        if os.geteuid() != 0 or not shutil.which("tc"):
+            raise LeftOut("it needs root, and tc")
+        return in_a_network(program, "slow")
+    ports = tuple(free_ports(2))
+    sys.modules["gateway"].HOST, Client.host = "10.9.9.1", "10.9.9.2"
+    keeper, start = behind_a_radio(program, folder)
+    try:
+        with Gateway(start, folder, 1, ports, steps="1000", workers="2") as gateway:
+            gateway.start()
+            crowd = [Client(b"c-%d" % one, gateway) for one in range(400)]
+            for client in crowd:
+                client.connect()
+                client.ask(subscribe(b"sl", 1, 0x02), b"\x08\x13")
+            with Client(b"teller", gateway) as teller, Client(b"asker", gateway) as asker:
+                teller.connect()
+                shifts = len(gateway.shifts())
+                teller.send(publish(b"sl", b"." * 1000, 0, 0x02))
+                began = time.monotonic()
+                while len(gateway.shifts()) == shifts and time.monotonic() - began < 20:
+                    asker.send(search())
+                    time.sleep(0.00005)
+                took = time.monotonic() - began
+    finally:
+        keeper.kill()
+        keeper.wait()
+    said = f"a shift of which some 200 calls were left was over {took:.2f} seconds after a message of 1,000 octets was published to 400 clients at 10 Mbit/s"
+    expect(took < 0.2, said)
+    return said
 
 
 # ---- starts
@@ -957,7 +1183,7 @@ def unit(_program: str, folder: str) -> str:
 
 
 PARTS = {"herd": herd, "stall": stall, "hang": hang, "backlog": backlog, "radio": radio, "reopens": reopens, "nobody": nobody,
-         "listens": listens, "alone": alone, "wear": wear, "first": first, "waits": waits,
+         "idle": idle, "unread": unread, "threads": threads, "slow": slow, "listens": listens, "alone": alone, "wear": wear, "first": first, "waits": waits,
          "short": short, "hole": hole, "blocks": blocks, "room": room, "garbage": garbage, "bound": bound, "fence": fence, "ids": ids, "learned": learned,
          "full": full, "zeros": zeros, "begun": begun, "unit": unit}
 

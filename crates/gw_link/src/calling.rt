@@ -74,7 +74,10 @@ pub fn call<T: Wait, R: Replica, D: Disk + Drop>(
         return (pass, Err(End::Full));
     }
     match shift.call(rt, alloc, pass, step) {
-        Ok((pass, out, _)) => (pass, Ok(Ok(out))),
+        Ok((pass, out, number)) => {
+            stage.note_made(number);
+            (pass, Ok(Ok(out)))
+        }
         Err((pass, fault)) => match reached(fault) {
             Ok(refusal) => (pass, Ok(Err(refusal))),
             Err(end) => (pass, Err(end)),

@@ -4,6 +4,7 @@ ghost use Rattle.std.specs.Prelude.{◌≡◌, IfOk};
 ghost use Rattle.gw_link.specs.Adding.{Adds, is_of_link};
 
 use crate::calling::{End, call, drop_refusal};
+use crate::counts::count_told;
 use crate::hearing::second_of;
 use crate::link::Link;
 use crate::outgoing::{is_behind, say, say_spelled, spelled};
@@ -125,6 +126,7 @@ fn say_piece<S: Drop>(
         let octets = spelled(alloc, LinkMessage::Delta(piece))?;
         if fits(octets.len(), count) {
             say_spelled(link, octets)?;
+            count_told(link);
             return Ok(count);
         }
         drop(octets);
@@ -260,7 +262,7 @@ fn take_place<T: Wait, S: Drop>(
     if let Some(place) = link.place {
         return Ok(place);
     }
-    match relay.join(rt, other, link.is_accepted()) {
+    match relay.join(rt, other, link.origin) {
         None => Err(End::Memory),
         Some(place) => {
             link.place = Some(place);
@@ -365,19 +367,23 @@ fn say_digest_of<S: Drop>(
     Ok(())
 }
 
-/// Tells of each delta that the gateway made in this shift and that was not told of.
+/// Tells of each delta that the gateway made in this shift and that was not told of. The next look
+/// goes on after the calls that are known to have made none.
 pub(crate) fn tell_all<T: Wait, R: Replica, D: Disk + Drop, S: Drop>(
     rt: &T,
     alloc: Global,
     shift: &Shift<R, D>,
     pass: &Pass,
     link: &mut Link<S>,
+    stage: &Stage,
     relay: &Relay,
 ) -> Result<(), End> {
     for _ in rt.forever() {
+        let known = stage.made();
         let made = made_after(rt, alloc, shift, pass, link.told)?;
         if made.is_empty() {
             drop(made);
+            link.told = link.told.max(known);
             return Ok(());
         }
         tell_some(rt, alloc, link, made, relay)?;
@@ -415,6 +421,7 @@ fn tell_some<T: Wait, S: Drop>(
         }
         relay.note_made(rt, alloc, number, &delta);
         say(alloc, link, LinkMessage::Delta(delta))?;
+        count_told(link);
         link.told = number;
     }
     Ok(())
@@ -439,6 +446,7 @@ pub(crate) fn hand_all<T: Wait, S: Drop>(
         };
         if goes_on(giver, other, link.linked.as_slice()) {
             hand(alloc, link, &step)?;
+            count_told(link);
         }
     }
     unreachable!()

@@ -28,6 +28,8 @@ pub struct Stage {
     claims: AtomicU64,
     /// How many octets of datagrams, answers, digests and deltas its history keeps.
     kept: AtomicU64,
+    /// The greatest number of a call that the clock or a link has made.
+    made: AtomicU64,
 }
 
 impl Stage {
@@ -39,6 +41,7 @@ impl Stage {
             steps,
             claims: AtomicU64::new(claimed),
             kept: AtomicU64::new(0),
+            made: AtomicU64::new(0),
         }
     }
 
@@ -64,6 +67,16 @@ impl Stage {
         if is_much(before.saturating_add(octets as u64)) {
             self.close(rt);
         }
+    }
+
+    /// A call has this number in the history.
+    pub(crate) fn note_made(&self, number: u64) {
+        let _ = self.made.fetch_max(number, Ordering::SeqCst);
+    }
+
+    /// How many calls the history has at least.
+    pub(crate) fn made(&self) -> u64 {
+        self.made.load(Ordering::SeqCst)
     }
 
     /// How far it is now.

@@ -3,6 +3,7 @@
 ghost use Rattle.gw_link.specs.Adding.{Adds, is_of_link};
 
 use crate::calling::End;
+use crate::counts::counts_of;
 use crate::hearing::{answer, hear_all, listen, second_of};
 use crate::link::Link;
 use crate::outgoing::pump;
@@ -42,6 +43,7 @@ pub fn talk<T: Wait + Clock, R: Replica, D: Disk + Drop, S: Read + Write + Drop>
         let phase = stage.phase(rt);
         let (after, turned) = take_turn(rt, alloc, shift, pass, link, gateway, stage, phase, relay);
         pass = after;
+        relay.note_counts(rt, link.place, link.heard.unwrap_or(0), counts_of(link));
         if let Err(end) = wait_or_listen(rt, alloc, link, piece, stage, phase, turned) {
             return (pass, end);
         }
@@ -67,10 +69,12 @@ fn take_turn<T: Wait + Clock, R: Replica, D: Disk + Drop, S: Write + Drop>(
 {
     let (pass, heard) = hear_in_turn(rt, alloc, shift, pass, link, gateway, stage, relay);
     match heard {
-        Ok(()) | Err(End::Full) => match tell(rt, alloc, shift, &pass, link, phase, relay) {
-            Ok(()) => (pass, heard),
-            Err(end) => (pass, Err(end)),
-        },
+        Ok(()) | Err(End::Full) => {
+            match tell(rt, alloc, shift, &pass, link, stage, phase, relay) {
+                Ok(()) => (pass, heard),
+                Err(end) => (pass, Err(end)),
+            }
+        }
         Err(end) => (pass, Err(end)),
     }
 }
@@ -115,6 +119,7 @@ fn tell<T: Wait, R: Replica, D: Disk + Drop, S: Write + Drop>(
     shift: &Shift<R, D>,
     pass: &Pass,
     link: &mut Link<S>,
+    stage: &Stage,
     phase: Phase,
     relay: &Relay,
 ) -> Result<(), End> {
@@ -123,7 +128,7 @@ fn tell<T: Wait, R: Replica, D: Disk + Drop, S: Write + Drop>(
     }
     // a link begins with its greeting; the answer to the peer's digest has what was made before
     if link.greeted && (link.is_told() || phase == Phase::Quiet) {
-        tell_all(rt, alloc, shift, pass, link, relay)?;
+        tell_all(rt, alloc, shift, pass, link, stage, relay)?;
         hand_all(rt, alloc, link, relay)?;
     }
     if phase == Phase::Quiet && link.stalls > 0 {

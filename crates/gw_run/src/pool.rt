@@ -6,10 +6,17 @@ use gw_relay::is_behind;
 use gw_wire::{FieldClock, Outage};
 use std::alloc::Global;
 use std::sync::atomic::{AtomicU64, Ordering};
-use std::sync::{Mutex, Wait};
+use std::sync::{Condvar, Mutex, Wait};
+use std::time::{Clock, Duration};
 
 /// How many links that others dialled may be open at once.
 pub const MOST_ACCEPTED: usize = 8;
+
+/// The largest piece that is read at once.
+const LARGEST_PIECE: usize = 65_536;
+
+/// How many seconds an empty seat waits for a link before it looks again.
+const A_LOOK: u64 = 5;
 
 #[derive(Drop)]
 struct Links<S: Drop> {
@@ -23,6 +30,10 @@ struct Links<S: Drop> {
     spoken: Vec<bool>,
     /// How many that were accepted are open.
     accepted: usize,
+    /// Whether the gateway makes no more deltas in this shift.
+    is_quiet: bool,
+    /// Room for what is read, of which no seat has need.
+    pieces: Vec<Vec<u8>>,
 }
 
 /// What outlives a shift: the links that wait for a seat, how many are open, and the second in
@@ -30,6 +41,8 @@ struct Links<S: Drop> {
 #[derive(Drop)]
 pub struct Pool<S: Drop> {
     links: Mutex<Links<S>>,
+    /// A link seeks a seat, or the shift is quiet.
+    changed: Condvar,
     /// What the links share.
     pub relay: Relay,
     /// The clock by which the gateway counts: no time passes while it stands still.
@@ -42,6 +55,8 @@ pub struct Pool<S: Drop> {
     /// since; else 0.
     backlog: AtomicU64,
     ticked: AtomicU64,
+    /// How often the clock's thread has begun a round.
+    pub rounds: AtomicU64,
 }
 
 impl<S: Drop> Pool<S> {
@@ -66,13 +81,17 @@ impl<S: Drop> Pool<S> {
                 dialled,
                 spoken,
                 accepted: 0,
+                is_quiet: false,
+                pieces: Vec::new(alloc),
             }),
+            changed: Condvar::new(),
             relay: Relay::new(alloc, allowed),
             clock: FieldClock::new(),
             outage: Outage::none(),
             listening: Listening::new(),
             backlog: AtomicU64::new(0),
             ticked: AtomicU64::new(0),
+            rounds: AtomicU64::new(0),
         })
     }
 
@@ -141,15 +160,54 @@ impl<S: Drop> Pool<S> {
         if put_after(&mut links.waiting, link) {
             note(&mut links, origin, true);
         }
+        self.changed.notify_one();
     }
 
     /// A shift begins: each link that talked to the end of the last one waits for a seat again.
     pub fn begin_shift<T: Wait>(&self, rt: &T) {
         self.relay.begin_shift(rt);
-        let talked = self.links.lock(rt).talked.len();
+        let talked = self.rouse(rt);
         for _ in 0..talked {
             self.seek_seat(rt);
         }
+    }
+
+    /// The shift is not quiet. Says how many links talked to the end of the last one.
+    fn rouse<T: Wait>(&self, rt: &T) -> usize {
+        let mut links = self.links.lock(rt);
+        links.is_quiet = false;
+        links.talked.len()
+    }
+
+    /// The gateway makes no more deltas in this shift: a seat that is empty has nothing to wait for.
+    pub fn be_quiet<T: Wait>(&self, rt: &T) {
+        self.links.lock(rt).is_quiet = true;
+        self.changed.notify_all();
+    }
+
+    /// Waits until a link seeks a seat, or the shift is quiet.
+    pub(crate) fn wait<T: Wait + Clock>(&self, rt: &T) {
+        let (links, _) = self.changed.wait_timeout_while(
+            rt,
+            self.links.lock(rt),
+            Duration::from_secs(A_LOOK),
+            |links| links.waiting.is_empty() && !links.is_quiet,
+        );
+        let _ = links.accepted;
+    }
+
+    /// Room for what is read. `None` if memory runs out.
+    pub(crate) fn piece<T: Wait>(&self, rt: &T, alloc: Global) -> Option<Vec<u8>> {
+        let kept = self.links.lock(rt).pieces.pop();
+        if kept.is_some() {
+            return kept;
+        }
+        Vec::from_elem(alloc, 0u8, LARGEST_PIECE).ok()
+    }
+
+    /// A seat needs its room no more: another link will.
+    pub(crate) fn put_piece<T: Wait>(&self, rt: &T, piece: Vec<u8>) {
+        let _ = self.links.lock(rt).pieces.push(piece);
     }
 
     /// A link that has talked waits for a seat again. Where memory ran out it is closed.

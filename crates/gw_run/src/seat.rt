@@ -4,7 +4,7 @@ ghost use Rattle.std.specs.Prelude.{◌≡◌};
 ghost use Rattle.gw_link.specs.Adding.{Adds, is_of_link};
 
 use crate::pool::Pool;
-use gw_link::{End, Phase, Stage, talk};
+use gw_link::{End, Link, Phase, Stage, talk};
 use gw_shift::{Pass, Shift};
 use jr_disk::Disk;
 use rep_model::Replica;
@@ -12,12 +12,6 @@ use std::alloc::Global;
 use std::io::{Read, Write};
 use std::sync::Wait;
 use std::time::Clock;
-
-/// The largest piece that is read at once.
-const LARGEST_PIECE: usize = 65_536;
-
-/// How many milliseconds an empty seat waits before it looks for a link again.
-const A_LOOK: u64 = 200;
 
 /// A seat for links.
 #[derive(Drop)]
@@ -42,27 +36,11 @@ pub fn sit<T: Wait + Clock, R: Replica, D: Disk + Drop, S: Read + Write + Drop>(
 ) -> Seat
     ensures { Adds is_of_link seat.pass result.pass }
 {
-    let Ok(mut piece) = Vec::from_elem(alloc, 0u8, LARGEST_PIECE) else {
-        stage.close(rt);
-        return Seat {
-            pass: seat.pass,
-            end: Some(End::Memory),
-        };
-    };
-    let (pass, end) = sit_with(
-        rt,
-        alloc,
-        shift,
-        seat.pass,
-        pool,
-        gateway,
-        stage,
-        piece.as_mut_slice(),
-    );
+    let (pass, end) = sit_with(rt, alloc, shift, seat.pass, pool, gateway, stage);
     Seat { pass, end }
 }
 
-/// The same with room for what is read.
+/// The same with the seat's pass.
 #[tactic(auto, using(gw_link::proofs::Adding::adds_more, gw_link::proofs::Adding::adds_none))]
 fn sit_with<T: Wait + Clock, R: Replica, D: Disk + Drop, S: Read + Write + Drop>(
     rt: &T,
@@ -72,7 +50,6 @@ fn sit_with<T: Wait + Clock, R: Replica, D: Disk + Drop, S: Read + Write + Drop>
     pool: &Pool<S>,
     gateway: u8,
     stage: &Stage,
-    piece: &mut [u8],
 ) -> (Pass, Option<End>)
     ensures { Adds is_of_link pass result.0 }
 {
@@ -83,21 +60,10 @@ fn sit_with<T: Wait + Clock, R: Replica, D: Disk + Drop, S: Read + Write + Drop>
             if phase == Phase::Quiet {
                 return (pass, None);
             }
-            stage.wait(rt, phase, A_LOOK);
+            pool.wait(rt);
             continue;
         };
-        link.begin_shift();
-        let (after, end) = talk(
-            rt,
-            alloc,
-            shift,
-            pass,
-            &mut link,
-            gateway,
-            piece,
-            stage,
-            &pool.relay,
-        );
+        let (after, end) = talk_at(rt, alloc, shift, pass, pool, &mut link, gateway, stage);
         pass = after;
         match end {
             End::Full => pool.give_back(rt, link),
@@ -110,4 +76,37 @@ fn sit_with<T: Wait + Clock, R: Replica, D: Disk + Drop, S: Read + Write + Drop>
         }
     }
     unreachable!()
+}
+
+/// Lets a link talk, with room for what it reads.
+#[tactic(auto, using(gw_link::proofs::Adding::adds_none))]
+fn talk_at<T: Wait + Clock, R: Replica, D: Disk + Drop, S: Read + Write + Drop>(
+    rt: &T,
+    alloc: Global,
+    shift: &Shift<R, D>,
+    pass: Pass,
+    pool: &Pool<S>,
+    link: &mut Link<S>,
+    gateway: u8,
+    stage: &Stage,
+) -> (Pass, End)
+    ensures { Adds is_of_link pass result.0 }
+{
+    let Some(mut piece) = pool.piece(rt, alloc) else {
+        return (pass, End::Memory);
+    };
+    link.begin_shift();
+    let (pass, end) = talk(
+        rt,
+        alloc,
+        shift,
+        pass,
+        link,
+        gateway,
+        piece.as_mut_slice(),
+        stage,
+        &pool.relay,
+    );
+    pool.put_piece(rt, piece);
+    (pass, end)
 }

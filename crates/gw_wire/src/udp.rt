@@ -7,7 +7,7 @@ ghost use Rattle.gw_wire.specs.inner.Addresses as spec;
 use super::clock::FieldClock;
 use super::ends::{Arrival, Post, Tally, Unsent, Wire, WireFault};
 use jr_disk::Failures;
-use libc::net::{SO_RCVBUF, SOL_SOCKET, setsockopt};
+use libc::net::{SO_RCVBUF, SO_SNDBUF, SOL_SOCKET, setsockopt};
 use mio::net::UdpSocket;
 use mio::{Events, Interest, Poll, Token};
 use sn_local::Addr;
@@ -29,6 +29,10 @@ const A_REST: u64 = 1;
 /// How many octets the system is asked to keep of datagrams that were not read yet. It keeps less
 /// if its own limit (`net.core.rmem_max`) is less.
 const UNREAD_OCTETS: i32 = 8_388_608;
+
+/// How many octets the system is asked to keep of datagrams that have not gone out yet: no thread
+/// waits for a slow network then. It keeps less if its own limit (`net.core.wmem_max`) is less.
+const UNSENT_OCTETS: i32 = 4_194_304;
 
 /// How often a datagram is offered to the system while that has no room for it: some tens of
 /// milliseconds in all. Where it has none in all that time, those behind are offered once each
@@ -138,13 +142,22 @@ impl Socket {
     }
 }
 
-/// Asks the system to keep more of what was not read yet than it does unasked. Nothing depends on
-/// its answer.
+/// Asks the system to keep more of what was not read yet, and of what has not gone out yet, than it
+/// does unasked. Nothing depends on its answers.
 fn ask_for_room(socket: &UdpSocket) {
-    let mut octets = [0u8; 16];
-    octets[..4].copy_from_slice(&UNREAD_OCTETS.to_ne_bytes());
+    let file = socket.as_raw_fd();
+    let (unread, unsent) = (value_of(UNREAD_OCTETS), value_of(UNSENT_OCTETS));
     // SAFETY: the option is one whose value is four octets without a pointer, and they are there.
-    let _ = unsafe { setsockopt(socket.as_raw_fd(), SOL_SOCKET, SO_RCVBUF, &octets, 4) };
+    let _ = unsafe { setsockopt(file, SOL_SOCKET, SO_RCVBUF, &unread, 4) };
+    // SAFETY: the same holds of this option.
+    let _ = unsafe { setsockopt(file, SOL_SOCKET, SO_SNDBUF, &unsent, 4) };
+}
+
+/// The value of an option that is a number of octets.
+fn value_of(room: i32) -> [u8; 16] {
+    let mut value = [0u8; 16];
+    value[..4].copy_from_slice(&room.to_ne_bytes());
+    value
 }
 
 impl<'a> Ears<'a> {

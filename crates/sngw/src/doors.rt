@@ -1,10 +1,12 @@
 //! How links are made: peers are dialled, others are accepted.
 
+use crate::board::Shared;
 use gw_link::{Link, Origin, Phase, Report, Stage, Trouble};
 use gw_main::options::Settings;
 use gw_relay::next_pause;
 use gw_run::{MOST_ACCEPTED, Pool};
 use gw_wire::{address, moment};
+use octets::NoMemory;
 use sn_local::Addr;
 use std::alloc::Global;
 use std::io::Eprint;
@@ -30,6 +32,9 @@ const A_PAUSE: u64 = 1_000;
 
 /// How many milliseconds pass before it is looked again whether somebody dials.
 const A_LOOK: u64 = 50;
+
+/// What is told if nothing could be sent.
+const NOTHING_SENT: &str = "listen: for a minute nothing could be sent; no time passes for clients";
 
 /// How many lines are told at once.
 const MOST_LINES: usize = 16;
@@ -69,7 +74,7 @@ pub(crate) fn keep_all<T>(
     alloc: Global,
     doors: &mut [Door],
     listener: &TcpListener,
-    pool: &Pool<TcpStream>,
+    shared: &Shared,
     over: &Stage,
 )
 where
@@ -80,8 +85,8 @@ where
     if count > 0 {
         let at = |_place: usize, door: &mut Door| {
             match door.origin {
-                Origin::Accepted => accept_all(rt, alloc, listener, pool, over),
-                Origin::Dialled(_) => dial_all(rt, alloc, *door, pool, over),
+                Origin::Accepted => accept_all(rt, alloc, listener, shared, over),
+                Origin::Dialled(_) => dial_all(rt, alloc, *door, shared, over),
             }
         };
         thread::for_each_mut(rt, doors, count, &at);
@@ -90,10 +95,11 @@ where
 
 /// Dials a peer wherever no link to it is open: at once where the last one worked, and with growing
 /// pauses where it takes the call and does not say its number.
-fn dial_all<T>(rt: &T, alloc: Global, door: Door, pool: &Pool<TcpStream>, over: &Stage)
+fn dial_all<T>(rt: &T, alloc: Global, door: Door, shared: &Shared, over: &Stage)
 where
     T: Wait + Clock + Net<Listener = TcpListener, Stream = TcpStream>,
 {
+    let pool = &shared.pool;
     let mut pause = 0u64;
     let mut left = 0u64;
     let mut has_called = false;
@@ -109,6 +115,9 @@ where
             }
             if left == 0 {
                 has_called = dial(rt, alloc, door, pool);
+                if !has_called {
+                    note_no_dial(shared, door.origin);
+                }
             }
             left = left.saturating_sub(1);
         }
@@ -132,24 +141,37 @@ where
     }
 }
 
-/// Accepts those who dial, as many as may be, and tells the troubles.
+/// Counts a dial of a peer that did not take the call.
+fn note_no_dial(shared: &Shared, origin: Origin) {
+    if let Origin::Dialled(peer) = origin {
+        if let Some(count) = shared.board.dials_failed.get(peer) {
+            count.add();
+        }
+    }
+}
+
+/// Accepts those who dial, as many as may be, and tells the troubles, unless the watcher does.
 fn accept_all<T: Wait + Clock + Eprint>(
     rt: &T,
     alloc: Global,
     listener: &TcpListener,
-    pool: &Pool<TcpStream>,
+    shared: &Shared,
     over: &Stage,
 ) {
+    let pool = &shared.pool;
     for _ in rt.forever() {
         if over.phase(rt) != Phase::Serving {
             return;
         }
-        tell_all(rt, pool);
+        if shared.board.has_watcher.get() == 0 {
+            tell_all(rt, pool);
+        }
         match listener.accept() {
             Ok((stream, _)) => {
                 if pool.may_open(rt, Origin::Accepted) {
                     open(rt, alloc, stream, Origin::Accepted, pool);
                 } else {
+                    shared.board.turned_away.add();
                     pool.relay.note_trouble(rt, Trouble::TurnedAway, 0);
                 }
             }
@@ -178,9 +200,7 @@ fn open<T: Wait>(rt: &T, alloc: Global, stream: TcpStream, origin: Origin, pool:
 /// sent, and those of links.
 fn tell_all<T: Wait + Clock + Eprint>(rt: &T, pool: &Pool<TcpStream>) {
     if pool.outage.is_to_tell(rt) {
-        let _ = eprintln!(rt;
-            "listen: for a minute nothing could be sent; no time passes for clients"
-        );
+        let _ = eprintln!(rt; "{NOTHING_SENT}");
     }
     for _ in 0..MOST_LINES {
         match pool.relay.report(rt, moment(rt)) {
@@ -192,30 +212,65 @@ fn tell_all<T: Wait + Clock + Eprint>(rt: &T, pool: &Pool<TcpStream>) {
 
 /// Tells a trouble.
 fn tell<T: Eprint>(rt: &T, report: Report) {
+    let (first, number, second, count) = words_of(report);
+    let _ = eprintln!(rt; "{first}{number}{second}{count} times");
+}
+
+/// The line that tells a trouble, with its end.
+pub(crate) fn trouble_line(alloc: Global, report: Report) -> Result<String, NoMemory> {
+    let (first, number, second, count) = words_of(report);
+    Ok(format!(in alloc; "{first}{number}{second}{count} times\n")?)
+}
+
+/// The line that tells that nothing could be sent, with its end.
+pub(crate) fn outage_line(alloc: Global) -> Result<String, NoMemory> {
+    Ok(format!(in alloc; "{NOTHING_SENT}\n")?)
+}
+
+/// What a trouble's line has: words, a number, words, and how often it was.
+fn words_of(report: Report) -> (&'static str, u64, &'static str, u64) {
     let Report {
         trouble,
         number,
         count,
     } = report;
-    let _ = match trouble {
-        Trouble::SameNumber => eprintln!(rt;
-            "link: another gateway has the number {number} of this one, and is not linked: {count} times"
+    let number = u64::from(number);
+    match trouble {
+        Trouble::SameNumber => (
+            "link: another gateway has the number ",
+            number,
+            " of this one, and is not linked: ",
+            count,
         ),
-        Trouble::Stranger => eprintln!(rt;
-            "link: gateway {number} is not among numbers, and is not linked: {count} times"
+        Trouble::Stranger => (
+            "link: gateway ",
+            number,
+            " is not among numbers, and is not linked: ",
+            count,
         ),
-        Trouble::Conflict => eprintln!(rt;
-            "link: gateway {number} told what contradicts what is kept, and was refused: {count} times"
+        Trouble::Conflict => (
+            "link: gateway ",
+            number,
+            " told what contradicts what is kept, and was refused: ",
+            count,
         ),
-        Trouble::TooMuch => eprintln!(rt;
-            "link: gateway {number} told more than may be kept, and was refused: {count} times"
+        Trouble::TooMuch => (
+            "link: gateway ",
+            number,
+            " told more than may be kept, and was refused: ",
+            count,
         ),
-        Trouble::TurnedAway => eprintln!(rt;
-            "link: {} that dialled are linked, and another was turned away: {} times",
-            MOST_ACCEPTED, count
+        Trouble::TurnedAway => (
+            "link: ",
+            MOST_ACCEPTED as u64,
+            " that dialled are linked, and another was turned away: ",
+            count,
         ),
-        Trouble::Twice => eprintln!(rt;
-            "link: gateway {number} was linked once more while it was linked: {count} times"
+        Trouble::Twice => (
+            "link: gateway ",
+            number,
+            " was linked once more while it was linked: ",
+            count,
         ),
-    };
+    }
 }

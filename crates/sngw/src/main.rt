@@ -15,6 +15,7 @@
 //! - `ignored`: keys of it that mean nothing where they stand.
 //! - `stop`: why the program ends early (`Stop`).
 //! - `running`: shifts one after the other.
+//! - `lines`: lines that threads of their own print.
 //! - `keeping`: when the journal is written anew, and when a gateway that cannot write tries again.
 //! - `doors`: how links are made: peers are dialled, others are accepted.
 //! - `working`: the threads of one shift.
@@ -22,25 +23,36 @@
 //! - `late`: a datagram that came when its shift had no call left for it.
 //! - `posting`: how replies go out.
 //! - `admission`: which datagrams become calls, and which clients are let in.
+//! - `board`: what is counted for whoever watches the gateway.
+//! - `glancing`: the clients at a glance, once in some seconds.
+//! - `watcher`: the thread that shows the gateway: `gathering` is what is reported, `happenings` are
+//!   the events, and `callers` ask the page.
 #![tactic(auto)]
 
 mod admission;
+mod board;
+mod callers;
 mod doors;
+mod gathering;
+mod glancing;
+mod happenings;
 mod ignored;
 mod keeping;
 mod late;
+mod lines;
 mod posting;
 mod reading;
 mod running;
 mod stop;
 mod watched;
+mod watcher;
 mod words;
 mod working;
 
 use crate::reading::settings_at;
 use crate::running::run;
 use crate::stop::Stop;
-use crate::words::{Asked, asked_by};
+use crate::words::{VERSION, asked_by, asks_version};
 use file_disk::{FileDisk, FileDiskFault};
 use gw_main::begin;
 use gw_main::options::Settings;
@@ -52,7 +64,7 @@ use std::env::Env;
 use std::fs::{File, Files};
 use std::io::{Eprint, Print, Write};
 use std::net::{Net, TcpListener, TcpStream};
-use std::process::ExitCode;
+use std::process::{Abort, ExitCode};
 use std::sync::Wait;
 use std::thread::Threads;
 use std::time::Clock;
@@ -76,10 +88,20 @@ fn main(rt: HostRuntime) -> ExitCode {
 /// Everything that the program does.
 fn start<T, O: Write, E: Write>(rt: &T, alloc: Global, out: &mut O, err: &mut E) -> Result<(), Stop>
 where
-    T: Env + Files<File = File> + Print + Eprint + Threads + Wait + Sync + Clock,
+    T: Env + Files<File = File> + Print + Eprint + Threads + Wait + Sync + Clock + Abort,
     T: Net<Listener = TcpListener, Stream = TcpStream>,
 {
-    let Some(asked) = asked_of(rt, alloc) else {
+    let Some(words) = words_of(rt, alloc) else {
+        return Err(Stop::Arguments);
+    };
+    if asks_version(words.as_slice()) {
+        drop(words);
+        let _ = writeln!(out, "sngw {VERSION}");
+        return Ok(());
+    }
+    let asked = asked_by(alloc, words.as_slice());
+    drop(words);
+    let Some(asked) = asked else {
         return Err(Stop::Arguments);
     };
     let settings = settings_at(rt, alloc, asked.config.as_str(), err);
@@ -101,7 +123,7 @@ fn start_by<T, O: Write, E: Write>(
     err: &mut E,
 ) -> Result<(), Stop>
 where
-    T: Files<File = File> + Print + Eprint + Threads + Wait + Sync + Clock,
+    T: Files<File = File> + Print + Eprint + Threads + Wait + Sync + Clock + Abort,
     T: Net<Listener = TcpListener, Stream = TcpStream>,
 {
     let disk = disk_at(rt, alloc, settings, err)?;
@@ -116,13 +138,13 @@ where
     run(rt, alloc, settings, node, shifts)
 }
 
-/// What the command line asks for.
-fn asked_of<T: Env>(rt: &T, alloc: Global) -> Option<Asked> {
+/// The words of the command line. `None` if memory ran out.
+fn words_of<T: Env>(rt: &T, alloc: Global) -> Option<Vec<String>> {
     let mut words = Vec::new(alloc);
     for word in env::args(&(rt, alloc)).ok()? {
         words.push(word).ok()?;
     }
-    asked_by(alloc, words.as_slice())
+    Some(words)
 }
 
 /// Whether both files are known to have no octets: then there is no journal, and an opening begins

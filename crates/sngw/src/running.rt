@@ -1,24 +1,29 @@
 //! Shifts one after the other.
 
 use crate::admission::Admission;
+use crate::board::{Board, Shared};
 use crate::doors::{Door, doors_of, keep_all};
 use crate::keeping::{Keeper, is_written};
 use crate::late::{Inlet, Late};
+use crate::lines::Lines;
 use crate::posting::Fence;
 use crate::stop::Stop;
+use crate::watcher::show_all;
 use crate::working::{Worked, work};
 use gw_link::{Phase, Stage};
 use gw_main::options::Settings;
 use gw_main::{Tended, number_of, tend};
 use gw_node::Node;
 use gw_run::Pool;
-use gw_wire::{FieldClock, Socket, address};
+use gw_wire::{FieldClock, Socket, address, millisecond};
 use jr_disk::Disk;
 use rep_model::Replica;
+use sn_local::Addr;
 use std::alloc::Global;
 use std::fs::{File, Files};
 use std::io::{Eprint, ErrorKind, Print};
 use std::net::{Net, TcpListener, TcpStream};
+use std::process::Abort;
 use std::sync::{Mutex, Wait};
 use std::thread::Threads;
 use std::time::{Clock, Duration};
@@ -33,7 +38,7 @@ pub(crate) fn run<T, R, D>(
     shifts: u64,
 ) -> Result<(), Stop>
 where
-    T: Threads + Wait + Sync + Clock + Print + Eprint + Files<File = File>,
+    T: Threads + Wait + Sync + Clock + Print + Eprint + Abort + Files<File = File>,
     T: Net<Listener = TcpListener, Stream = TcpStream>,
     R: Replica + Send,
     R::Staged: Send,
@@ -42,6 +47,7 @@ where
     let mut opened = open_all(rt, alloc, settings)?;
     let place = Mutex::new(Some(node));
     let over = Stage::new(0, 0);
+    let lines = Lines::none(alloc);
     let worked = run_beside(
         rt,
         alloc,
@@ -50,9 +56,10 @@ where
         &mut opened.inlet,
         shifts,
         opened.doors.as_mut_slice(),
-        &opened.listener,
-        &opened.pool,
+        &opened.listeners,
+        &opened.shared,
         &over,
+        &lines,
     );
     drop(place);
     drop(opened);
@@ -64,8 +71,17 @@ where
 struct Opened {
     inlet: Inlet,
     doors: Vec<Door>,
-    pool: Pool<TcpStream>,
-    listener: TcpListener,
+    shared: Shared,
+    listeners: Listeners,
+}
+
+/// What the gateway listens at.
+#[derive(Drop)]
+struct Listeners {
+    /// Where other gateways dial.
+    link: TcpListener,
+    /// Where it is watched, if it is.
+    status: Option<TcpListener>,
 }
 
 /// Opens all that a gateway is reached by.
@@ -74,10 +90,8 @@ where
     T: Eprint + Net<Listener = TcpListener, Stream = TcpStream>,
 {
     let socket = socket_of(rt, alloc, settings)?;
-    let listener = listener_of(rt, settings)?;
-    let Some(pool) = Pool::new(alloc, settings.peers.len(), settings.numbers.as_slice()) else {
-        return Err(Stop::Memory);
-    };
+    let listeners = listeners_of(rt, settings)?;
+    let shared = shared_of(alloc, settings)?;
     let Some(doors) = doors_of(alloc, settings) else {
         return Err(Stop::Memory);
     };
@@ -85,8 +99,8 @@ where
     Ok(Opened {
         inlet,
         doors,
-        pool,
-        listener,
+        shared,
+        listeners,
     })
 }
 
@@ -98,14 +112,50 @@ fn socket_of<T: Eprint + Net>(rt: &T, alloc: Global, settings: &Settings) -> Res
     }
 }
 
-/// The listener of links.
-fn listener_of<T>(rt: &T, settings: &Settings) -> Result<TcpListener, Stop>
+/// What the threads of the program share.
+fn shared_of(alloc: Global, settings: &Settings) -> Result<Shared, Stop> {
+    let Some(pool) = Pool::new(alloc, settings.peers.len(), settings.numbers.as_slice()) else {
+        return Err(Stop::Memory);
+    };
+    let Some(board) = Board::of(alloc, settings) else {
+        return Err(Stop::Memory);
+    };
+    Ok(Shared {
+        pool,
+        board,
+        errors: Lines::none(alloc),
+    })
+}
+
+/// The listeners of links and of the page.
+fn listeners_of<T>(rt: &T, settings: &Settings) -> Result<Listeners, Stop>
 where
     T: Eprint + Net<Listener = TcpListener, Stream = TcpStream>,
 {
-    let listener = match TcpListener::bind(rt, address(settings.link)) {
+    let link = listener_at(rt, "link", settings.link)?;
+    match settings.status {
+        None => Ok(Listeners { link, status: None }),
+        Some(at) => match listener_at(rt, "status", at) {
+            Ok(status) => Ok(Listeners {
+                link,
+                status: Some(status),
+            }),
+            Err(stop) => {
+                drop(link);
+                Err(stop)
+            }
+        },
+    }
+}
+
+/// The listener at an address, which this key of the settings names.
+fn listener_at<T>(rt: &T, key: &str, at: Addr) -> Result<TcpListener, Stop>
+where
+    T: Eprint + Net<Listener = TcpListener, Stream = TcpStream>,
+{
+    let listener = match TcpListener::bind(rt, address(at)) {
         Ok(listener) => listener,
-        Err(error) => return Err(no_socket(rt, "link", error.kind())),
+        Err(error) => return Err(no_socket(rt, key, error.kind())),
     };
     if listener.set_nonblocking(true).is_err() {
         return Err(Stop::Socket);
@@ -138,7 +188,8 @@ fn no_socket<T: Eprint>(rt: &T, key: &str, kind: ErrorKind) -> Stop {
     Stop::Socket
 }
 
-/// The shifts beside the doors.
+/// The shifts beside the doors, and beside both what shows the gateway, if it is watched, and what
+/// prints. A thread that cannot be made runs when the others are over, so these two stand first.
 fn run_beside<T, R, D>(
     rt: &T,
     alloc: Global,
@@ -147,47 +198,88 @@ fn run_beside<T, R, D>(
     inlet: &mut Inlet,
     shifts: u64,
     doors: &mut [Door],
-    listener: &TcpListener,
-    pool: &Pool<TcpStream>,
+    listeners: &Listeners,
+    shared: &Shared,
     over: &Stage,
+    lines: &Lines,
 ) -> Result<(), Stop>
 where
-    T: Threads + Wait + Sync + Clock + Print + Eprint + Files<File = File>,
+    T: Threads + Wait + Sync + Clock + Print + Eprint + Abort + Files<File = File>,
     T: Net<Listener = TcpListener, Stream = TcpStream>,
     R: Replica + Send,
     R::Staged: Send,
     D: Disk + Drop + Send,
 {
     let mut keeping = || {
-        keep_all(rt, alloc, doors, listener, pool, over);
+        keep_all(rt, alloc, doors, &listeners.link, shared, over);
+    };
+    let mut showing = || {
+        show_all(rt, alloc, settings, &listeners.status, shared, over);
     };
     let mut shifting = || -> Result<(), Stop> {
-        work_through(rt, alloc, settings, place, inlet, pool, shifts, over)
+        work_through(
+            rt, alloc, settings, place, inlet, shared, shifts, over, lines,
+        )
     };
-    let ((), worked) = thread::join_mut(rt, &mut keeping, &mut shifting);
+    let mut linking = || -> Result<(), Stop> {
+        let ((), worked) = thread::join_mut(rt, &mut keeping, &mut shifting);
+        worked
+    };
+    let mut working = || -> Result<(), Stop> {
+        if shared.board.is_watched {
+            let ((), worked) = thread::join_mut(rt, &mut showing, &mut linking);
+            worked
+        } else {
+            linking()
+        }
+    };
+    let mut printing = || {
+        lines.print_all(rt);
+    };
+    let ((), worked) = thread::join_mut(rt, &mut printing, &mut working);
     worked
 }
 
-/// The shifts, and then the end of the doors.
+/// The shifts, and then the end of the doors. If nobody reads what was printed the program ends all
+/// the same.
 fn work_through<T, R, D>(
     rt: &T,
     alloc: Global,
     settings: &Settings,
     place: &Mutex<Option<Node<R, D>>>,
     inlet: &mut Inlet,
-    pool: &Pool<TcpStream>,
+    shared: &Shared,
     shifts: u64,
     over: &Stage,
+    lines: &Lines,
 ) -> Result<(), Stop>
 where
-    T: Threads + Wait + Sync + Clock + Print + Eprint + Files<File = File>,
+    T: Threads + Wait + Sync + Clock + Print + Eprint + Abort + Files<File = File>,
     R: Replica + Send,
     R::Staged: Send,
     D: Disk + Drop + Send,
 {
-    let worked = work_all(rt, alloc, settings, place, inlet, pool, shifts);
+    let worked = work_all(rt, alloc, settings, place, inlet, shared, shifts, lines);
     over.go_to(rt, Phase::Quiet);
+    let is_heard = shared.errors.end(rt);
+    if !lines.end(rt) || !is_heard {
+        leave(rt, worked, is_heard);
+    }
     worked
+}
+
+/// Ends the program beside a thread that prints and is not done. If nobody reads standard error,
+/// nothing is said there.
+fn leave<T: Eprint + Abort>(rt: &T, worked: Result<(), Stop>, is_heard: bool) {
+    match worked {
+        Ok(()) => rt.exit(0),
+        Err(stop) => {
+            if is_heard {
+                let _ = eprintln!(rt; "sngw: {stop}");
+            }
+            rt.exit(i32::from(stop.status()))
+        }
+    }
 }
 
 /// The shifts, each with a line when it is over. Where the gateway was opened anew in a shift, that
@@ -199,33 +291,35 @@ fn work_all<T, R, D>(
     settings: &Settings,
     place: &Mutex<Option<Node<R, D>>>,
     inlet: &mut Inlet,
-    pool: &Pool<TcpStream>,
+    shared: &Shared,
     shifts: u64,
+    lines: &Lines,
 ) -> Result<(), Stop>
 where
-    T: Threads + Wait + Sync + Clock + Print + Eprint + Files<File = File>,
+    T: Threads + Wait + Sync + Clock + Eprint + Files<File = File>,
     R: Replica + Send,
     R::Staged: Send,
     D: Disk + Drop + Send,
 {
     let mut keeper = Keeper::of(settings.journal.as_str());
-    write_first(rt, alloc, place, inlet, pool, &mut keeper)?;
-    listen_first(rt, settings, pool);
+    write_first(rt, alloc, place, inlet, shared, &mut keeper, lines)?;
+    listen_first(rt, settings, &shared.pool);
     for number in 0..shifts {
         let Some(node) = place.lock(rt).take() else {
             return Ok(());
         };
-        know_clients(alloc, settings, &node, inlet, pool.clock.second());
-        let mut worked = work(rt, alloc, settings, node, inlet, pool, number)?;
+        know_clients(alloc, settings, &node, inlet, shared.pool.clock.second());
+        let mut worked = work(rt, alloc, settings, node, inlet, shared, number)?;
         let ended = end_shift(
             rt,
             alloc,
             settings,
             &mut worked,
             inlet,
-            pool,
+            shared,
             number + 1,
             &mut keeper,
+            lines,
         );
         put_back(rt, place, worked.node);
         ended?;
@@ -240,22 +334,38 @@ fn end_shift<T, R, D>(
     settings: &Settings,
     worked: &mut Worked<R, D>,
     inlet: &mut Inlet,
-    pool: &Pool<TcpStream>,
+    shared: &Shared,
     number: u64,
     keeper: &mut Keeper<'_>,
+    lines: &Lines,
 ) -> Result<(), Stop>
 where
-    T: Wait + Clock + Print + Eprint + Files<File = File>,
+    T: Wait + Clock + Eprint + Files<File = File>,
     R: Replica,
     D: Disk + Drop,
 {
-    if let Some(other) = pool.relay.found_by(rt) {
+    if let Some(other) = shared.pool.relay.found_by(rt) {
         return Err(used(rt, settings.gateway, other));
     }
     let steps = worked.steps;
-    begin_anew(rt, alloc, &worked.node, pool, worked.tended);
-    let _ = println!(rt; "shift {} steps {}", number, steps);
-    go_on(rt, alloc, worked, inlet, pool, keeper)
+    if worked.tended == Tended::Reopened {
+        shared.board.reopened.add();
+    }
+    begin_anew(rt, alloc, &worked.node, &shared.pool, worked.tended, lines);
+    if let Ok(line) = format!(in alloc; "shift {number} steps {steps}") {
+        lines.say(rt, line);
+    }
+    let done = go_on(rt, alloc, worked, inlet, shared, keeper, lines);
+    note_turn(rt, shared, worked.closing, number, steps);
+    done
+}
+
+/// Counts a shift that is over, and how long it took since it had begun to close.
+fn note_turn<T: Clock>(rt: &T, shared: &Shared, closing: u64, number: u64, steps: usize) {
+    let board = &shared.board;
+    board.shift_calls.set(steps as u64);
+    board.turn.note(millisecond(rt).saturating_sub(closing));
+    board.shift.set(number);
 }
 
 /// Puts a gateway into its place.
@@ -274,20 +384,29 @@ fn go_on<T, R, D>(
     alloc: Global,
     worked: &mut Worked<R, D>,
     inlet: &mut Inlet,
-    pool: &Pool<TcpStream>,
+    shared: &Shared,
     keeper: &mut Keeper<'_>,
+    lines: &Lines,
 ) -> Result<(), Stop>
 where
-    T: Wait + Clock + Print + Files<File = File>,
+    T: Wait + Clock + Files<File = File>,
     R: Replica,
     D: Disk + Drop,
 {
     let has_failed = worked.tended == Tended::Reopened || worked.node.is_halted();
+    if has_failed {
+        shared.board.note_failed(rt);
+    }
     if has_failed || (worked.has_written && keeper.is_grown(rt, alloc)) {
-        tend_behind(rt, alloc, &mut worked.node, pool, keeper)?;
+        tend_behind(rt, alloc, &mut worked.node, shared, keeper, lines)?;
     }
     let silence = keeper.silence_after(worked.has_recorded, has_failed);
-    be_silent(rt, inlet, &pool.clock, silence);
+    if silence > 0 {
+        shared.board.halted.set(1);
+        be_silent(rt, inlet, &shared.pool.clock, silence);
+        shared.board.halted.set(0);
+        shared.board.note_failed(rt);
+    }
     Ok(())
 }
 
@@ -332,18 +451,19 @@ fn write_first<T, R, D>(
     alloc: Global,
     place: &Mutex<Option<Node<R, D>>>,
     inlet: &mut Inlet,
-    pool: &Pool<TcpStream>,
+    shared: &Shared,
     keeper: &mut Keeper<'_>,
+    lines: &Lines,
 ) -> Result<(), Stop>
 where
-    T: Wait + Clock + Print + Files<File = File>,
+    T: Wait + Clock + Files<File = File>,
     R: Replica,
     D: Disk + Drop,
 {
     let Some(mut node) = place.lock(rt).take() else {
         return Ok(());
     };
-    let written = write_anew(rt, alloc, &mut node, inlet, pool, keeper);
+    let written = write_anew(rt, alloc, &mut node, inlet, shared, keeper, lines);
     put_back(rt, place, node);
     written
 }
@@ -354,11 +474,12 @@ fn write_anew<T, R, D>(
     alloc: Global,
     node: &mut Node<R, D>,
     inlet: &mut Inlet,
-    pool: &Pool<TcpStream>,
+    shared: &Shared,
     keeper: &mut Keeper<'_>,
+    lines: &Lines,
 ) -> Result<(), Stop>
 where
-    T: Wait + Clock + Print + Files<File = File>,
+    T: Wait + Clock + Files<File = File>,
     R: Replica,
     D: Disk + Drop,
 {
@@ -366,16 +487,19 @@ where
         return Ok(());
     }
     for _ in rt.forever() {
-        let tended = tend_behind(rt, alloc, node, pool, keeper)?;
+        let tended = tend_behind(rt, alloc, node, shared, keeper, lines)?;
         if is_written(tended) {
             keeper.note_written();
+            shared.board.halted.set(0);
             return Ok(());
         }
         if tended == Tended::Starved {
-            tell(rt, alloc, node);
+            tell(rt, alloc, node, lines);
         }
         let silence = keeper.wait_longer();
-        be_silent(rt, inlet, &pool.clock, silence);
+        shared.board.halted.set(1);
+        shared.board.note_failed(rt);
+        be_silent(rt, inlet, &shared.pool.clock, silence);
     }
     unreachable!()
 }
@@ -389,23 +513,25 @@ fn be_silent<T: Clock>(rt: &T, inlet: &mut Inlet, clock: &FieldClock, seconds: u
 }
 
 /// Tends the gateway after a shift.
-fn tend_behind<T, R, D, S>(
+fn tend_behind<T, R, D>(
     rt: &T,
     alloc: Global,
     node: &mut Node<R, D>,
-    pool: &Pool<S>,
+    shared: &Shared,
     keeper: &mut Keeper<'_>,
+    lines: &Lines,
 ) -> Result<Tended, Stop>
 where
-    T: Wait + Print + Files<File = File>,
+    T: Wait + Clock + Files<File = File>,
     R: Replica,
     D: Disk + Drop,
-    S: Drop,
 {
     let before = keeper.lengths(rt, alloc);
+    let began = millisecond(rt);
     match tend(alloc, node) {
         Ok(tended) => {
-            begin_anew(rt, alloc, node, pool, tended);
+            note_tended(shared, tended, millisecond(rt).saturating_sub(began));
+            begin_anew(rt, alloc, node, &shared.pool, tended, lines);
             keeper.note_tended(rt, alloc, before, tended);
             Ok(tended)
         }
@@ -413,29 +539,58 @@ where
     }
 }
 
+/// Counts what became of a gateway that was tended in so many milliseconds.
+fn note_tended(shared: &Shared, tended: Tended, milliseconds: u64) {
+    let board = &shared.board;
+    board.compaction.note(milliseconds);
+    match tended {
+        Tended::Kept => board.compacted.add(),
+        Tended::Starved => board.not_compacted.add(),
+        Tended::Reopened => {
+            board.compacted.add();
+            board.reopened_between.add();
+        }
+        Tended::Unwritten => {
+            board.not_compacted.add();
+            board.reopened_between.add();
+        }
+    }
+}
+
 /// Where a gateway was opened anew, how it stands is printed as at the start, and the links are
 /// closed: it may have read what it never told, and over a new link the other end asks for that.
-fn begin_anew<T, R, D, S>(rt: &T, alloc: Global, node: &Node<R, D>, pool: &Pool<S>, tended: Tended)
+fn begin_anew<T, R, D, S>(
+    rt: &T,
+    alloc: Global,
+    node: &Node<R, D>,
+    pool: &Pool<S>,
+    tended: Tended,
+    lines: &Lines,
+)
 where
-    T: Wait + Print,
+    T: Wait,
     R: Replica,
     D: Disk + Drop,
     S: Drop,
 {
     if tended == Tended::Reopened || tended == Tended::Unwritten {
         pool.close_all(rt);
-        tell(rt, alloc, node);
+        tell(rt, alloc, node, lines);
     }
 }
 
 /// Prints how the gateway stands. Where memory runs out the line is let go.
-fn tell<T: Print, R: Replica, D: Disk + Drop>(rt: &T, alloc: Global, node: &Node<R, D>) {
-    if let Ok(clients) = node.clients(alloc) {
-        let _ = println!(rt;
-            "gateway {} records {} clients {}",
-            node.gateway(),
-            node.records(),
-            clients.len()
-        );
+fn tell<T: Wait, R: Replica, D: Disk + Drop>(
+    rt: &T,
+    alloc: Global,
+    node: &Node<R, D>,
+    lines: &Lines,
+) {
+    let Ok(clients) = node.clients(alloc) else {
+        return;
+    };
+    let (gateway, records, count) = (node.gateway(), node.records(), clients.len());
+    if let Ok(line) = format!(in alloc; "gateway {gateway} records {records} clients {count}") {
+        lines.say(rt, line);
     }
 }
