@@ -144,11 +144,11 @@ def rows_of(name: str) -> dict[str, str]:
 
 
 def rows_that_end_well() -> list[dict[str, str]]:
-    """Scripts that were not refused, with what they printed."""
+    """Scripts that were not refused, with what they printed, but for those that are too long for the page."""
     scripts, outputs = rows_of("stdin"), rows_of("stdout")
     ended = "status 0\n"
     return [{"name": name, "script": script, "output": outputs[name].removesuffix(ended)} for name, script in scripts.items()
-            if outputs[name].endswith(ended)]
+            if outputs[name].endswith(ended) and script.count("\n") <= 1200 and outputs[name].count("\n") <= 3000]
 
 
 def story_faults(page: str, rows: list[dict[str, str]]) -> list[str]:

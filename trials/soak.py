@@ -744,10 +744,11 @@ class Field:
 
 
 def views(look: str, gateway: Gateway):
-    """What a gateway's journal shows of each client. Nothing where a record is just being written."""
+    """What a gateway's journal shows of each client and each topic. Nothing where a record is just being written."""
     done = subprocess.run([look, "--json", gateway.journal], capture_output=True, check=False, timeout=120)
     try:
-        return json.loads(done.stdout)["clients"] if done.returncode == 0 else None
+        shown = json.loads(done.stdout) if done.returncode == 0 else None
+        return shown and shown["clients"] + shown["topics"]
     except (ValueError, KeyError):
         return None
 
@@ -759,12 +760,12 @@ def alike(field: Field, look: str) -> bool:
 
 
 def differences(field: Field, look: str) -> str:
-    """The first client that is not the same everywhere, and how the gateways show it."""
-    shown = [{each["client"]: each for each in views(look, gateway) or []} for gateway in field.gateways]
-    for client in sorted(set().union(*shown)):
-        found = [json.dumps(each.get(client)) for each in shown]
+    """The first client or topic that is not the same everywhere, and how the gateways show it."""
+    shown = [{next(iter(each.items())): each for each in views(look, gateway) or []} for gateway in field.gateways]
+    for kind, name in sorted(set().union(*shown)):
+        found = [json.dumps(each.get((kind, name))) for each in shown]
         if len(set(found)) > 1:
-            return f"client {bytes.fromhex(client).decode(errors='replace')}: " + " // ".join(text[:600] for text in found)
+            return f"{kind} {bytes.fromhex(name).decode(errors='replace')}: " + " // ".join(text[:600] for text in found)
     return "they are the same now"
 
 
