@@ -423,7 +423,7 @@ fn ask<'a, T: Wait>(
     let Some(OpenShift { shift, pass, seat }) = side.open.take() else {
         return Err(Stop::Line);
     };
-    let (pass, answered) = call(rt, alloc, &shift, pass, step, &place.stage);
+    let (pass, answered) = call(rt, alloc, &shift, pass, step, place.stage());
     put_back(side, OpenShift { shift, pass, seat });
     let printed = print_asked(alloc, text, side.number, &answered);
     drop(answered);
@@ -513,7 +513,7 @@ fn talk_over<'a, T: Wait + Clock>(
     let Some(OpenShift { shift, pass, seat }) = side.open.take() else {
         return Err(Stop::Line);
     };
-    let stage = &tie.place.stage;
+    let stage = tie.place.stage();
     stage.go_to(rt, phase);
     let (seat, end) = talk(
         rt,
@@ -626,7 +626,7 @@ fn sit_with<'a, T: Wait + Clock>(
     if is_closed(rt, &side.pool, origin) {
         return Err(Stop::Memory);
     }
-    let end = serve_seat(rt, alloc, side, &tie.place.stage)?;
+    let end = serve_seat(rt, alloc, side, tie.place.stage())?;
     print_said(rt, alloc, text, side.number, tie)?;
     if let Some(end) = end {
         print_end(text, side.number, end)?;
@@ -728,6 +728,7 @@ fn open_next<'a, T: Wait>(alloc: Global, side: &mut Side<'a, T>, over: Over) -> 
 fn begin_links<'a, T: Wait>(side: &mut Side<'a, T>) -> Result<(), Stop> {
     for _ in 0..side.ties.len() {
         let mut tie = take_first(side)?;
+        tie.place.turn();
         if let Some(link) = &mut tie.link {
             link.begin_shift();
         }

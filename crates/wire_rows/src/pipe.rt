@@ -8,10 +8,16 @@ use std::mem;
 use std::sync::atomic::{AtomicBool, AtomicU64, Ordering};
 use std::sync::{Mutex, Wait};
 
-/// One end of a link: how far its shift is, what has come to it, and what it has said.
+/// One end of a link: how far its shifts are, what has come to it, and what it has said.
 #[derive(Drop)]
 pub(crate) struct Place {
-    pub(crate) stage: Stage,
+    /// How far each of its shifts is: of the first, the second, the third, and of one after that.
+    first: Stage,
+    second: Stage,
+    third: Stage,
+    later: Stage,
+    /// How many shifts are over.
+    turns: AtomicU64,
     /// What came and was not read yet, a write each.
     coming: Mutex<VecDeque<Vec<u8>>>,
     /// What it has said, and nobody was told.
@@ -25,16 +31,35 @@ pub(crate) struct Place {
 }
 
 impl Place {
-    /// An end of which nothing has come and nothing was said, in a shift of 4,096 calls.
+    /// An end of which nothing has come and nothing was said, in shifts of 4,096 calls.
     pub(crate) fn new(alloc: Global) -> Place {
         Place {
-            stage: Stage::new(4_096, 0),
+            first: Stage::new(4_096, 0),
+            second: Stage::new(4_096, 0),
+            third: Stage::new(4_096, 0),
+            later: Stage::new(4_096, 0),
+            turns: AtomicU64::new(0),
             coming: Mutex::new(VecDeque::new(alloc)),
             said: Mutex::new(Vec::new(alloc)),
             idle: AtomicU64::new(0),
             takes: AtomicU64::new(65_536),
             is_short: AtomicBool::new(false),
         }
+    }
+
+    /// How far the shift is.
+    pub(crate) fn stage(&self) -> &Stage {
+        match self.turns.load(Ordering::SeqCst) {
+            0 => &self.first,
+            1 => &self.second,
+            2 => &self.third,
+            _ => &self.later,
+        }
+    }
+
+    /// The next shift begins.
+    pub(crate) fn turn(&self) {
+        let _ = self.turns.fetch_add(1, Ordering::SeqCst);
     }
 
     /// So many reads that find nothing come before the one that ends the next shift.
@@ -69,7 +94,7 @@ impl Place {
     fn rest<T: Wait>(&self, rt: &T) {
         let idle = self.idle.load(Ordering::SeqCst);
         if idle == 0 {
-            self.stage.go_to(rt, Phase::Quiet);
+            self.stage().go_to(rt, Phase::Quiet);
         }
         self.idle.store(idle.saturating_sub(1), Ordering::SeqCst);
     }
