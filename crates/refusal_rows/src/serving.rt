@@ -2,16 +2,15 @@
 
 ghost use Rattle.std.specs.Prelude.{◌≤◌, ◌+◌, length, IfSome};
 
-use crate::calls::stop_of;
+use crate::calls::{Calls, play_call};
 use crate::said::{Said, Stop};
-use crate::shifts::begun;
+use crate::shifts::{Shared, begun};
 use gw_serve::{Cause, serve};
 use gw_shift::{Pass, Shift};
 use gw_wire::{Arrival, OpenGate, Post, Tally, Unsent, Wire, WireFault};
 use jr_journal::{Disk, Failures};
 use rep_model::Replica;
 use sn_local::Addr;
-use std::alloc::Global;
 use std::mem;
 use std::sync::Wait;
 use std::thread::{self, Threads};
@@ -93,30 +92,30 @@ impl Post for Mute {
     }
 }
 
+/// A shift that is served, and the system whose threads serve.
+#[derive(Drop)]
+struct Served<'a, T: Wait + Threads + Sync> {
+    rt: &'a T,
+    shift: Shared,
+    passes: Vec<Pass>,
+}
+
 /// Plays the row.
-pub(crate) fn play<T: Wait + Threads + Sync>(
-    rt: &T,
-    alloc: Global,
-    said: &mut Said,
-) -> Result<(), Stop> {
-    let (shift, mut passes) = begun(alloc)?;
-    for _ in 0..2 {
-        match serve_once(rt, alloc, said, &shift, &mut passes) {
-            Ok(()) => return Ok(()),
-            Err(stop) => said.count(stop)?,
-        }
+pub(crate) fn play_row<T: Wait + Threads + Sync>(rt: &T, said: &mut Said, call: &str) {
+    if let Some((shift, passes)) = begun(said) {
+        let mut served = Served { rt, shift, passes };
+        play_call(said, &mut served, call);
     }
-    Err(Stop::Other)
+}
+
+impl<'a, T: Wait + Threads + Sync> Calls for Served<'a, T> {
+    fn call_once(&mut self, said: &mut Said, _call: &str) {
+        serve_once(self.rt, said, &self.shift, &mut self.passes);
+    }
 }
 
 /// Serves the datagram with one worker.
-fn serve_once<T, R, D>(
-    rt: &T,
-    alloc: Global,
-    said: &mut Said,
-    shift: &Shift<R, D>,
-    passes: &mut Vec<Pass>,
-) -> Result<(), Stop>
+fn serve_once<T, R, D>(rt: &T, said: &mut Said, shift: &Shift<R, D>, passes: &mut Vec<Pass>)
 where
     T: Threads + Wait + Sync,
     R: Replica + Send,
@@ -124,26 +123,23 @@ where
     D: Disk + Drop + Send,
 {
     let mut wire = Brief::new();
-    let given = mem::replace(passes, Vec::new(alloc));
+    let given = mem::replace(passes, Vec::new(said.alloc));
     if given.is_empty() {
-        return Err(Stop::Other);
+        return said.stop(Stop::Other);
     }
-    match serve(rt, alloc, shift, given, &mut wire, &Mute, &OpenGate, 200) {
+    match serve(
+        rt, said.alloc, shift, given, &mut wire, &Mute, &OpenGate, 200,
+    ) {
         Ok(served) => {
             said.number("passes", served.passes.len());
             said.number("taken", served.taken.len());
             said.number("left", served.left.len());
-            Ok(())
+            said.answer();
         }
         Err(fault) => {
             *passes = fault.passes;
-            Err(look(said, fault.cause, passes.len()))
+            said.keep(passes.len() == 1);
+            said.refuse(fault.cause == Cause::Memory);
         }
     }
-}
-
-/// Looks at why serving ended early: the pass is back.
-fn look(said: &mut Said, cause: Cause, passes: usize) -> Stop {
-    said.keep(passes == 1);
-    stop_of(&cause, &Cause::Memory)
 }

@@ -1,12 +1,12 @@
 //! From a datagram to a frame (MQTT-SN 1.2 sections 5.2 and 5.4).
 
-ghost use Rattle.std.specs.Prelude.{◌≡◌, ◌≢◌, ◌⊎◌, IfOk, IfErr, IsTrue, Ok, Err};
+ghost use Rattle.std.specs.Prelude.{◌≡◌, ◌≢◌, ◌∷◌, ◌⊎◌, IfOk, IfErr, IsTrue, Ok, Err, false, option_map};
 ghost use Rattle.sn_frame.specs.declared.frame.Frame.{Frame};
 ghost use Rattle.sn_frame.specs.declared.fault.FrameFault.TheVariants as frame_faults;
 ghost use Rattle.sn_frame.specs.Bodies.{IsValue, is_light};
 ghost use Rattle.sn_frame.specs.Faults.{IsPlain, IsFirstFault};
 ghost use Rattle.sn_frame.specs.Grammar.{IsFramed, Spells};
-ghost use Rattle.sn_frame.specs.inner.Reading.{copies, frame_of, Gives, WantsFor};
+ghost use Rattle.sn_frame.specs.inner.Reading.{copies, frame_of, frame_of_id, frame_of_octet, has_string, read_number, read_octet, Gives, WantsFor, WantsNone};
 
 use crate::fault::FrameFault;
 use crate::frame::Frame;
@@ -52,11 +52,22 @@ fn open(bytes: &[u8]) -> Result<(u8, &[u8]), FrameFault>
     ensures ok { IfOk result (λ x. IsPlain bytes.now × IsFramed bytes.now x.0 x.1.now) }
     ensures fault { IfErr result (λ e. (e ≢ FrameFault.Memory) × IsFirstFault bytes.now e) }
 {
-    let held = bytes.len();
     match bytes {
         [] => Err(FrameFault::Empty),
-        [1, _, _, ENCAPSULATED, ..] => Err(FrameFault::Encapsulated),
-        [1, high, low, kind, body @ ..] => {
+        [1, rest @ ..] => open_long(rest),
+        [said, rest @ ..] => open_short(*said, rest),
+    }
+}
+
+/// The same behind the 1 that a Length of three octets begins with.
+fn open_long(rest: &[u8]) -> Result<(u8, &[u8]), FrameFault>
+    ensures ok { IfOk result (λ x. IsPlain (1 ∷ rest.now) × IsFramed (1 ∷ rest.now) x.0 x.1.now) }
+    ensures fault { IfErr result (λ e. (e ≢ FrameFault.Memory) × IsFirstFault (1 ∷ rest.now) e) }
+{
+    let held = rest.len() + 1;
+    match rest {
+        [_, _, ENCAPSULATED, ..] => Err(FrameFault::Encapsulated),
+        [high, low, kind, body @ ..] => {
             let said = number(*high, *low);
             if usize::from(said) == held {
                 Ok((*kind, body))
@@ -64,77 +75,47 @@ fn open(bytes: &[u8]) -> Result<(u8, &[u8]), FrameFault>
                 Err(FrameFault::Length { said, held })
             }
         }
-        [1, high, low] => Err(FrameFault::Length {
+        [high, low] => Err(FrameFault::Length {
             said: number(*high, *low),
             held,
         }),
-        [1, ..] => Err(FrameFault::Length { said: 1, held }),
-        [_, ENCAPSULATED, ..] => Err(FrameFault::Encapsulated),
-        [said, kind, body @ ..] => {
-            let said = u16::from(*said);
-            if usize::from(said) == held {
-                Ok((*kind, body))
-            } else {
-                Err(FrameFault::Length { said, held })
-            }
-        }
-        [said] => Err(FrameFault::Length {
-            said: u16::from(*said),
-            held,
-        }),
+        _ => Err(FrameFault::Length { said: 1, held }),
     }
 }
 
-/// The message of this type with this body.
+/// The same behind a Length of one octet.
+fn open_short(said: u8, rest: &[u8]) -> Result<(u8, &[u8]), FrameFault>
+    requires { said ≢ 1 }
+    ensures ok { IfOk result (λ x. IsPlain (said ∷ rest.now)
+        × IsFramed (said ∷ rest.now) x.0 x.1.now) }
+    ensures fault { IfErr result (λ e. (e ≢ FrameFault.Memory)
+        × IsFirstFault (said ∷ rest.now) e) }
+{
+    let said = u16::from(said);
+    let held = rest.len() + 1;
+    match rest {
+        [ENCAPSULATED, ..] => Err(FrameFault::Encapsulated),
+        [kind, body @ ..] if usize::from(said) == held => Ok((*kind, body)),
+        _ => Err(FrameFault::Length { said, held }),
+    }
+}
+
+/// The message of this type with this body. Those that may have an octet string are read here.
 fn message(alloc: Global, msg_type: MsgType, body: &[u8]) -> Result<Frame, FrameFault>
     ensures gives { Gives (frame_of msg_type body.now) result }
     ensures light { WantsFor (copies msg_type body.now) result }
 {
     match msg_type {
-        MsgType::Advertise => advertise(body),
-        MsgType::SearchGw => Ok(Frame::SearchGw {
-            radius: one_octet(body)?,
-        }),
         MsgType::GwInfo => gw_info(alloc, body),
         MsgType::Connect => connect(alloc, body),
-        MsgType::ConnAck => Ok(Frame::ConnAck {
-            code: one_octet(body)?,
-        }),
-        MsgType::WillTopicReq => bare(body, Frame::WillTopicReq),
         MsgType::WillTopic => Ok(Frame::WillTopic {
             will: optional_will(alloc, body)?,
         }),
-        MsgType::WillMsgReq => bare(body, Frame::WillMsgReq),
         MsgType::WillMsg => Ok(Frame::WillMsg {
             message: Octets::from_slice(alloc, body)?,
         }),
         MsgType::Register => register(alloc, body),
-        MsgType::RegAck => {
-            let (topic_id, msg_id, code) = ids_and_code(body)?;
-            Ok(Frame::RegAck {
-                topic_id,
-                msg_id,
-                code,
-            })
-        }
         MsgType::Publish => publish(alloc, body),
-        MsgType::PubAck => {
-            let (topic_id, msg_id, code) = ids_and_code(body)?;
-            Ok(Frame::PubAck {
-                topic_id,
-                msg_id,
-                code,
-            })
-        }
-        MsgType::PubComp => Ok(Frame::PubComp {
-            msg_id: one_number(body)?,
-        }),
-        MsgType::PubRec => Ok(Frame::PubRec {
-            msg_id: one_number(body)?,
-        }),
-        MsgType::PubRel => Ok(Frame::PubRel {
-            msg_id: one_number(body)?,
-        }),
         MsgType::Subscribe => {
             let (flags, msg_id, topic) = subscription(alloc, body)?;
             Ok(Frame::Subscribe {
@@ -143,7 +124,6 @@ fn message(alloc: Global, msg_type: MsgType, body: &[u8]) -> Result<Frame, Frame
                 topic,
             })
         }
-        MsgType::SubAck => sub_ack(body),
         MsgType::Unsubscribe => {
             let (flags, msg_id, topic) = subscription(alloc, body)?;
             Ok(Frame::Unsubscribe {
@@ -152,23 +132,80 @@ fn message(alloc: Global, msg_type: MsgType, body: &[u8]) -> Result<Frame, Frame
                 topic,
             })
         }
-        MsgType::UnsubAck => Ok(Frame::UnsubAck {
-            msg_id: one_number(body)?,
-        }),
         MsgType::PingReq => ping_req(alloc, body),
-        MsgType::PingResp => bare(body, Frame::PingResp),
-        MsgType::Disconnect => disconnect(body),
         MsgType::WillTopicUpd => Ok(Frame::WillTopicUpd {
             will: optional_will(alloc, body)?,
-        }),
-        MsgType::WillTopicResp => Ok(Frame::WillTopicResp {
-            code: one_octet(body)?,
         }),
         MsgType::WillMsgUpd => Ok(Frame::WillMsgUpd {
             message: Octets::from_slice(alloc, body)?,
         }),
-        MsgType::WillMsgResp => Ok(Frame::WillMsgResp {
-            code: one_octet(body)?,
-        }),
+        _ => light_message(msg_type, body),
+    }
+}
+
+/// The message of a type that has no octet string.
+fn light_message(msg_type: MsgType, body: &[u8]) -> Result<Frame, FrameFault>
+    requires { has_string msg_type ≡ false }
+    ensures gives { Gives (frame_of msg_type body.now) result }
+    ensures light { WantsNone result }
+{
+    match msg_type {
+        MsgType::Advertise => advertise(body),
+        MsgType::WillTopicReq => bare(body, Frame::WillTopicReq),
+        MsgType::WillMsgReq => bare(body, Frame::WillMsgReq),
+        MsgType::PingResp => bare(body, Frame::PingResp),
+        MsgType::Disconnect => disconnect(body),
+        MsgType::SearchGw | MsgType::ConnAck | MsgType::WillTopicResp | MsgType::WillMsgResp =>
+            of_octet(msg_type, body),
+        MsgType::PubComp | MsgType::PubRec | MsgType::PubRel | MsgType::UnsubAck => {
+            of_id(msg_type, body)
+        }
+        MsgType::RegAck => {
+            let (topic_id, msg_id, code) = ids_and_code(body)?;
+            Ok(Frame::RegAck {
+                topic_id,
+                msg_id,
+                code,
+            })
+        }
+        MsgType::PubAck => {
+            let (topic_id, msg_id, code) = ids_and_code(body)?;
+            Ok(Frame::PubAck {
+                topic_id,
+                msg_id,
+                code,
+            })
+        }
+        _ => sub_ack(body),
+    }
+}
+
+/// The message of this type, of those that hold one octet.
+fn of_octet(msg_type: MsgType, body: &[u8]) -> Result<Frame, FrameFault>
+    ensures gives { Gives (option_map (λ octet. frame_of_octet msg_type octet)
+        (read_octet body.now)) result }
+    ensures light { WantsNone result }
+{
+    let code = one_octet(body)?;
+    match msg_type {
+        MsgType::SearchGw => Ok(Frame::SearchGw { radius: code }),
+        MsgType::ConnAck => Ok(Frame::ConnAck { code }),
+        MsgType::WillTopicResp => Ok(Frame::WillTopicResp { code }),
+        _ => Ok(Frame::WillMsgResp { code }),
+    }
+}
+
+/// The message of this type, of those that hold a message id alone.
+fn of_id(msg_type: MsgType, body: &[u8]) -> Result<Frame, FrameFault>
+    ensures gives { Gives (option_map (λ msg_id. frame_of_id msg_type msg_id)
+        (read_number body.now)) result }
+    ensures light { WantsNone result }
+{
+    let msg_id = one_number(body)?;
+    match msg_type {
+        MsgType::PubComp => Ok(Frame::PubComp { msg_id }),
+        MsgType::PubRec => Ok(Frame::PubRec { msg_id }),
+        MsgType::PubRel => Ok(Frame::PubRel { msg_id }),
+        _ => Ok(Frame::UnsubAck { msg_id }),
     }
 }

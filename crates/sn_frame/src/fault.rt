@@ -6,6 +6,7 @@ ghost use Rattle.sn_frame.specs.declared.fault.EncodeFault.TheVariants as encode
 
 use octets::NoMemory;
 use std::alloc::AllocError;
+use std::fmt;
 use thiserror::Error;
 
 /// Why a datagram was refused: the first cause in the order Empty, Encapsulated, Length,
@@ -13,23 +14,17 @@ use thiserror::Error;
 #[derive(Debug, Drop, PartialEq, Eq, Error)]
 pub enum FrameFault {
     /// No octet is there.
-    #[error("the datagram is empty")]
     Empty,
     /// The total that Length says is not the datagram's size, or has no room for a MsgType. `said`
     /// is 1 where the first octet is 01 and fewer than three octets are there.
-    #[error("Length says {said} octets in all and the datagram has {held}: both must be equal, with room for MsgType")]
     Length { said: u16, held: usize },
     /// MsgType is FE.
-    #[error("the datagram is a forwarder's encapsulation (MsgType fe), which is not supported")]
     Encapsulated,
     /// MsgType is none that MQTT-SN 1.2 section 5.2.2 lists.
-    #[error("MsgType {value:02x} is no message of MQTT-SN 1.2")]
     UnknownType { value: u8 },
     /// The octets after MsgType are too few or too many for the message.
-    #[error("the octets behind MsgType have a size that this message does not allow")]
     Body,
     /// A copy of the message's octets could not be made.
-    #[error("out of memory")]
     Memory,
 }
 
@@ -37,14 +32,11 @@ pub enum FrameFault {
 #[derive(Debug, Drop, PartialEq, Eq, Error)]
 pub enum EncodeFault {
     /// The frame has more octets than its Length can say.
-    #[error("the frame has more than 65535 octets, the most that Length can say")]
     TooLong,
     /// A field has a size that the message does not allow: the id of CONNECT or PINGREQ, or the
     /// topic of SUBSCRIBE or UNSUBSCRIBE.
-    #[error("a field of the frame has a size that its message does not allow")]
     Body,
     /// There was no room to write in.
-    #[error("out of memory")]
     Memory,
 }
 
@@ -63,6 +55,47 @@ impl FrameFault {
             FrameFault::Body => 5,
             FrameFault::Memory => 6,
         }
+    }
+}
+
+impl fmt::Display for FrameFault {
+    /// Says what is wrong with the datagram.
+    fn fmt<W: fmt::Write>(&self, f: &mut fmt::Formatter<W>) -> fmt::Result {
+        let words = match self {
+            FrameFault::Empty => "the datagram is empty",
+            FrameFault::Length { said, held } => {
+                return write!(
+                    f,
+                    "Length says {said} octets in all and the datagram has {held}: both must be equal, with room for MsgType"
+                );
+            }
+            FrameFault::Encapsulated => {
+                "the datagram is a forwarder's encapsulation (MsgType fe), which is not supported"
+            }
+            FrameFault::UnknownType { value } => {
+                return write!(f, "MsgType {value:02x} is no message of MQTT-SN 1.2");
+            }
+            FrameFault::Body => {
+                "the octets behind MsgType have a size that this message does not allow"
+            }
+            FrameFault::Memory => "out of memory",
+        };
+        f.write_str(words)
+    }
+}
+
+impl fmt::Display for EncodeFault {
+    /// Says why the frame was not written.
+    fn fmt<W: fmt::Write>(&self, f: &mut fmt::Formatter<W>) -> fmt::Result {
+        f.write_str(match self {
+            EncodeFault::TooLong => {
+                "the frame has more than 65535 octets, the most that Length can say"
+            }
+            EncodeFault::Body => {
+                "a field of the frame has a size that its message does not allow"
+            }
+            EncodeFault::Memory => "out of memory",
+        })
     }
 }
 

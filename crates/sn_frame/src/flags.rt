@@ -3,7 +3,7 @@
 ghost use Rattle.std.specs.Prelude.{◌≡◌, ◌↔◌, IsTrue, IsBitSet};
 
 /// How often a publication is to arrive.
-#[derive(Clone, Copy, Debug, PartialEq, Eq)]
+#[derive(Clone, Copy, PartialEq, Eq)]
 pub enum Qos {
     /// At most once.
     Zero,
@@ -16,7 +16,7 @@ pub enum Qos {
 }
 
 /// What a topic field holds.
-#[derive(Clone, Copy, Debug, PartialEq, Eq)]
+#[derive(Clone, Copy, PartialEq, Eq)]
 pub enum TopicIdType {
     /// An id that was registered, or a name in SUBSCRIBE and UNSUBSCRIBE.
     Normal,
@@ -45,7 +45,7 @@ impl TopicIdType {
 }
 
 /// The bit fields as read. Bits that a message does not use are kept.
-#[derive(Clone, Copy, Debug, PartialEq, Eq)]
+#[derive(Clone, Copy, PartialEq, Eq)]
 pub struct Flags {
     /// The octet.
     pub bits: u8,

@@ -7,7 +7,7 @@ use octets::Octets;
 pub const MAX_FRAME: usize = 65_535;
 
 /// The topic and the flags of a will (MQTT-SN 1.2 section 5.4.7).
-#[derive(Debug, Drop, PartialEq, Eq)]
+#[derive(Drop, PartialEq, Eq)]
 pub struct Will {
     /// QoS and Retain of the will's publication.
     pub flags: Flags,
@@ -17,7 +17,7 @@ pub struct Will {
 
 /// A message (MQTT-SN 1.2 section 5.4). Durations are in seconds, and `code` is a return code: 0
 /// accepted, 1 congestion, 2 invalid topic id, 3 not supported.
-#[derive(Debug, Drop, PartialEq, Eq)]
+#[derive(Drop, PartialEq, Eq)]
 pub enum Frame {
     /// A gateway says that it is there, and when it will say so again.
     Advertise {

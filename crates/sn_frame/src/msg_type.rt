@@ -5,7 +5,7 @@ ghost use Rattle.sn_frame.specs.declared.msg_type.MsgType.{MsgType};
 ghost use Rattle.sn_frame.specs.Types.{octet_of};
 
 /// Which message a frame holds. Forwarder encapsulation is none of them.
-#[derive(Clone, Copy, Debug, PartialEq, Eq)]
+#[derive(Clone, Copy, PartialEq, Eq)]
 pub enum MsgType {
     /// A gateway says that it is there (section 5.4.1).
     Advertise,

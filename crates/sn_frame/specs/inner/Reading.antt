@@ -51,6 +51,35 @@ copies types.WillTopicUpd body = has_octets body
 copies types.WillMsgUpd body = true
 copies msg_type body = false
 
+-- whether messages of this type may have an octet string
+abbrev pub has_string : MsgType → Bool
+has_string types.GwInfo = true
+has_string types.Connect = true
+has_string types.WillTopic = true
+has_string types.WillMsg = true
+has_string types.Register = true
+has_string types.Publish = true
+has_string types.Subscribe = true
+has_string types.Unsubscribe = true
+has_string types.PingReq = true
+has_string types.WillTopicUpd = true
+has_string types.WillMsgUpd = true
+has_string msg_type = false
+
+-- the message of this type, of those that hold one octet
+abbrev pub frame_of_octet : MsgType → ℕ → Frame
+frame_of_octet types.SearchGw octet = frames.SearchGw octet
+frame_of_octet types.ConnAck octet = frames.ConnAck octet
+frame_of_octet types.WillTopicResp octet = frames.WillTopicResp octet
+frame_of_octet msg_type octet = frames.WillMsgResp octet
+
+-- the message of this type, of those that hold a message id alone
+abbrev pub frame_of_id : MsgType → ℕ → Frame
+frame_of_id types.PubComp msg_id = frames.PubComp msg_id
+frame_of_id types.PubRec msg_id = frames.PubRec msg_id
+frame_of_id types.PubRel msg_id = frames.PubRel msg_id
+frame_of_id msg_type msg_id = frames.UnsubAck msg_id
+
 -- the number in two octets
 abbrev pub number : ℕ → ℕ → ℕ
 number high low = high * 256 + low

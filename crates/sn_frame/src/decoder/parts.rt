@@ -25,7 +25,10 @@ pub(super) fn bare(body: &[u8], frame: Frame) -> Result<Frame, FrameFault>
 {
     match body {
         [] => Ok(frame),
-        _ => Err(FrameFault::Body),
+        _ => {
+            drop(frame);
+            Err(FrameFault::Body)
+        }
     }
 }
 

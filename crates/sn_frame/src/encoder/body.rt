@@ -2,7 +2,7 @@
 
 ghost use Rattle.std.specs.Prelude.{◌≡◌, ◌≢◌, ◌<◌, ◌++◌, ◌↔◌, OnOk, OnErr, Err, IsTrue};
 ghost use Rattle.sn_frame.specs.declared.frame.TheConstants.{MAX_FRAME};
-ghost use Rattle.sn_frame.specs.Bodies.{IsMessage, body_of, type_of};
+ghost use Rattle.sn_frame.specs.Bodies.{IsMessage, body_of, is_light, type_of};
 ghost use Rattle.sn_frame.specs.Grammar.{IsFramed, spelling, total_of};
 ghost use Rattle.sn_frame.specs.Types.{octet_of};
 
@@ -29,7 +29,7 @@ pub(super) fn is_message(frame: &Frame) -> bool
 }
 
 /// Appends the canonical spelling of a frame, or nothing. The frame's octet string, where it has
-/// one, is lent and copied once.
+/// one, is lent and copied once. Frames that have one are written here.
 pub(super) fn append_frame(out: &mut Vec<u8>, frame: &Frame) -> Result<(), EncodeFault>
     ensures ok { OnOk result (out.new.items ≡ out.old.items ++ spelling frame.now) }
     ensures framed { OnOk result (IsFramed (spelling frame.now) (octet_of (type_of frame.now))
@@ -39,13 +39,6 @@ pub(super) fn append_frame(out: &mut Vec<u8>, frame: &Frame) -> Result<(), Encod
     ensures err { OnErr result (out.new.items ≡ out.old.items) }
 {
     match frame {
-        Frame::WillTopicReq | Frame::WillMsgReq | Frame::PingResp => {
-            append_spelling(out, frame, &[], &[])
-        }
-        Frame::Advertise { gateway, duration } => {
-            append_spelling(out, frame, &advertise(*gateway, *duration), &[])
-        }
-        Frame::SearchGw { radius } => append_spelling(out, frame, &[*radius], &[]),
         Frame::GwInfo { gateway, address } => {
             append_spelling(out, frame, &[*gateway], address.as_slice())
         }
@@ -58,13 +51,9 @@ pub(super) fn append_frame(out: &mut Vec<u8>, frame: &Frame) -> Result<(), Encod
             let front = connect(*flags, *protocol, *duration);
             append_spelling(out, frame, &front, client.as_slice())
         }
-        Frame::ConnAck { code } | Frame::WillTopicResp { code } | Frame::WillMsgResp { code } => {
-            append_spelling(out, frame, &[*code], &[])
+        Frame::WillTopic { will: Some(will) } | Frame::WillTopicUpd { will: Some(will) } => {
+            append_spelling(out, frame, &[will.flags.bits], will.topic.as_slice())
         }
-        Frame::WillTopic { will } | Frame::WillTopicUpd { will } => match will {
-            None => append_spelling(out, frame, &[], &[]),
-            Some(will) => { append_spelling(out, frame, &[will.flags.bits], will.topic.as_slice()) }
-        },
         Frame::WillMsg { message } | Frame::WillMsgUpd { message } => {
             append_spelling(out, frame, &[], message.as_slice())
         }
@@ -73,16 +62,6 @@ pub(super) fn append_frame(out: &mut Vec<u8>, frame: &Frame) -> Result<(), Encod
             msg_id,
             name,
         } => append_spelling(out, frame, &ids(*topic_id, *msg_id), name.as_slice()),
-        Frame::RegAck {
-            topic_id,
-            msg_id,
-            code,
-        }
-        | Frame::PubAck {
-            topic_id,
-            msg_id,
-            code,
-        } => append_spelling(out, frame, &ids_and_code(*topic_id, *msg_id, *code), &[]),
         Frame::Publish {
             flags,
             topic,
@@ -92,10 +71,6 @@ pub(super) fn append_frame(out: &mut Vec<u8>, frame: &Frame) -> Result<(), Encod
             let front = publish(*flags, *topic, *msg_id);
             append_spelling(out, frame, &front, body.as_slice())
         }
-        Frame::PubComp { msg_id }
-        | Frame::PubRec { msg_id }
-        | Frame::PubRel { msg_id }
-        | Frame::UnsubAck { msg_id } => append_spelling(out, frame, &octets_of(*msg_id), &[]),
         Frame::Subscribe {
             flags,
             msg_id,
@@ -106,6 +81,46 @@ pub(super) fn append_frame(out: &mut Vec<u8>, frame: &Frame) -> Result<(), Encod
             msg_id,
             topic,
         } => append_spelling(out, frame, &subscription(*flags, *msg_id), topic.as_slice()),
+        Frame::PingReq { client } => append_spelling(out, frame, &[], client.as_slice()),
+        _ => append_light(out, frame),
+    }
+}
+
+/// The same for frames without an octet string.
+fn append_light(out: &mut Vec<u8>, frame: &Frame) -> Result<(), EncodeFault>
+    requires { IsTrue (is_light frame.now) }
+    ensures ok { OnOk result (out.new.items ≡ out.old.items ++ spelling frame.now) }
+    ensures framed { OnOk result (IsFramed (spelling frame.now) (octet_of (type_of frame.now))
+        (body_of frame.now)) }
+    ensures body { result ≢ Err EncodeFault.Body }
+    ensures too_long { (result ≡ Err EncodeFault.TooLong) ↔ (MAX_FRAME < total_of frame.now) }
+    ensures err { OnErr result (out.new.items ≡ out.old.items) }
+{
+    match frame {
+        Frame::Advertise { gateway, duration } => {
+            append_spelling(out, frame, &advertise(*gateway, *duration), &[])
+        }
+        Frame::SearchGw { radius: octet }
+        | Frame::ConnAck { code: octet }
+        | Frame::WillTopicResp { code: octet }
+        | Frame::WillMsgResp { code: octet } => append_spelling(out, frame, &[*octet], &[]),
+        Frame::RegAck {
+            topic_id,
+            msg_id,
+            code,
+        }
+        | Frame::PubAck {
+            topic_id,
+            msg_id,
+            code,
+        } => append_spelling(out, frame, &ids_and_code(*topic_id, *msg_id, *code), &[]),
+        Frame::PubComp { msg_id: number }
+        | Frame::PubRec { msg_id: number }
+        | Frame::PubRel { msg_id: number }
+        | Frame::UnsubAck { msg_id: number }
+        | Frame::Disconnect {
+            duration: Some(number),
+        } => append_spelling(out, frame, &octets_of(*number), &[]),
         Frame::SubAck {
             flags,
             topic_id,
@@ -115,10 +130,6 @@ pub(super) fn append_frame(out: &mut Vec<u8>, frame: &Frame) -> Result<(), Encod
             let front = sub_ack(*flags, *topic_id, *msg_id, *code);
             append_spelling(out, frame, &front, &[])
         }
-        Frame::PingReq { client } => append_spelling(out, frame, &[], client.as_slice()),
-        Frame::Disconnect { duration } => match duration {
-            None => append_spelling(out, frame, &[], &[]),
-            Some(duration) => append_spelling(out, frame, &octets_of(*duration), &[]),
-        },
+        _ => append_spelling(out, frame, &[], &[]),
     }
 }
