@@ -1,7 +1,8 @@
 //! Lines about a disk, and a gateway that is opened on it.
 
-use crate::fields::{gateway, number};
-use crate::printing::print_slot;
+use crate::fields::{client, gateway, number};
+use crate::names::{Names, octets};
+use crate::printing::{print_glimpse, print_slot};
 use crate::stop::Stop;
 use gw_node::{Node, NodeFault};
 use jr_journal::{MemoryDisk, Slot};
@@ -203,4 +204,41 @@ pub(crate) fn state<R: Replica>(
     };
     let count = clients.len();
     Ok(writeln!(text, "records {records}, halted: {halted}, clients {count}")?)
+}
+
+/// `glance MOST OCTETS ..`: the clients above these octets, at most so many.
+pub(crate) fn glance<R: Replica>(
+    alloc: Global,
+    text: &mut String,
+    names: &Names,
+    node: &Node<R, MemoryDisk>,
+    fields: &[&str],
+) -> Result<(), Stop> {
+    let Some((most, rest)) = fields.split_first() else {
+        return Err(Stop::Line);
+    };
+    let most = usize::from(number(most)?);
+    let above = octets(alloc, names, rest)?;
+    let Ok(found) = node.glance(alloc, above.as_slice(), most) else {
+        return Err(Stop::Memory);
+    };
+    for glimpse in found.as_slice() {
+        print_glimpse(text, glimpse)?;
+    }
+    Ok(())
+}
+
+/// `known CLIENT GATEWAY`: how many messages of a gateway are known for a client.
+pub(crate) fn known<R: Replica>(
+    alloc: Global,
+    text: &mut String,
+    node: &Node<R, MemoryDisk>,
+    fields: &[&str],
+) -> Result<(), Stop> {
+    let [name, origin] = fields else {
+        return Err(Stop::Line);
+    };
+    let client = client(alloc, name)?;
+    let count = node.messages_known(&client, gateway(origin)?);
+    Ok(writeln!(text, "messages {count}")?)
 }

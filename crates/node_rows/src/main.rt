@@ -29,6 +29,8 @@
 //!   sync fails.
 //! - `slots`: the octets of both slots.
 //! - `state`: the records of its opening, whether it has halted, and how many clients it knows.
+//! - `glance MOST OCTETS ..`: the clients above these octets at a glance, at most so many.
+//! - `known CLIENT GATEWAY`: how many messages of a gateway are known for a client.
 //!
 //! Calls of the gateway, each with its answer:
 //!

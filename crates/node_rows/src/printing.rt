@@ -3,6 +3,7 @@
 use crate::stop::Stop;
 use gw_net::{LinkFault, LinkMessage};
 use gw_node::{Answer, NodeFault, Out};
+use gw_report::{Glimpse, presence_word};
 use jr_journal::{Disk, MemoryDisk, Slot};
 use rep_digest::{Digest, RetainedEntry};
 use rep_model::ClientView;
@@ -206,4 +207,41 @@ pub(crate) fn print_fault(text: &mut String, fault: Option<LinkFault>) -> Result
         None => Ok(()),
         Some(fault) => Ok(writeln!(text, "fault: {fault}")?),
     }
+}
+
+/// A client at a glance.
+pub(crate) fn print_glimpse(text: &mut String, glimpse: &Glimpse) -> Result<(), AllocError> {
+    let id = Digits(glimpse.client.bytes());
+    let (prefix, waiting) = (glimpse.prefix, glimpse.waiting);
+    write!(text, "client {id}")?;
+    if let Some(stamp) = glimpse.stamp {
+        let (epoch, gateway) = (stamp.epoch, stamp.gateway);
+        write!(text, ", stamp {epoch}.{gateway}")?;
+    }
+    write!(text, ", changes {prefix}, waiting {waiting}")?;
+    if let Some(first) = glimpse.first {
+        let (seq, origin) = (first.seq, first.origin);
+        write!(text, ", first {seq}.{origin}")?;
+    }
+    print_glimpsed(text, glimpse)?;
+    text.push('\n')
+}
+
+/// The session of a client at a glance, and what the gateway alone knows.
+fn print_glimpsed(text: &mut String, glimpse: &Glimpse) -> Result<(), AllocError> {
+    if let Some(session) = glimpse.session {
+        let word = presence_word(session.presence);
+        let (seconds, topics) = (session.duration, session.topics);
+        let (filters, received) = (session.subscriptions, session.received);
+        write!(
+            text,
+            ", {word} {seconds}, topics {topics}, filters {filters}"
+        )?;
+        write!(text, ", received {received}")?;
+    }
+    if let Some(local) = glimpse.local {
+        let (port, heard, tries) = (local.address.port, local.heard, local.tries);
+        write!(text, ", at 0:{port}, heard {heard}, tries {tries}")?;
+    }
+    Ok(())
 }

@@ -3,7 +3,7 @@
 use crate::asking::ask;
 use crate::calls::{call_once, call_thrice};
 use crate::deliveries;
-use crate::gateways::{Store, empty, fail, open, opened, slots, state};
+use crate::gateways::{Store, empty, fail, glance, known, open, opened, slots, state};
 use crate::links::{beginnings, digest, feed, say, within};
 use crate::names::Names;
 use crate::stop::Stop;
@@ -81,6 +81,8 @@ fn play_opened<R: Replica>(
     match *first {
         "state" => state(alloc, text, node),
         "ask" => ask(alloc, text, names, node, rest),
+        "glance" => glance(alloc, text, names, node, rest),
+        "known" => known(alloc, text, node, rest),
         "deliver" | "resend" | "hear" | "meaning" => {
             deliveries::play(alloc, text, node, names, first, rest)
         }

@@ -4,7 +4,7 @@ use crate::said::{Said, Stop};
 use std::alloc::Global;
 
 /// The calls whose rows make two of them.
-const TWICE: [&str; 11] = [
+const TWICE: [&str; 12] = [
     "decode",
     "encode",
     "digest_of",
@@ -16,6 +16,7 @@ const TWICE: [&str; 11] = [
     "LinkIn::feed",
     "link_out",
     "settings",
+    "page",
 ];
 
 /// The calls of some rows, with what they need.

@@ -73,6 +73,7 @@ impl<R: Replica> Calls for Gateways<R> {
             "Node::held" => given(alloc, said, self.node.held(alloc), NoMemory),
             "Node::clients" => given(alloc, said, self.node.clients(alloc), NoMemory),
             "Node::retained" => given(alloc, said, self.node.retained(alloc), NoMemory),
+            "Node::glance" => given(alloc, said, self.node.glance(alloc, b"", 9), NoMemory),
             "Node::step" => {
                 let answer = called_thrice(alloc, said, &mut self.node, &self.step);
                 self.look(alloc, said, answer)

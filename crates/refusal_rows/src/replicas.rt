@@ -3,6 +3,7 @@
 use crate::calls::{Calls, Shown, asked, beside, given, stop_of};
 use crate::deltas::{FIRST, client, delta, spelled};
 use crate::said::{Said, Stop};
+use gw_report::Glimpse;
 use rep_model::{ClientView, Replica, TakeFault};
 use rep_ops::{ClientId, Delta, OpsFault, Retained};
 use sn_topic::{Filter, TopicName};
@@ -112,6 +113,16 @@ impl Shown for Vec<(TopicName, Retained)> {
         for (topic, retained) in self.as_slice() {
             said.octets(topic.bytes());
             said.octets(retained.body.as_slice());
+        }
+        Ok(())
+    }
+}
+
+/// Prints the ids of clients at a glance.
+impl Shown for Vec<Glimpse> {
+    fn show(self, _alloc: Global, said: &mut Said) -> Result<(), Stop> {
+        for glimpse in self.as_slice() {
+            said.octets(glimpse.client.bytes());
         }
         Ok(())
     }

@@ -10,6 +10,7 @@ use crate::journals::{Disks, Journals};
 use crate::links::Links;
 use crate::locals::Locals;
 use crate::replicas::Replicas;
+use crate::reports::Reports;
 use crate::said::{Said, Stop};
 use crate::serving;
 use crate::sessions::Sessions;
@@ -94,13 +95,19 @@ pub(crate) const ROWS: &str = "
     gw_node::Node::held
     gw_node::Node::clients
     gw_node::Node::retained
+    gw_node::Node::glance
     gw_world::run
     gw_play::play
     gw_shift::Shift::open
     gw_shift::Shift::call
     gw_shift::Shift::after
+    gw_shift::Shift::glance
+    gw_shift::Shift::messages_known
+    gw_tally::tally
     gw_net::LinkIn::feed
     gw_net::link_out
+    gw_page::page
+    gw_page::entry
     gw_main::settings
     gw_main::begin
     file_disk::FileDisk::at
@@ -126,6 +133,10 @@ where
         "gw_shift::Shift::open" => play::<Shifts>(alloc, said, "Shift::open"),
         "gw_shift::Shift::call" => shifts::play(rt, alloc, said, "Shift::call"),
         "gw_shift::Shift::after" => shifts::play(rt, alloc, said, "Shift::after"),
+        "gw_shift::Shift::glance" => shifts::play(rt, alloc, said, "Shift::glance"),
+        "gw_shift::Shift::messages_known" => {
+            shifts::play(rt, alloc, said, "Shift::messages_known")
+        }
         "file_disk::FileDisk::at" => daemon::play_files(rt, alloc, said),
         "gw_serve::serve" => serving::play(rt, alloc, said),
         _ => play_named(alloc, said, name),
@@ -161,6 +172,7 @@ fn play_high(alloc: Global, said: &mut Said, home: &str, call: &str) -> Result<(
         "jr_journal" => play::<Journals>(alloc, said, call),
         "gw_world" | "gw_play" => play::<Worlds>(alloc, said, call),
         "gw_net" => play::<Links>(alloc, said, call),
+        "gw_page" | "gw_tally" => play::<Reports>(alloc, said, call),
         "gw_main" => play::<Starts>(alloc, said, call),
         _ => play_both(alloc, said, home, call),
     }

@@ -6,6 +6,7 @@ use crate::said::{Said, Stop};
 use gw_node::{NodeFault, Step};
 use gw_shift::{CallFault, Pass, Shift, ShiftFault};
 use jr_journal::MemoryDisk;
+use octets::NoMemory;
 use rep_state::Folded;
 use std::alloc::Global;
 use std::mem;
@@ -108,8 +109,39 @@ fn play_at<W: Wait>(
     match call {
         "Shift::call" => call_again(rt, alloc, said, work, &step),
         "Shift::after" => call_before(rt, alloc, said, work, step),
+        "Shift::glance" => glance_again(rt, alloc, said, work),
+        "Shift::messages_known" => know_again(rt, alloc, said, work),
         _ => Err(Stop::Row),
     }
+}
+
+/// Looks at the clients, and looks again if that is refused memory.
+fn glance_again<W: Wait>(rt: &W, alloc: Global, said: &mut Said, work: &Work) -> Result<(), Stop> {
+    for _ in 0..2 {
+        match work.shift.glance(rt, alloc, b"", 9) {
+            Ok(found) => {
+                said.number("clients", found.len());
+                return Ok(());
+            }
+            Err(NoMemory) => said.count(Stop::Refused)?,
+        }
+    }
+    Err(Stop::Other)
+}
+
+/// Asks how many messages are known, and asks again if that is refused memory.
+fn know_again<W: Wait>(rt: &W, alloc: Global, said: &mut Said, work: &Work) -> Result<(), Stop> {
+    let clients = beside(work.shift.glance(rt, alloc, b"", 9))?;
+    for _ in 0..2 {
+        match work.shift.messages_known(rt, alloc, clients.as_slice(), 1) {
+            Ok(counts) => {
+                said.number("counts", counts.len());
+                return Ok(());
+            }
+            Err(NoMemory) => said.count(Stop::Refused)?,
+        }
+    }
+    Err(Stop::Other)
 }
 
 /// Makes a call through a shift beside the row, and asks for the deltas that it made.

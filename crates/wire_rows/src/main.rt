@@ -50,14 +50,25 @@
 //! - `sit GATEWAY`: its first link talks so at a seat; and then it is closed.
 //! - `turn GATEWAY`: its shift is closed, and the next one begins.
 //! - `takes GATEWAY COUNT`: its first stream takes so many octets at once, and at 0 no more.
-//! - `idle GATEWAY COUNT`: so many reads of its first link find nothing before the one that ends its
-//!   next `talk`.
+//! - `idle GATEWAY COUNT`: so many reads of its first link find nothing before the one that ends
+//!   its next `talk`.
 //! - `come GATEWAY OCTETS`: octets come over its first link that the other end has not said.
 //! - `meet`: plays these, in their order, in one thread.
 //!
 //! Printed are answers, each message that has gone out whole, and of those to gateway 3 that they
 //! are, why a link stopped before the shift's end, whether 1 may dial again, and of a closed shift
 //! the number of calls and the clients.
+//!
+//! The page of a gateway. The report is made up: its numbers count up, and each event is there once
+//! (`reports`). After a `page` its clients are gone:
+//!
+//! - `client OCTETS`, `stranger OCTETS`: it has a client of this id, of which all is known, or
+//!   nothing.
+//! - `ill`: its clock is late, it is halted, and a write failed.
+//! - `page METHOD PATH`, `page OCTETS`: what is answered to `METHOD PATH HTTP/1.0` and an empty
+//!   line, or to these octets, with `\r` for a carriage return; before it `may grow`, if further
+//!   octets may change the answer.
+//! - `entries`: each event, for the journal of the system.
 //!
 //! - `row`: what the lines of a row have brought about (`Row`), and the play of one more.
 //! - `fields`: numbers and octets of a line.
@@ -69,6 +80,7 @@
 //! - `printing`: what is printed of that.
 //! - `meeting`: gateways that meet.
 //! - `pipe`: the stream between two of them.
+//! - `pages`, `reports`: the page of a gateway, and its report.
 //! - `stop`: why a line is not played.
 #![tactic(auto)]
 
@@ -77,8 +89,10 @@ mod loopback;
 mod meeting;
 mod options;
 mod outside;
+mod pages;
 mod pipe;
 mod printing;
+mod reports;
 mod row;
 mod serving;
 mod stop;

@@ -82,7 +82,20 @@ fn print_others(text: &mut String, read: &Settings) -> Result<(), AllocError> {
     for number in read.numbers.as_slice() {
         write!(text, " number {number}")?;
     }
+    print_shown(text, read)?;
     text.push('\n')
+}
+
+/// How the gateway is seen, if it is.
+fn print_shown(text: &mut String, read: &Settings) -> Result<(), AllocError> {
+    if let Some(at) = read.status {
+        print_address(text, "status", at)?;
+    }
+    if read.log > 0 {
+        let level = read.log;
+        write!(text, " log {level}")?;
+    }
+    Ok(())
 }
 
 /// Addresses, each after a word.

@@ -5,7 +5,9 @@ use crate::loopback::{Questions, over_sockets};
 use crate::meeting::{Deed, meet, read_deed};
 use crate::options::{begin_on, files, show};
 use crate::outside::{Hold, Note, Outside};
+use crate::pages;
 use crate::printing::{print_calls, print_count, print_notes, print_outcome, print_over};
+use crate::reports::{Sketch, blank};
 use crate::serving::{Gateway, Outcome, Over, Shared, close, serve_all, shift_of};
 use crate::stop::Stop;
 use crate::wire::{Coming, Told};
@@ -29,6 +31,8 @@ pub(crate) struct Row {
     /// The gateway, where one is open.
     node: Option<Gateway>,
     plan: Plan,
+    /// What it says of a report.
+    sketch: Sketch,
 }
 
 /// What the next serving is given.
@@ -51,6 +55,7 @@ pub(crate) fn begin(alloc: Global) -> Row {
         toml: String::new(alloc),
         node: None,
         plan: default_plan(alloc),
+        sketch: blank(alloc),
     }
 }
 
@@ -101,6 +106,9 @@ fn play_settings<T: Files<File = File>>(
         ["settings"] => show(alloc, text, row.toml.as_str()),
         ["files", octets] => play_files(rt, alloc, text, row.toml.as_str(), octets),
         ["lose", name] => lose(rt, name),
+        ["page" | "entries" | "client" | "stranger" | "ill", ..] => {
+            pages::play(alloc, text, &mut row.sketch, words)
+        }
         _ => play_plan(alloc, &mut row.plan, words),
     }
 }
