@@ -2,6 +2,7 @@
 
 use super::disk::{follow_fault, follow_restart, is_written, may_go_on};
 use super::field::{Field, Played, added};
+use super::moments::{is_late, moments_differ};
 use super::seat::{Seat, are_same, has_vanished};
 use gw_world::{Answer, Event, Out};
 use octets::{NoMemory, Sequence};
@@ -29,6 +30,12 @@ pub(crate) enum What {
     Records,
     /// A message that waited waits no more, and was not acknowledged.
     Vanished,
+    /// A message has another moment than its step gives.
+    Moment,
+    /// A message is acknowledged before its moment.
+    Early,
+    /// A message waits on after its moment.
+    Late,
     /// Gateways that exchanged what they have do not have the same.
     Sets,
     /// Gateways that have the same do not show the same.
@@ -58,6 +65,9 @@ impl What {
             What::Halted => "a gateway goes on after a failed write, or stops before one",
             What::Records => "a journal has not the records that it must have",
             What::Vanished => "a message waits no more that was not acknowledged",
+            What::Moment => "a message has not the moment of its step",
+            What::Early => "a message expires before its moment",
+            What::Late => "a message waits on after its moment",
             What::Sets => "gateways have exchanged all and have not the same",
             What::Apart => "gateways have the same and do not show the same",
         }
@@ -100,7 +110,7 @@ pub(crate) fn delta_at(played: &Played, number: u64) -> Option<&Delta> {
 }
 
 /// The views of an answer.
-fn views_at(played: &Played, at: usize) -> Option<&Sequence<(ClientId, ClientView)>> {
+pub(crate) fn views_at(played: &Played, at: usize) -> Option<&Sequence<(ClientId, ClientView)>> {
     match played.answers.as_slice().get(at)? {
         Answer::Views(views, _) => Some(views),
         Answer::Node(_) | Answer::Records(_) | Answer::Nothing => None,
@@ -159,6 +169,9 @@ impl Seats {
             Answer::Views(views, topics) => {
                 if !seat.retains(topics.as_slice()) {
                     return Ok(Some(What::Retained));
+                }
+                if is_late(events, played, at, views.as_slice()) {
+                    return Ok(Some(What::Late));
                 }
                 follow_views(alloc, seat, played, at, views.as_slice())
             }
@@ -254,6 +267,9 @@ fn follow_out(
     let Some(delta) = delta_at(played, number) else {
         return Ok(Some(What::Stopped));
     };
+    if let Some(what) = moments_differ(seat, played, event, out, delta) {
+        return Ok(Some(what));
+    }
     if seat.take(alloc, delta)? {
         is_written(alloc, seat, event, Some(delta))
     } else {

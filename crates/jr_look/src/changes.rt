@@ -1,7 +1,7 @@
 //! Operations in words.
 
 use crate::clients::{exchange, session, will};
-use crate::shown::{Body, Name};
+use crate::shown::{Body, Moment, Name};
 use rep_ops::{Op, Put, Retained};
 use sn_session::{Message, Outbound, Presence, SessionOp, WillTopic};
 use sn_tables::QosLevel;
@@ -73,9 +73,10 @@ pub(crate) fn waiting(text: &mut String, put: &Put) -> Result<(), AllocError> {
     let topic = Name(put.topic.bytes());
     let body = Body(put.body.as_slice());
     let later = later_words(put.retain);
+    let moment = Moment(put.expires);
     writeln!(
         text,
-        "waits for message {seq} of gateway {origin}: {topic} qos {qos}, {body}{later}"
+        "waits for message {seq} of gateway {origin}: {topic} qos {qos}, {body}{later}{moment}"
     )
 }
 

@@ -2,7 +2,7 @@
 
 use crate::changes::presence_word;
 use crate::clients::phase_word;
-use crate::shown::Quoted;
+use crate::shown::{MomentMember, Quoted};
 use rep_ops::{ClientId, Op, Put, Retained};
 use sn_session::{Message, Outbound, Presence, Session, SessionOp, Will, WillTopic};
 use sn_tables::QosLevel;
@@ -101,9 +101,10 @@ pub(crate) fn waiting(text: &mut String, put: &Put) -> Result<(), AllocError> {
     let topic = Quoted(put.topic.bytes());
     let body = Quoted(put.body.as_slice());
     let later = later_members(put.retain);
+    let moment = MomentMember(put.expires);
     write!(
         text,
-        "\"origin\":{origin},\"seq\":{seq},\"topic\":{topic},\"qos\":{qos},\"body\":{body}{later}"
+        "\"origin\":{origin},\"seq\":{seq},\"topic\":{topic},\"qos\":{qos},\"body\":{body}{later}{moment}"
     )
 }
 

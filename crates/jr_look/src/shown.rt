@@ -65,3 +65,31 @@ impl fmt::Display for Body<'_> {
         write!(f, "octets {count}: {digits}..")
     }
 }
+
+/// The moment from which on a message need not wait, as words after others; nothing for 0.
+#[derive(Clone, Copy)]
+pub(crate) struct Moment(pub u64);
+
+/// The same, as a member after others.
+#[derive(Clone, Copy)]
+pub(crate) struct MomentMember(pub u64);
+
+impl fmt::Display for Moment {
+    fn fmt<W: fmt::Write>(&self, f: &mut fmt::Formatter<W>) -> fmt::Result {
+        let expires = self.0;
+        if expires == 0 {
+            return Ok(());
+        }
+        write!(f, ", expires {expires}")
+    }
+}
+
+impl fmt::Display for MomentMember {
+    fn fmt<W: fmt::Write>(&self, f: &mut fmt::Formatter<W>) -> fmt::Result {
+        let expires = self.0;
+        if expires == 0 {
+            return Ok(());
+        }
+        write!(f, ",\"expires\":{expires}")
+    }
+}

@@ -155,6 +155,7 @@ fn told(alloc: Global, gateway: u8, advertise: u16, field: Sequence<Addr>) -> Re
     Ok(Config {
         gateway,
         advertise,
+        lifetime: 0,
         field,
         predefined,
     })

@@ -16,7 +16,7 @@ const SHORT: &str =
 
 /// All settings.
 const LONG: &str =
-    "gateway = 1\nlisten = \"127.0.0.1:1884\"\nlink = \"127.0.0.1:1885\"\njournal = \"j\"\nworkers = 3\nsteps = 9\nadvertise = 900\nfield = [\"10.0.0.1:1884\"]\npeers = [\"10.0.0.2:1885\"]\npredefined = [{ id = 5, topic = \"t/a\" }]\n";
+    "gateway = 1\nlisten = \"127.0.0.1:1884\"\nlink = \"127.0.0.1:1885\"\njournal = \"j\"\nworkers = 3\nsteps = 9\nadvertise = 900\nlifetime = 86400\nfield = [\"10.0.0.1:1884\"]\npeers = [\"10.0.0.2:1885\"]\npredefined = [{ id = 5, topic = \"t/a\" }]\n";
 
 /// Settings.
 #[derive(Drop)]
@@ -45,6 +45,7 @@ fn read(alloc: Global, said: &mut Said, text: &str) -> Result<(), Stop> {
     said.number("workers", read.workers as usize);
     said.number("steps", read.steps as usize);
     said.number("advertise", read.advertise as usize);
+    said.number("lifetime", read.lifetime as usize);
     said.number("field", read.field.len());
     said.number("peers", read.peers.len());
     said.number("predefined", read.predefined.entries().len());

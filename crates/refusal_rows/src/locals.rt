@@ -56,6 +56,7 @@ pub(crate) fn config(alloc: Global, gateway: u8) -> Result<Config, Stop> {
     Ok(Config {
         gateway,
         advertise: 0,
+        lifetime: 0,
         field,
         predefined,
     })

@@ -73,22 +73,25 @@ pub(crate) fn session_ops(
     Ok(())
 }
 
-/// `put CLIENT ORIGIN.NUMBER TOPIC QOS BODY`, or with `retained` after: a message for a client.
+/// `put CLIENT ORIGIN.NUMBER TOPIC QOS BODY`, or with `retained`, `expires SECOND` or both after: a
+/// message for a client.
 pub(crate) fn put_op(alloc: Global, fields: &[&str]) -> Result<Op, Stop> {
     let [name, message, about, qos, said, later @ ..] = fields else {
         return Err(Stop::Line);
     };
     let number = message_number(message)?;
     let qos = level(qos)?;
-    let retain = is_retained(later)?;
-    put_for(alloc, name, number, about, qos, retain, word(said))
+    let how = how_of(later)?;
+    put_for(alloc, name, number, about, qos, how, word(said))
 }
 
-/// Whether a message was retained.
-fn is_retained(later: &[&str]) -> Result<bool, Stop> {
+/// Whether a message was retained, and the moment from which on it need not wait.
+fn how_of(later: &[&str]) -> Result<(bool, u64), Stop> {
     match later {
-        [] => Ok(false),
-        ["retained"] => Ok(true),
+        [] => Ok((false, 0)),
+        ["retained"] => Ok((true, 0)),
+        ["expires", moment] => Ok((false, number(moment)?)),
+        ["retained", "expires", moment] => Ok((true, number(moment)?)),
         _ => Err(Stop::Line),
     }
 }
@@ -132,7 +135,7 @@ fn add_put(
     qos: QosLevel,
     said: &[u8],
 ) -> Result<(), Stop> {
-    let op = put_for(alloc, name, number, about, qos, false, said)?;
+    let op = put_for(alloc, name, number, about, qos, (false, 0), said)?;
     Ok(ops.push(op)?)
 }
 
@@ -143,11 +146,11 @@ fn put_for(
     number: (u8, u64),
     about: &str,
     qos: QosLevel,
-    retain: bool,
+    how: (bool, u64),
     said: &[u8],
 ) -> Result<Op, Stop> {
     let client = client(alloc, name)?;
-    let put = put(alloc, number, about, qos, retain, said)?;
+    let put = put(alloc, number, about, qos, how, said)?;
     Ok(Op::Put { client, put })
 }
 
@@ -157,10 +160,11 @@ fn put(
     number: (u8, u64),
     about: &str,
     qos: QosLevel,
-    retain: bool,
+    how: (bool, u64),
     said: &[u8],
 ) -> Result<Put, Stop> {
     let (origin, seq) = number;
+    let (retain, expires) = how;
     let topic = topic(alloc, about)?;
     let body = message(alloc, said)?;
     Ok(Put {
@@ -169,7 +173,7 @@ fn put(
         topic,
         qos,
         retain,
-        expires: 0,
+        expires,
         body,
     })
 }

@@ -1,6 +1,6 @@
 //! Operations, sessions and views as lines.
 
-use crate::words::{Word, kind_word, known_word, phase_word, presence_word, retain_word};
+use crate::words::{Moment, Word, kind_word, known_word, phase_word, presence_word, retain_word};
 use rep_model::ClientView;
 use rep_ops::{Delta, Op, Put, Retained};
 use sn_session::{Outbound, Session, SessionOp, Will, WillTopic};
@@ -77,7 +77,8 @@ fn print_put(text: &mut String, put: &Put) -> Result<(), AllocError> {
     let topic = Word(put.topic.bytes());
     let body = Word(put.body.as_slice());
     let later = later_words(put.retain);
-    writeln!(text, "{origin}.{seq} {topic} {qos} {body}{later}")
+    let moment = Moment(put.expires);
+    writeln!(text, "{origin}.{seq} {topic} {qos} {body}{later}{moment}")
 }
 
 /// What stands after the body of a message.

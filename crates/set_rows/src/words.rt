@@ -14,6 +14,10 @@ pub(crate) struct Word<'a>(pub &'a [u8]);
 #[derive(Clone, Copy)]
 pub(crate) struct Digits<'a>(pub &'a [u8]);
 
+/// The moment from which on a message need not wait, as words after others; nothing for 0.
+#[derive(Clone, Copy)]
+pub(crate) struct Moment(pub u64);
+
 /// Why a replica refuses.
 #[derive(Clone, Copy)]
 pub(crate) struct NotTaken<'a>(pub &'a TakeFault);
@@ -44,6 +48,16 @@ impl fmt::Display for Digits<'_> {
             write!(f, "{octet:02x}")?;
         }
         Ok(())
+    }
+}
+
+impl fmt::Display for Moment {
+    fn fmt<W: fmt::Write>(&self, f: &mut fmt::Formatter<W>) -> fmt::Result {
+        let expires = self.0;
+        if expires == 0 {
+            return Ok(());
+        }
+        write!(f, " expires {expires}")
     }
 }
 

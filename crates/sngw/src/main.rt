@@ -16,6 +16,7 @@
 //! - `stop`: why the program ends early (`Stop`).
 //! - `running`: shifts one after the other.
 //! - `lines`: lines that are printed beside the work.
+//! - `dates`: the date of the machine, by which moments go.
 //! - `keeping`: when the journal is written anew, and when a gateway that cannot write tries again.
 //! - `doors`: how links are made: peers are dialled, others are accepted.
 //! - `working`: the threads of one shift.
@@ -26,6 +27,7 @@
 #![tactic(auto)]
 
 mod admission;
+mod dates;
 mod doors;
 mod ignored;
 mod keeping;
@@ -39,6 +41,7 @@ mod watched;
 mod words;
 mod working;
 
+use crate::dates::hold_lifetime;
 use crate::lines::{Lines, Output, Said};
 use crate::reading::settings_at;
 use crate::running::run;
@@ -129,17 +132,18 @@ where
     let settings = settings_at(rt, alloc, asked.config.as_str(), err);
     let shifts = asked.shifts;
     drop(asked);
-    let settings = settings?;
-    let done = start_by(rt, alloc, &settings, shifts, said, out, err);
+    let mut settings = settings?;
+    let done = start_by(rt, alloc, &mut settings, shifts, said, out, err);
     drop(settings);
     done
 }
 
-/// Opens a gateway by its settings, and works so many shifts.
+/// Opens a gateway by its settings, and works so many shifts. While the machine has no date, it is
+/// opened without a lifetime.
 fn start_by<T, O: Write, E: Write>(
     rt: &T,
     alloc: Global,
-    settings: &Settings,
+    settings: &mut Settings,
     shifts: u64,
     said: Said<'_>,
     out: &mut O,
@@ -150,7 +154,9 @@ where
     T: Net<Listener = TcpListener, Stream = TcpStream>,
 {
     let disk = disk_at(rt, alloc, settings, err)?;
+    let lifetime = hold_lifetime(rt, settings, err);
     let opened = begin::<Folded, FileDisk, O, E>(alloc, settings, disk, out, err).ok();
+    settings.lifetime = lifetime;
     let Some(node) = opened else {
         return Err(Stop::Opening);
     };

@@ -75,6 +75,7 @@ fn print_others(text: &mut String, read: &Settings) -> Result<(), AllocError> {
         text,
         "workers {workers} steps {steps} advertise {advertise}"
     )?;
+    print_lifetime(text, read.lifetime)?;
     print_addresses(text, "field", read.field.as_slice())?;
     print_addresses(text, "peer", read.peers.as_slice())?;
     let predefined = read.predefined.entries().len();
@@ -83,6 +84,15 @@ fn print_others(text: &mut String, read: &Settings) -> Result<(), AllocError> {
         write!(text, " number {number}")?;
     }
     text.push('\n')
+}
+
+/// For how many seconds messages wait at most, if it is said.
+fn print_lifetime(text: &mut String, seconds: u32) -> Result<(), AllocError> {
+    if seconds == 0 {
+        Ok(())
+    } else {
+        write!(text, " lifetime {seconds}")
+    }
 }
 
 /// Addresses, each after a word.

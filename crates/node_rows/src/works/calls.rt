@@ -137,6 +137,7 @@ fn config(alloc: Global) -> Result<Config, Stop> {
         Ok(predefined) => Ok(Config {
             gateway: 1,
             advertise: 0,
+            lifetime: 0,
             field: Sequence::empty(alloc),
             predefined,
         }),
