@@ -107,8 +107,8 @@ LEVELS = [
         "A field is a list of gateways, and of the deltas that they made or answered. `After` says what one event may do to it: "
         "`OwnStep` a datagram or a tick, `TakeStep` a delta that comes, `restarted` a stop and a new start. `run` plays events with the "
         "gateway's own code on disks in memory, and `run.ok` ties this whole level to that code. The clauses `event` do so for single "
-        "calls, on any disk; `CanBeSaid` has the exceptions, which on the daemon's own disk are all compactions and reopenings, not shown "
-        "here. (Calls have two more clauses, `call` and `taken`: see part 5 of the long form.) The step table and the "
+        "calls, on any disk; `CanBeSaid` has the exceptions, which on the daemon's own disk are all compactions and reopenings. (These "
+        "calls have two more clauses, `call` and `taken`: see part 5 of the long form.) The step table and the "
         "bytes of frames, deltas and journals are named and not entered.", "",
         "`consistent` and `never` say that no name has two contents in the whole field, and that no event is answered by Conflict. "
         "`alike` and `shown` say that two gateways that have taken the same operations have equal sets and show the same. "
@@ -123,7 +123,9 @@ LEVELS = [
         ("jr_disk::memory_disk_is_honest", ""),
         ("gw_node::Node::frame", "event"),
         ("gw_node::Node::take", "event"),
-        ("gw_node::Node::tick", "event")]),
+        ("gw_node::Node::tick", "event"),
+        ("gw_node::Node::compact", "event"),
+        ("gw_node::Node::reopen", "event")]),
     ("what a gateway accepts, and why it acknowledges", [
         "`asked_is_served` is about one view, the others are about runs. A cause is one of a step, whose plan `IsPlan` of [level 3] gives to "
         "the gateway: `seen` is what the step table reads of the set, `local` what else the gateway knows, and `a` the address that the "
@@ -152,11 +154,10 @@ NAMED = set("""
     sn_local/Locals/owned sn_local/config/Addr sn_local/config/Config sn_local/local/Binding sn_local/local/LocalChange
     sn_local/local/Timer sn_local/local/WillDialog gw_answer/Answers/only_sends gw_answer/Answers/said gw_answer/out/Out
     gw_answer/refusal/Refusal gw_answer/step/Step sn_plan/Drafts/session_after sn_exchange/Delivery/id_to_tell
-    sn_exchange/Exchanges/open_exchange sn_exchange/Following/peer_at sn_exchange/Forms/form_of
-    sn_exchange/peer/Peer sn_publish/Publishing/publication_meant sn_publish/Recipients/qos_for sn_publish/meaning/Meant
+    sn_exchange/Exchanges/open_exchange sn_exchange/Following/peer_at sn_exchange/Forms/form_of sn_exchange/Forms/publication
+    sn_exchange/form/Form sn_exchange/peer/Peer sn_publish/Publishing/publication_meant sn_publish/Recipients/qos_for sn_publish/meaning/Meant
     sn_deliver/Steps/row_for sn_deliver/Steps/step sn_tick/Expiry/is_under_way sn_tick/Expiry/under_way
-    sn_tick/Ticking/tick step_laws/Laws/IsSentAtZero cause_laws/Causes/BeganClean cause_laws/Causes/IsWelcome
-    cause_laws/Causes/gives_message
+    sn_tick/Ticking/tick cause_laws/Causes/gives_message
     cause_laws/Causes/gives_topic gw_event/Drives/has_more gw_event/Drives/left_by gw_event/Drives/opened
     gw_event/Drives/torn gw_event/Drives/with_record gw_event/Event/CompactStep gw_event/Event/DigestStep
     gw_event/Event/HasNoDelta gw_event/Event/IsWritable gw_event/Event/ReplyStep
