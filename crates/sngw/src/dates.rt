@@ -27,15 +27,11 @@ fn lifetime_at(lifetime: u32, date: u64) -> u32 {
     if is_date(date) { lifetime } else { 0 }
 }
 
-/// Takes the lifetime out of settings while the machine has no date, and says so. Gives the
-/// lifetime that they had.
-pub(crate) fn hold_lifetime<T: Clock, E: Write>(
-    rt: &T,
-    settings: &mut Settings,
-    err: &mut E,
-) -> u32 {
+/// Takes the lifetime out of settings if the machine has no date, and says so. Gives the lifetime
+/// that they had.
+pub(crate) fn hold_lifetime<E: Write>(settings: &mut Settings, today: u64, err: &mut E) -> u32 {
     let lifetime = settings.lifetime;
-    settings.lifetime = lifetime_at(lifetime, date(rt));
+    settings.lifetime = lifetime_at(lifetime, today);
     if settings.lifetime != lifetime {
         let _ = writeln!(
             err,
@@ -45,15 +41,17 @@ pub(crate) fn hold_lifetime<T: Clock, E: Write>(
     lifetime
 }
 
-/// Moments go by the date from now on. No thread looks at the clock yet.
-pub(crate) fn begin_dates<T: Clock>(rt: &T, clock: &FieldClock) {
-    let _ = clock.look(rt);
-    clock.set(date(rt));
+/// Moments go by the date from now on. No thread looks at the clock yet. If the machine had no date
+/// when the gateway was opened, they go by that: so the gateway is opened again once one is set.
+pub(crate) fn begin_dates<T: Clock>(rt: &T, clock: &FieldClock, opened: u64) {
+    clock.set(if is_date(opened) { date(rt) } else { opened });
 }
 
 /// A gateway after a shift. If the date is far from the moment, it is opened anew by the date, with
 /// this lifetime, and the links are closed. What has come meanwhile is dropped. While the gateway
-/// is halted it is let be: its disk may fail. So it is if the date cannot be read, and is 0.
+/// is halted it is let be: its disk may fail. So it is if the date cannot be read, and is 0. The
+/// moment is that of the last look in the shift: whoever looks next finds whether the gateway stood
+/// still since then.
 pub(crate) fn by_date<T, R, D>(
     rt: &T,
     alloc: Global,
@@ -68,7 +66,6 @@ where
     R: Replica,
     D: Disk + Drop,
 {
-    let _ = pool.clock.look(rt);
     let today = date(rt);
     let moment = pool.clock.moment();
     if node.is_halted() || today == 0 || !is_astray(moment, today) {

@@ -51,6 +51,7 @@ use file_disk::{FileDisk, FileDiskFault};
 use gw_main::begin;
 use gw_main::options::Settings;
 use gw_node::Node;
+use gw_wire::date;
 use jr_disk::{Disk, Slot};
 use rep_state::Folded;
 use std::alloc::Global;
@@ -154,7 +155,8 @@ where
     T: Net<Listener = TcpListener, Stream = TcpStream>,
 {
     let disk = disk_at(rt, alloc, settings, err)?;
-    let lifetime = hold_lifetime(rt, settings, err);
+    let today = date(rt);
+    let lifetime = hold_lifetime(settings, today, err);
     let opened = begin::<Folded, FileDisk, O, E>(alloc, settings, disk, out, err).ok();
     settings.lifetime = lifetime;
     let Some(node) = opened else {
@@ -164,7 +166,7 @@ where
         drop(node);
         return Ok(());
     }
-    run(rt, alloc, settings, node, shifts, said)
+    run(rt, alloc, settings, node, shifts, today, said)
 }
 
 /// What the command line asks for.

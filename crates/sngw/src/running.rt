@@ -26,13 +26,15 @@ use std::thread::Threads;
 use std::time::{Clock, Duration};
 use std::{mem, thread};
 
-/// Works so many shifts. The sockets are open from before the first to after the last.
+/// Works so many shifts with a gateway that was opened at this date. The sockets are open from
+/// before the first to after the last.
 pub(crate) fn run<T, R, D>(
     rt: &T,
     alloc: Global,
     settings: &Settings,
     node: Node<R, D>,
     shifts: u64,
+    opened_at: u64,
     said: Said<'_>,
 ) -> Result<(), Stop>
 where
@@ -43,7 +45,7 @@ where
     D: Disk + Drop + Send,
 {
     let mut opened = open_all(rt, alloc, settings)?;
-    begin_dates(rt, &opened.pool.clock);
+    begin_dates(rt, &opened.pool.clock, opened_at);
     let place = Mutex::new(Some(node));
     let over = Stage::new(0, 0);
     let worked = run_beside(
