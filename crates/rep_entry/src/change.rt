@@ -71,7 +71,8 @@ pub fn put_into(place: &mut Entry, change: Change)
     put_log(place, log, log_room);
     put_acks(&mut place.acks, acks);
     let waiting = mem::replace(&mut place.seen.pending, none);
-    place.seen.pending = wait_on(room, waiting, news, span, &place.acks);
+    let left = wait_on(room, waiting, news, span, &place.acks);
+    place.seen.pending = left;
     place.parked = parked;
     place.exceptions = exceptions;
 }

@@ -6,8 +6,8 @@ use Rattle.rep_entry.proofs.Rising.{rising_weave}
 use Rattle.rep_entry.proofs.Freshness.{are_apart}
 use Rattle.rep_entry.proofs.change.put_into.Goals as goal
 
-pub wait_on-requires-clause-woven : goal.wait_on-requires-clause-woven
-wait_on-requires-clause-woven c =
+pub wait_on-left-requires-clause-woven : goal.wait_on-left-requires-clause-woven
+wait_on-left-requires-clause-woven c =
     let waiting = c.args.place.now.seen.pending in
     let news = c.args.change.news.items in
     let is : c.replace-waiting.result ≡ waiting = c.replace-waiting.ensures.value ∙ ap (λ (e : Entry). e.seen.pending) c.put_log.ensures in
