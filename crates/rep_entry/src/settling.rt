@@ -117,14 +117,20 @@ fn joined(room: Vec<Put>, mut waiting: Vec<Put>, news: Vec<Put>) -> Vec<Put>
     merge(room, VecDeque::from_vec(waiting), VecDeque::from_vec(news))
 }
 
+/// Whether the message with the least moment may be among those that were dropped: so many are left
+/// of so many. If that moment is the last one of all, it is none.
+fn may_be_gone(left: usize, count: usize, soonest: u64) -> bool {
+    left < count && soonest < u64::MAX
+}
+
 /// These messages, of which none has a moment before this one, and which were so many before some
-/// were dropped. If some were, the one with the least moment may be among them: then all are
-/// looked at.
+/// were dropped. If the one with that moment may be gone, all are looked at.
 fn puts_of(left: Vec<Put>, count: usize, soonest: u64) -> Puts
     requires { AllLast soonest left.items }
     ensures { result ≡ left.items }
 {
-    if left.len() < count {
+    let again = may_be_gone(left.len(), count, soonest);
+    if again {
         Puts::new(left)
     } else {
         Puts::lasting(left, soonest)
