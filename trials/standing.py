@@ -642,14 +642,10 @@ def opened_again(gateway: Gateway, count: int) -> None:
         turn(gateway)
 
 
-def come_back(clients: list, seconds: float, at: dict) -> None:
-    """All ping each two seconds, and connect again whenever they are turned away; at some seconds something happens."""
-    began, happened = time.monotonic(), set()
-    while (now := time.monotonic() - began) < seconds:
-        for second, act in at.items():
-            if second not in happened and now >= second:
-                happened.add(second)
-                act()
+def come_back(clients: list, seconds: float, is_done=lambda: False) -> None:
+    """All ping each two seconds, and connect again whenever they are turned away, so long or until something is done."""
+    end = time.monotonic() + seconds
+    while time.monotonic() < end and not is_done():
         for client in clients:
             is_gone = False
             while (octets := client.receive(0.001)) is not None:
@@ -668,8 +664,12 @@ def dates(program: str, folder: str) -> str:
         wills, clients = Wills(gateway), [Client(b"k-%d" % one, gateway) for one in range(30)]
         for client in clients:
             with_will(client, 10)
-        come_back(clients, 54, {3: lambda: date.say(day), 15: lambda: date.say(0), 27: lambda: date.say(-day), 39: lambda: date.say(0)})
-        expect(len(gateway.openings()) == 5, f"the journal was opened {len(gateway.openings())} times, not 5")
+        come_back(clients, 3)
+        for count, ahead in enumerate((day, 0, -day, 0), 2):
+            date.say(ahead)
+            come_back(clients, 40, lambda: len(gateway.openings()) >= count)
+            come_back(clients, 8)
+            expect(len(gateway.openings()) == count, f"the journal was opened {len(gateway.openings())} times, not {count}")
         lines = gateway.told().count("date: ")
         expect(lines == 4, f"{lines} lines told of the date, not 4")
         wills.client.connect()
