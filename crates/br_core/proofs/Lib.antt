@@ -1,0 +1,7 @@
+pub mod Walk
+pub mod Just
+pub mod Running
+pub mod Keeps
+pub mod Worked
+pub mod Places
+pub mod Seats

@@ -1,0 +1,24 @@
+//! What holds of every run of a bridge, whatever a program does with it.
+
+ghost use Rattle.std.specs.Prelude.{ℕ, [], ◌∷◌, ◌++◌, ◌⊎◌, List};
+ghost use Rattle.br_core.specs.declared.event.Event.{Event};
+ghost use Rattle.br_core.specs.declared.settings.Settings.{Settings};
+ghost use Rattle.br_core.specs.Runs.{AreAllowed, Come, Handed, IsIn, after, stepped};
+
+/// What was taken from one side is acknowledged there only after the other side has acknowledged
+/// it, or after a line of what no side will have is on the disk. It holds of every list of events,
+/// whatever the sides send. The function does nothing; its contract is the law.
+pub fn acknowledges_behind()
+    ensures { (settings : Settings) (before : List Come) (event : Event) (moment : ℕ)
+        → AreAllowed settings (before ++ (event, moment) ∷ [])
+        (stepped settings (after settings before) (event, moment)).out }
+{}
+
+/// A reading of quality of service 1 that waits in the bridge, or is in flight to the broker, stays
+/// so until the broker has acknowledged it, whatever comes meanwhile. The function does nothing; its
+/// contract is the law.
+pub fn nothing_drops()
+    ensures { (settings : Settings) (before later : List Come) (number : ℕ)
+        → IsIn number (after settings before) → Handed settings (before ++ later) number
+        ⊎ IsIn number (after settings (before ++ later)) }
+{}

@@ -1,0 +1,35 @@
+-- What is read of a stream of packets.
+use Rattle.std.specs.Prelude.{◌≡◌, ℕ, ◌-◌, ◌≤◌, min, List, [], ◌∷◌, length, take, drop}
+use Rattle.mq_packet.specs.declared.packet.Packet.{Packet}
+use Rattle.mq_packet.specs.Grammar.{IsSaid, Spells, framed_of}
+use Rattle.mq_stream.specs.declared.front.TheConstants.{MAX_HELD}
+
+-- how many octets of a body are held
+abbrev pub held : ℕ → ℕ
+held said = min said MAX_HELD
+
+-- The octets are a first octet, a Remaining Length that says this size, and what follows it.
+pub record IsHead (octets : List ℕ) (first said : ℕ) (body : List ℕ) : Type 0 where
+  pub after : List ℕ
+  pub begins : octets ≡ first ∷ after
+  pub says : IsSaid after said body
+
+-- The octets begin with this packet, of whose body what is held is there; so many octets more belong
+-- to it, and the rest follows what is held.
+pub record IsPiece (octets : List ℕ) (packet : Packet) (over : ℕ) (rest : List ℕ) : Type 0 where
+  pub first : ℕ
+  pub said : ℕ
+  pub body : List ℕ
+  pub head : IsHead octets first said body
+  pub there : held said ≤ length body
+  pub spelled : Spells (framed_of first (take (held said) body)) packet
+  pub left : over ≡ said - held said
+  pub follows : rest ≡ drop (held said) body
+
+-- So many octets are passed over, and then come these packets; then so many are still to be passed
+-- over, and the rest waits.
+abbrev pub Reads : ℕ → List ℕ → List Packet → ℕ → List ℕ → Type 0
+Reads over octets [] left rest = (left ≡ over - length octets) × (rest ≡ drop over octets)
+Reads over octets (packet ∷ more) left rest =
+    (next : ℕ) × (after : List ℕ) × IsPiece (drop over octets) packet next after
+    × Reads next after more left rest

@@ -1,0 +1,384 @@
+//! One turn after the other: what came goes through the machine, and what that gives goes out.
+
+use crate::ends::{Gate, Line, Looked, dial};
+use crate::parsing::Setup;
+use crate::refused::{Owed, keep};
+use crate::stop::Stop;
+use crate::telling::Told;
+use br_core::{Action, Bridge, Event, Moment, begun, step};
+use mio::{Events, Poll};
+use mq_packet::Packet;
+use octets::Sequence;
+use sn_frame::{EncodeFault, Frame, FrameFault, decode, encode};
+use std::alloc::Global;
+use std::fs::{File, Files};
+use std::io::Write;
+use std::mem;
+use std::net::Net;
+use std::time::{Clock, Duration};
+
+/// How many milliseconds a turn waits for something to come; so often time goes by.
+const A_WHILE: u64 = 100;
+
+/// The most octets of a datagram, and of one read of the connection.
+const BUFFER: usize = 65_535;
+
+/// How many datagrams of a lane, and reads of the connection, a turn takes at most.
+const MOST_READS: usize = 64;
+
+/// How many turns pass between two tries to write a line of what no side will have.
+const PATIENCE: u32 = 10;
+
+/// What the program has in hand.
+#[derive(Drop)]
+struct Run<'a> {
+    setup: &'a Setup,
+    bridge: Bridge,
+    poll: Poll,
+    lanes: Vec<Gate>,
+    down: Gate,
+    line: Option<Line>,
+    /// Whether the connection has ended since the machine was told.
+    is_lost: bool,
+    owed: Vec<Owed>,
+    /// How many turns pass before a line is tried again that could not be written.
+    rest: u32,
+    /// The millisecond by which time goes by next.
+    due: u64,
+    /// Whether more may be there than was read.
+    is_busy: bool,
+}
+
+/// The millisecond of the clock that nobody sets.
+fn millisecond<C: Clock>(clock: &C) -> u64 {
+    match clock.monotonic() {
+        Ok(since) => since
+            .as_secs()
+            .saturating_mul(1_000)
+            .saturating_add(u64::from(since.subsec_millis())),
+        Err(_) => 0,
+    }
+}
+
+/// The moment of the clock that nobody sets.
+fn moment<C: Clock>(clock: &C) -> Moment {
+    Moment::of(millisecond(clock) / 1_000)
+}
+
+/// Opens the sockets of all lanes, and runs until memory runs out.
+pub(crate) fn run<T, E: Write>(
+    rt: &T,
+    alloc: Global,
+    setup: &Setup,
+    err: &mut E,
+) -> Result<(), Stop>
+where
+    T: Files<File = File> + Clock + Net,
+{
+    let mut run = opened(rt, alloc, setup)?;
+    let done = run.turns(rt, alloc, err);
+    drop(run);
+    done
+}
+
+/// A bridge that begins.
+fn opened<'a, T: Clock + Net>(rt: &T, alloc: Global, setup: &'a Setup) -> Result<Run<'a>, Stop> {
+    let Ok(poll) = Poll::new(rt) else {
+        return Err(Stop::Socket);
+    };
+    let gateways = setup.gateways.as_slice();
+    let count = setup.settings.lanes.len();
+    let mut lanes = Vec::new(alloc);
+    for place in 0..count {
+        lanes.push(Gate::open(rt, poll.registry(), place, gateways)?)?;
+    }
+    let down = Gate::open(rt, poll.registry(), count, gateways)?;
+    Ok(Run {
+        setup,
+        bridge: begun(alloc, &setup.settings)?,
+        poll,
+        lanes,
+        down,
+        line: None,
+        is_lost: false,
+        owed: Vec::new(alloc),
+        rest: 0,
+        due: 0,
+        is_busy: false,
+    })
+}
+
+/// The frame that a datagram spells, if it spells one.
+fn frame_of(alloc: Global, octets: &[u8]) -> Result<Option<Frame>, Stop> {
+    match decode(alloc, octets) {
+        Ok(frame) => Ok(Some(frame)),
+        Err(FrameFault::Memory) => Err(Stop::Memory),
+        Err(_) => Ok(None),
+    }
+}
+
+/// The octets of a frame, if it has some.
+fn written(alloc: Global, frame: &Frame) -> Result<Vec<u8>, Stop> {
+    let mut octets = Vec::new(alloc);
+    match encode(alloc, frame, &mut octets) {
+        Ok(()) | Err(EncodeFault::Body) | Err(EncodeFault::TooLong) => Ok(octets),
+        Err(EncodeFault::Memory) => Err(Stop::Memory),
+    }
+}
+
+impl<'a> Run<'a> {
+    /// Turn after turn.
+    fn turns<T, E: Write>(&mut self, rt: &T, alloc: Global, err: &mut E) -> Result<(), Stop>
+    where
+        T: Files<File = File> + Clock + Net,
+    {
+        let mut events = Events::with_capacity(alloc, 64)?;
+        let mut buffer = vec![in alloc; 0_u8; BUFFER]?;
+        let mut told = Told::nothing();
+        for _ in 0..u64::MAX {
+            let wait = if self.is_busy { 0 } else { A_WHILE };
+            let _ = self.poll.poll(&mut events, Some(Duration::from_millis(wait)));
+            self.is_busy = false;
+            self.turn(rt, alloc, buffer.as_mut_slice())?;
+            self.write_owed(rt, alloc, err)?;
+            self.flush();
+            told.look(&self.bridge, err);
+        }
+        Ok(())
+    }
+
+    /// What is there on all sides, and the time.
+    fn turn<T>(&mut self, rt: &T, alloc: Global, buffer: &mut [u8]) -> Result<(), Stop>
+    where
+        T: Files<File = File> + Clock + Net,
+    {
+        for place in 0..self.lanes.len() {
+            self.hear_lane(rt, alloc, place, buffer)?;
+        }
+        self.hear_down(rt, alloc, buffer)?;
+        self.hear_broker(rt, alloc, buffer)?;
+        if self.is_lost {
+            self.is_lost = false;
+            self.line = None;
+            self.take(rt, alloc, &Event::BrokerLost)?;
+        }
+        let now = millisecond(rt);
+        if now >= self.due {
+            self.due = now.saturating_add(A_WHILE);
+            self.take(rt, alloc, &Event::Tick)?;
+        }
+        Ok(())
+    }
+
+    /// An event goes through the machine, and what that gives is done.
+    fn take<T: Clock + Net>(&mut self, rt: &T, alloc: Global, event: &Event) -> Result<(), Stop> {
+        step(alloc, &self.setup.settings, event, moment(rt), &mut self.bridge)?;
+        let out = mem::replace(&mut self.bridge.out, Sequence::empty(alloc));
+        for action in out.into_vec() {
+            self.carry_out(rt, alloc, action)?;
+        }
+        Ok(())
+    }
+
+    /// What a lane's gateway sent.
+    fn hear_lane<T: Clock + Net>(
+        &mut self,
+        rt: &T,
+        alloc: Global,
+        lane: usize,
+        buffer: &mut [u8],
+    ) -> Result<(), Stop> {
+        for _ in 0..MOST_READS {
+            let Some(gate) = self.lanes.as_slice().get(lane) else {
+                return Ok(());
+            };
+            let Some((size, is_its)) = gate.receive(self.setup.gateways.as_slice(), buffer) else {
+                return Ok(());
+            };
+            if is_its {
+                let (datagram, _) = buffer.split_at(size);
+                if let Some(frame) = frame_of(alloc, datagram)? {
+                    self.take(rt, alloc, &Event::Field { lane, frame })?;
+                }
+            }
+        }
+        self.is_busy = true;
+        Ok(())
+    }
+
+    /// What the gateway of the lane for commands sent.
+    fn hear_down<T: Clock + Net>(
+        &mut self,
+        rt: &T,
+        alloc: Global,
+        buffer: &mut [u8],
+    ) -> Result<(), Stop> {
+        for _ in 0..MOST_READS {
+            let gateways = self.setup.gateways.as_slice();
+            let Some((size, is_its)) = self.down.receive(gateways, buffer) else {
+                return Ok(());
+            };
+            if is_its {
+                let (datagram, _) = buffer.split_at(size);
+                if let Some(frame) = frame_of(alloc, datagram)? {
+                    self.take(rt, alloc, &Event::Commands { frame })?;
+                }
+            }
+        }
+        self.is_busy = true;
+        Ok(())
+    }
+
+    /// What a look at the connection finds.
+    fn look(&mut self, alloc: Global, buffer: &mut [u8]) -> Result<Looked, Stop> {
+        match &mut self.line {
+            None => Ok(Looked::Nothing),
+            Some(line) => line.look(alloc, buffer),
+        }
+    }
+
+    /// What the broker sent.
+    fn hear_broker<T: Clock + Net>(
+        &mut self,
+        rt: &T,
+        alloc: Global,
+        buffer: &mut [u8],
+    ) -> Result<(), Stop> {
+        for _ in 0..MOST_READS {
+            match self.look(alloc, buffer)? {
+                Looked::Nothing => return Ok(()),
+                Looked::Opened => self.take(rt, alloc, &Event::BrokerOpen)?,
+                Looked::Over => {
+                    self.is_lost = true;
+                    return Ok(());
+                }
+                Looked::Came { fed } => {
+                    let is_over = fed.fault.is_some();
+                    self.take_packets(rt, alloc, fed.packets)?;
+                    if is_over {
+                        self.is_lost = true;
+                        return Ok(());
+                    }
+                }
+            }
+        }
+        self.is_busy = true;
+        Ok(())
+    }
+
+    /// Packets of the broker, one after the other.
+    fn take_packets<T: Clock + Net>(
+        &mut self,
+        rt: &T,
+        alloc: Global,
+        packets: Vec<Packet>,
+    ) -> Result<(), Stop> {
+        for packet in packets {
+            self.take(rt, alloc, &Event::Broker { packet })?;
+        }
+        Ok(())
+    }
+
+    /// Does one thing that is to be done.
+    fn carry_out<T: Net>(&mut self, rt: &T, alloc: Global, action: Action) -> Result<(), Stop> {
+        let gateways = self.setup.gateways.as_slice();
+        match action {
+            Action::ToField { lane, frame } => self.send(alloc, lane, &frame),
+            Action::ToCommands { frame } => {
+                let octets = written(alloc, &frame)?;
+                self.down.send(gateways, octets.as_slice());
+                Ok(())
+            }
+            Action::ToBroker { packet } => match &mut self.line {
+                None => Ok(()),
+                Some(line) => line.say(alloc, &packet),
+            },
+            Action::Refuse { line, command, why } => {
+                self.owed.push(Owed { line, command, why })?;
+                Ok(())
+            }
+            Action::NextGateway { lane } => {
+                if let Some(gate) = self.lanes.as_mut_slice().get_mut(lane) {
+                    gate.turn(gateways);
+                }
+                Ok(())
+            }
+            Action::NextCommands => {
+                self.down.turn(gateways);
+                Ok(())
+            }
+            Action::Dial => {
+                self.dial(rt, alloc);
+                Ok(())
+            }
+            Action::HangUp => {
+                self.flush();
+                self.line = None;
+                Ok(())
+            }
+        }
+    }
+
+    /// Sends a frame to the gateway of a lane.
+    fn send(&self, alloc: Global, lane: usize, frame: &Frame) -> Result<(), Stop> {
+        let octets = written(alloc, frame)?;
+        if let Some(gate) = self.lanes.as_slice().get(lane) {
+            gate.send(self.setup.gateways.as_slice(), octets.as_slice());
+        }
+        Ok(())
+    }
+
+    /// Dials the broker.
+    fn dial<T: Net>(&mut self, rt: &T, alloc: Global) {
+        match dial(rt, alloc, self.poll.registry(), self.setup.broker) {
+            Ok(line) => self.line = Some(line),
+            Err(_) => {
+                self.line = None;
+                self.is_lost = true;
+            }
+        }
+    }
+
+    /// Sends what waits for the broker, as far as it goes.
+    fn flush(&mut self) {
+        if let Some(line) = &mut self.line {
+            if !line.flush() {
+                self.is_lost = true;
+            }
+        }
+    }
+
+    /// Writes the first line that is owed. Where that fails it is owed still, and nothing is
+    /// acknowledged.
+    fn write_owed<T, E: Write>(&mut self, rt: &T, alloc: Global, err: &mut E) -> Result<(), Stop>
+    where
+        T: Files<File = File> + Clock + Net,
+    {
+        let Some(path) = &self.setup.refused else {
+            return Ok(());
+        };
+        if self.rest > 0 {
+            self.rest -= 1;
+            return Ok(());
+        }
+        if self.owed.is_empty() {
+            return Ok(());
+        }
+        let owed = self.owed.remove(0);
+        let line = owed.line;
+        match keep(rt, path.as_str(), &owed) {
+            Ok(()) => {
+                drop(owed);
+                let _ = writeln!(err, "sn_bridge: no side will have a command: see {path}");
+                self.take(rt, alloc, &Event::Kept { line })
+            }
+            Err(error) => {
+                let kind = error.kind();
+                let _ = writeln!(err, "sn_bridge: {path}: {kind}");
+                self.rest = PATIENCE;
+                self.owed.push(owed)?;
+                Ok(())
+            }
+        }
+    }
+}
