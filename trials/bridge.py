@@ -3,7 +3,7 @@
 
 Usage: bridge.py PROGRAM SNGW [PART ..] [--kills N] [--seed N]
 
-The parts are settings, through, away, refused, odd and kills; all of them if none is named. mosquitto is the one on PATH, or Debian's package,
+The parts are settings, names, through, retained, predefined, away, refused, odd, silent, strange and kills; all of them if none is named. mosquitto is the one on PATH, or Debian's package,
 unpacked into the trial's folder; no service of the machine is started. If it cannot be had, a line says so, and only the parts without a broker run.
 
 Each message has a number. What a sensor was told PUBACK 0 for has to come to the reader at the broker, and what the publisher at the broker was told
@@ -301,10 +301,11 @@ class Scene:
 
     names = [b"t/heat", b"t/cold", b"t/wind", b"t/rain"]
 
-    def __init__(self, bridge: str, sngw: str, broker: tuple, folder: str, lanes: int = 2):
+    def __init__(self, bridge: str, sngw: str, broker: tuple, folder: str, lanes: int = 2, names: tuple = (), **more: str):
         self.folder = tempfile.mkdtemp(dir=folder)
         self.broker_port = free_ports(1)[0]
-        self.gateway = Gateway(sngw, self.folder, 1)
+        self.gateway = Gateway(sngw, self.folder, 1, **more)
+        self.names = list(names) or Scene.names
         self.settings = os.path.join(self.folder, "b1.toml")
         self.refused = os.path.join(self.folder, "b1.refused")
         with open(self.settings, "w", encoding="utf-8") as it:
@@ -372,7 +373,30 @@ def settings(bridge: str, sngw: str, _broker: tuple, folder: str, _words) -> str
             it.write(good.replace(old, new, 1))
         run = subprocess.run([bridge, "--config", scene.settings], capture_output=True, text=True, timeout=30, check=False)
         expect(run.stderr.splitlines()[-1:] == [f"sn_bridge: settings {key}"] and run.returncode == 1, f"{new}: {run.returncode} {run.stderr!r}, not {key}")
-    return f"{len(bad)} bad settings, each key named"
+    with open(scene.settings, "w", encoding="utf-8") as it:
+        it.write(good.replace('to = "field/1/"', 'to = "field/1/"\nretian = ["t/heat"]', 1).replace("lanes = 2", "lanes = 17\nwindows = 3", 1))
+    run = subprocess.run([bridge, "--config", scene.settings], capture_output=True, text=True, timeout=30, check=False)
+    expect(all(f"{scene.settings}: {key} is no key, and is ignored" in run.stderr for key in ("retian", "windows")), f"an unknown key is not told: {run.stderr!r}")
+    return f"{len(bad)} bad settings, each key named; 2 unknown keys told"
+
+
+def names(bridge: str, sngw: str, broker: tuple, folder: str, words) -> str:
+    """Three lanes subscribe to as many names as they may have; with one more the settings are refused."""
+    many = words.names
+    with Scene(bridge, sngw, broker, folder, 3, tuple(b"n/%d" % at for at in range(many))) as scene:
+        reader, sensor = Peer(scene.broker_port, b"reader", (b"field/#",)), Node(scene.gateway, b"s0")
+        until(lambda: "3 of 3 lanes listen" in scene.bridge.told(), 600, f"not all lanes listen: {scene.bridge.told()[-300:]}", 0.1)
+        until(lambda: reader.socket, 10, "the reader did not connect")
+        sensor.connect()
+        for at in (0, 1, 2, many - 1):
+            sensor.publish(b"n/%d" % at, b"1")
+        until(lambda: len(reader.came) >= 4, 30, f"{len(reader.came)} of 4 readings came")
+        with open(scene.settings, "w", encoding="utf-8") as it:
+            scene.names = [b"n/%d" % at for at in range(750)]
+            it.write(scene.text(3))
+        run = subprocess.run([bridge, "--config", scene.settings], capture_output=True, text=True, timeout=30, check=False)
+        expect(run.stderr.endswith("sn_bridge: settings lanes\n") and run.returncode == 1, f"751 names: {run.returncode} {run.stderr[-200:]!r}")
+        return f"{many} long names in 3 lanes, and 751 names are refused"
 
 
 def through(bridge: str, sngw: str, broker: tuple, folder: str, words) -> str:
@@ -415,6 +439,42 @@ def through(bridge: str, sngw: str, broker: tuple, folder: str, words) -> str:
         is_over.append(True)
         scene.bridge.alive()
         return f"{many * 4} readings and {many} commands, in order, none twice, in {seconds:.1f} seconds"
+
+
+def retained(bridge: str, sngw: str, broker: tuple, folder: str, _words) -> str:
+    """What the field retains comes to a bridge that begins, and again each time its lanes connect."""
+    scene = Scene(bridge, sngw, broker, folder)
+    scene.gateway.start()
+    sensor = Node(scene.gateway, b"s0")
+    sensor.connect()
+    topic, message = sensor.id_of(b"t/heat"), sensor.next()
+    sensor.ask(frame(0x0C, b"\x30" + topic + number(message) + b"21"), 0x0D, lambda body: body[2:] == number(message) + b"\0")
+    scene.gateway.kill()
+    with scene:
+        reader = Peer(scene.broker_port, b"reader", (b"field/#",))
+        scene.ready()
+        until(lambda: count_of(reader.came, b"field/1/t/heat") == [21], 30, f"what is retained did not come, but {reader.came}")
+        scene.broker.kill(signal.SIGTERM)
+        scene.broker.start()
+        until(lambda: count_of(reader.came, b"field/1/t/heat") == [21, 21], 60, f"it did not come again, but {reader.came}")
+        return "a retained reading came, and again as the lanes connected"
+
+
+def predefined(bridge: str, sngw: str, broker: tuple, folder: str, _words) -> str:
+    """The gateway has a predefined id for a name of a lane: what waited while the lane slept comes all the same."""
+    with Scene(bridge, sngw, broker, folder, predefined='[{ id = 7, topic = "t/heat" }]') as scene:
+        reader, sensor = Peer(scene.broker_port, b"reader", (b"field/#",)), Node(scene.gateway, b"s0")
+        sensor.connect()
+        scene.ready()
+        until(lambda: reader.socket, 10, "the reader did not connect")
+        scene.broker.kill(signal.SIGTERM)
+        until(lambda: "the broker is away" in scene.bridge.told(), 30, "the bridge does not say that the broker is away")
+        time.sleep(1)
+        for at in range(5):
+            sensor.publish(b"t/heat", b"%d" % at)
+        scene.broker.start()
+        until(lambda: set(count_of(reader.came, b"field/1/t/heat")) == set(range(5)), 60, f"readings are missing: {count_of(reader.came, b'field/1/t/heat')} came")
+        return f"5 readings of a predefined topic waited, and {len(reader.came)} came"
 
 
 def away(bridge: str, sngw: str, broker: tuple, folder: str, _words) -> str:
@@ -479,6 +539,56 @@ def odd(bridge: str, sngw: str, _broker: tuple, folder: str, words) -> str:
                 count += 1
                 scene.bridge.alive()
         return f"{count} brokers that are none, and the bridge went on"
+
+
+def silent(bridge: str, sngw: str, _broker: tuple, folder: str, _words) -> str:
+    """A broker that accepts and says nothing is hung up and dialled again; so is one that says nothing any longer. One that refuses is told of."""
+    with Scene(bridge, sngw, None, folder) as scene:
+        with socket.create_server((HOST, scene.broker_port)) as server:
+            server.settimeout(40)
+            for said in (b"", b"\x20\x02\x01\x00"):
+                line, _ = server.accept()
+                with line:
+                    line.sendall(said)
+                    line.settimeout(60)
+                    began = time.monotonic()
+                    while line.recv(65535):
+                        pass
+                    took = time.monotonic() - began
+                    expect(5 < took < 45, f"it was hung up after {took:.0f} seconds")
+            line, _ = server.accept()
+            with line:
+                line.sendall(b"\x20\x02\x00\x05")
+                until(lambda: "the broker refuses the client, code 5" in scene.bridge.told(), 10, "that the broker refuses is not told")
+        return "a silent broker is hung up and dialled again, and a refusal is told"
+
+
+def strange(bridge: str, sngw: str, _broker: tuple, folder: str, words) -> str:
+    """A gateway of random octets, and of frames that nobody asked for: the bridge goes on."""
+    with Scene(bridge, sngw, None, folder) as scene:
+        scene.gateway.kill()
+        dice, count = random.Random(words.seed), 0
+        with socket.create_server((HOST, scene.broker_port)) as server, socket.socket(socket.AF_INET, socket.SOCK_DGRAM) as field:
+            field.bind(scene.gateway.address)
+            field.settimeout(15)
+            server.settimeout(15)
+            line, _ = server.accept()
+            line.sendall(b"\x20\x02\x01\x00")
+            kinds = [0x05, 0x0A, 0x0B, 0x0C, 0x0D, 0x13, 0x17, 0x18]
+            with line:
+                line.setblocking(False)
+                end = time.monotonic() + words.seconds
+                while time.monotonic() < end:
+                    _, lane = field.recvfrom(65535)
+                    for _ in range(20):
+                        body = dice.randbytes(dice.randrange(0, 12))
+                        field.sendto(frame(dice.choice(kinds), body) if dice.random() < 0.8 else dice.randbytes(dice.randrange(0, 300)), lane)
+                        count += 1
+                    field.sendto(frame(0x05, b"\0"), lane)
+                    if scene.bridge.told().count("away") > 50:
+                        break
+            scene.bridge.alive()
+        return f"{count} datagrams of nobody's, and the bridge went on"
 
 
 def kills(bridge: str, sngw: str, broker: tuple, folder: str, words) -> str:
@@ -565,8 +675,9 @@ def lost_of(sent: dict, reader: Peer, actor: Node, killed: list) -> tuple:
     return lost - brokers, brokers
 
 
-PARTS = {"settings": settings, "through": through, "away": away, "refused": refused, "odd": odd, "kills": kills}
-WITHOUT_BROKER = ("settings", "odd")
+PARTS = {"settings": settings, "names": names, "through": through, "retained": retained, "predefined": predefined, "away": away, "refused": refused,
+         "odd": odd, "silent": silent, "strange": strange, "kills": kills}
+WITHOUT_BROKER = ("settings", "odd", "silent", "strange")
 
 
 def main() -> int:
@@ -576,6 +687,8 @@ def main() -> int:
     words.add_argument("parts", nargs="*", choices=[*PARTS, []])
     words.add_argument("--kills", type=int, default=100)
     words.add_argument("--messages", type=int, default=500)
+    words.add_argument("--names", type=int, default=600)
+    words.add_argument("--seconds", type=float, default=30)
     words.add_argument("--seed", type=int, default=1)
     words = words.parse_args()
     bridge, sngw = os.path.abspath(words.program), os.path.abspath(words.sngw)

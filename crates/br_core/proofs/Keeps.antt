@@ -13,7 +13,7 @@ use Rattle.br_core.specs.Steps.{emptied}
 use Rattle.br_core.specs.Sides.{acknowledged, free_id, has_window, left_in_flight, offered, sends, sent_at, waits}
 use Rattle.br_core.proofs.Just.{AreJust, just-kept, just-walked}
 use Rattle.br_core.proofs.Running.{after-one, handed-on, last-on, no-more, one-more, reasons, standing}
-use Rattle.br_core.proofs.Walk.{Held, IsKept, IsWalked, ItemGood, LaneJust, event-walked, map-places}
+use Rattle.br_core.proofs.Walk.{Held, IsKept, IsWalked, ItemGood, LaneJust, event-walked, map-places, taken-kept}
 
 module _ (number : ℕ) where
   -- ---- lists
@@ -90,12 +90,12 @@ module _ (number : ℕ) where
 
 -- ---- the walk
 
-module _ (number : ℕ) (Good : ℕ → Type 0) (Own : ℕ → ℕ → Type 0) (May : ℕ → Type 0) where
+module _ (number : ℕ) (Good : ℕ → Type 0) (Own : ℕ → ℕ → ℕ → Type 0) (May : ℕ → Type 0) where
   abbrev StaysIn : List Item → List Flight → Type 0
   StaysIn w f = Good number ⊎ (Waits number w ⊎ Flies number f)
 
   abbrev P : Held
-  P l out w f = AreJust Good Own May l out × StaysIn w f
+  P l out w f n = AreJust Good Own May l out × StaysIn w f
 
   queued : (item : Item) (w : List Item) (f : List Flight) → StaysIn w f → StaysIn (w ++ item ∷ []) f
   queued item w f (inl good) = inl good
@@ -119,19 +119,21 @@ module _ (number : ℕ) (Good : ℕ → Type 0) (Own : ℕ → ℕ → Type 0) (
 
   kept : IsKept Good Own May P
   kept = record {
-    acts = λ a l out w f p h. ((just-kept Good Own May).acts a l out w f p h.0, h.1);
-    queued = λ item l out w f h. (h.0, queued item w f h.1);
-    flown = λ id item l out w f h. (h.0, flown (record { id = id; item = item }) w f h.1);
+    acts = λ a l out w f n p h. ((just-kept Good Own May).acts a l out w f n p h.0, h.1);
+    queued = λ item l out w f n h. (h.0, queued item w f h.1);
+    flown = λ id item l out w f n h. (h.0, flown (record { id = id; item = item }) w f h.1);
+    counts = λ l out w f n h. h;
   }
 
   walked : IsWalked Good Own May P
   walked = record {
-    kept = kept;
-    placed = λ place x l out w f p h. ((just-walked Good Own May).placed place x l out w f p h.0, h.1);
-    there = λ place l out w f h. (just-walked Good Own May).there place l out w f h.0;
+    acts = λ a l out w f n o p h. ((just-kept Good Own May).acts a l out w f n p h.0, h.1);
+    placed = λ place x l out w f n p h. ((just-walked Good Own May).placed place x l out w f n p h.0, h.1);
+    there = λ place l out w f n h. (just-walked Good Own May).there place l out w f n h.0;
+    taken = λ settings item b e h. taken-kept Good Own May P kept settings item b h;
     offers = λ settings b h. ((just-walked Good Own May).offers settings b h.0, offers settings b h.1);
-    repeated = λ l out w f h. ((just-walked Good Own May).repeated l out w f h.0, h.1);
-    left = λ id l out w f good h. (h.0, leaves id w f good h.1);
+    repeated = λ l out w f n h. ((just-walked Good Own May).repeated l out w f n h.0, h.1);
+    left = λ id l out w f n good h. (h.0, leaves id w f good h.1);
   }
 
 -- ---- the law

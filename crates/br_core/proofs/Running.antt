@@ -29,7 +29,7 @@ pub one-more : {X : Type 0} (xs : List X) (x : X) (ys : List X) → (xs ++ x ∷
 one-more [] x ys = refl
 one-more (z ∷ zs) x ys = ap (λ more. z ∷ more) (one-more zs x ys)
 
-regroup : {X : Type 0} (xs ys zs : List X) → (xs ++ ys) ++ zs ≡ xs ++ (ys ++ zs)
+pub regroup : {X : Type 0} (xs ys zs : List X) → (xs ++ ys) ++ zs ≡ xs ++ (ys ++ zs)
 regroup [] ys zs = refl
 regroup (x ∷ xs) ys zs = ap (λ more. x ∷ more) (regroup xs ys zs)
 
@@ -61,17 +61,16 @@ handed-on settings run more number h =
       same = h.same;
     }
 
-brought-on : (settings : Settings) (run more : List Come) (place number : ℕ) → Brought settings run place number → Brought settings (run ++ more) place number
-brought-on settings run more place number h =
+brought-on : (settings : Settings) (run more : List Come) (place number msg_id : ℕ) → Brought settings run place number msg_id → Brought settings (run ++ more) place number msg_id
+brought-on settings run more place number msg_id h =
     record {
       earlier = h.earlier;
       later = h.later ++ more;
       flags = h.flags;
       topic = h.topic;
-      msg_id = h.msg_id;
       body = h.body;
       moment = h.moment;
-      comes = later-on run h.earlier (events.Field place (frames.Publish h.flags h.topic h.msg_id h.body), h.moment) h.later more h.comes;
+      comes = later-on run h.earlier (events.Field place (frames.Publish h.flags h.topic msg_id h.body), h.moment) h.later more h.comes;
       next = h.next;
     }
 
@@ -80,7 +79,7 @@ pub last-on : (settings : Settings) (run more : List Come) (place : ℕ) (last :
     → LastJust (Handed settings (run ++ more)) (Brought settings (run ++ more)) place last
 last-on settings run more place None h = tt
 last-on settings run more place (Some held) h =
-    (brought-on settings run more place held.number h.0, λ e. handed-on settings run more held.number (h.1 e))
+    (brought-on settings run more place held.number held.msg_id h.0, λ e. handed-on settings run more held.number (h.1 e))
 
 -- ---- what an event gives as reasons
 
@@ -99,7 +98,6 @@ module _ (settings : Settings) (before : List Come) (moment : ℕ) where
         later = [];
         flags = flags;
         topic = topic;
-        msg_id = msg_id;
         body = body;
         moment = moment;
         comes = refl;
@@ -194,9 +192,11 @@ step-just : (settings : Settings) (before : List Come) (event : Event) (moment :
 step-just settings before event moment h =
     let run : List Come = before ++ (event, moment) ∷ [] in
     event-just (Handed settings run) (Brought settings run) (MayTell settings run) settings event (moment_of moment) (emptied (after settings before))
-    (reasons settings before moment event)
-    (map-places (LaneJust (Handed settings before) (Brought settings before)) (LaneJust (Handed settings run) (Brought settings run))
-    (after settings before).lanes (λ place x p. last-on settings before ((event, moment) ∷ []) place x.last p) h, tt)
+    (reasons settings before moment event) (
+      map-places (LaneJust (Handed settings before) (Brought settings before)) (LaneJust (Handed settings run) (Brought settings run))
+          (after settings before).lanes (λ place x p. last-on settings before ((event, moment) ∷ []) place x.last p) h,
+      tt,
+    )
 
 standing-one : (settings : Settings) (before : List Come) (come : Come) → Standing settings before → Standing settings (before ++ come ∷ [])
 standing-one settings before come h =

@@ -4,6 +4,7 @@
 use Rattle.std.proofs.Common.{◌≡◌, ◌==◌, ◌+◌, ℕ, zero, suc, Bool, true, false, ◌&&◌, not, ◌||◌, if◌then◌else◌, List, [], ◌∷◌, ◌++◌, length, fold, Option, Some, None, refl, sym, ap, subst, arith, eqb-true}
 use Rattle.std.specs.Prelude.{is_some, nat_lt, nat_le, slice_get, slice_set}
 use Rattle.std.specs.List.{AllByRecursion}
+use Rattle.std.specs.Str.{bytes_eq}
 use Rattle.std.proofs.lemmas.Bool.{and_parts}
 use Rattle.mq_packet.specs.declared.packet.Delivery.TheVariants as deliveries
 use Rattle.mq_packet.specs.declared.packet.Packet.{Packet}
@@ -12,6 +13,8 @@ use Rattle.mq_packet.specs.declared.packet.Qos.{Qos}
 use Rattle.mq_packet.specs.declared.packet.Qos.TheVariants as levels
 use Rattle.sn_frame.specs.declared.flags.Qos.{Qos as FieldQos}
 use Rattle.sn_frame.specs.declared.flags.Qos.TheVariants as field_levels
+use Rattle.sn_frame.specs.declared.flags.TopicIdType.{TopicIdType}
+use Rattle.sn_frame.specs.declared.flags.TopicIdType.TheVariants as kinds
 use Rattle.sn_frame.specs.declared.frame.Frame.{Frame}
 use Rattle.sn_frame.specs.declared.frame.Frame.TheVariants as frames
 use Rattle.sn_frame.specs.FlagBits.{kind_of, qos_of}
@@ -78,14 +81,14 @@ map-places F G (y ∷ ys) f h = (f 0 y h.0, map-places (λ n. F (suc n)) (λ n. 
 -- ---- what is just
 
 -- a lane's open message came over it, and is answered only if it is good
-abbrev pub OpenJust : (ℕ → Type 0) → (ℕ → ℕ → Type 0) → ℕ → Open → Type 0
-OpenJust Good Own place held = Own place held.number × (held.is_answered ≡ true → Good held.number)
+abbrev pub OpenJust : (ℕ → Type 0) → (ℕ → ℕ → ℕ → Type 0) → ℕ → Open → Type 0
+OpenJust Good Own place held = Own place held.number held.msg_id × (held.is_answered ≡ true → Good held.number)
 
-abbrev pub LastJust : (ℕ → Type 0) → (ℕ → ℕ → Type 0) → ℕ → Option Open → Type 0
+abbrev pub LastJust : (ℕ → Type 0) → (ℕ → ℕ → ℕ → Type 0) → ℕ → Option Open → Type 0
 LastJust Good Own place None = Unit {0}
 LastJust Good Own place (Some held) = OpenJust Good Own place held
 
-abbrev pub LaneJust : (ℕ → Type 0) → (ℕ → ℕ → Type 0) → ℕ → Lane → Type 0
+abbrev pub LaneJust : (ℕ → Type 0) → (ℕ → ℕ → ℕ → Type 0) → ℕ → Lane → Type 0
 LaneJust Good Own place l = LastJust Good Own place l.last
 
 -- the broker may be told of what it wants to be told of: id 0 is none
@@ -105,12 +108,24 @@ ItemGood Good (Some item) = Good item.number
 refused : ◌≡◌ {A = ℕ} 2 0 → ⊥
 refused e = omega arith
 
+asked-again : ◌≡◌ {A = ℕ} 1 0 → ⊥
+asked-again e = omega arith
+
+-- a refusal is no acknowledgement
+refusal-at-not : (phase : Phase) → lane.refusal_at phase ≡ 0 → ⊥
+refusal-at-not (phases.Subscribing next) e = asked-again e
+refusal-at-not phase e = refused e
+
+refusal-not : (kind : TopicIdType) (phase : Phase) → lane.refusal kind phase ≡ 0 → ⊥
+refusal-not kinds.Normal phase e = refused e
+refusal-not kind phase e = refusal-at-not phase e
+
 unanswered : {A : Type 0} → false ≡ true → A
 unanswered e = cc
 
 -- a PUBLISH brings the next number to its lane
-abbrev pub FrameOwn : (ℕ → ℕ → Type 0) → ℕ → Frame → ℕ → Type 0
-FrameOwn Own place (frames.Publish flags topic msg_id body) number = Own place number
+abbrev pub FrameOwn : (ℕ → ℕ → ℕ → Type 0) → ℕ → Frame → ℕ → Type 0
+FrameOwn Own place (frames.Publish flags topic msg_id body) number = Own place number msg_id
 FrameOwn Own place frame number = Unit {0}
 
 -- PUBACK 0 of what was published last lets the broker be told of the first command
@@ -126,46 +141,61 @@ PacketGood Good May (packets.Publish delivery retain topic body) b = retain ≡ 
 PacketGood Good May packet b = Unit {0}
 
 -- what an event gives as reasons
-abbrev pub Reasons : (ℕ → Type 0) → (ℕ → ℕ → Type 0) → (ℕ → Type 0) → Event → Bridge → Type 0
+abbrev pub Reasons : (ℕ → Type 0) → (ℕ → ℕ → ℕ → Type 0) → (ℕ → Type 0) → Event → Bridge → Type 0
 Reasons Good Own May (events.Field place frame) b = FrameOwn Own place frame b.number
 Reasons Good Own May (events.Commands frame) b = FrameMay May frame b
 Reasons Good Own May (events.Broker packet) b = PacketGood Good May packet b
 Reasons Good Own May (events.Kept line) b = b.down.doing ≡ doings.Refusing line → FirstMay May b.down.queue
 Reasons Good Own May event b = Unit {0}
 
--- what holds of lanes, actions, readings that wait, and readings in flight
+-- what holds of lanes, actions, readings that wait, readings in flight, and the number of the next one
 abbrev pub Held : Type 1
-Held = List Lane → List Action → List Item → List Flight → Type 0
+Held = List Lane → List Action → List Item → List Flight → ℕ → Type 0
 
--- It is kept if something just is to be done, and if a reading waits or goes out.
-pub record IsKept (Good : ℕ → Type 0) (Own : ℕ → ℕ → Type 0) (May : ℕ → Type 0) (P : Held) : Type 0 where
-  pub acts : (a : Action) (l : List Lane) (out : List Action) (w : List Item) (f : List Flight) → IsJust Good Own May a → P l out w f → P l (out ++ a ∷ []) w f
-  pub queued : (item : Item) (l : List Lane) (out : List Action) (w : List Item) (f : List Flight) → P l out w f → P l out (w ++ item ∷ []) f
-  pub flown : (id : ℕ) (item : Item) (l : List Lane) (out : List Action) (w : List Item) (f : List Flight) → P l out w f → P l out w (f ++ record { id = id; item = item } ∷ [])
+abbrev pub At : Held → Bridge → Type 0
+At P b = P b.lanes b.out b.waiting b.flight b.number
 
--- And if a lane changes, what waits is offered, what is in flight goes out again, and a good reading
+-- a reading has come, which takes the next number
+abbrev pub one-taken : Bridge → Bridge
+one-taken b = record b { number = b.number + 1 }
+
+-- what is done beside first sendings of readings
+abbrev pub IsOther : Action → Type 0
+IsOther (actions.Reading number packet) = ⊥
+IsOther action = Unit {0}
+
+-- It is kept if something just is to be done, and if a reading comes, waits or goes out.
+pub record IsKept (Good : ℕ → Type 0) (Own : ℕ → ℕ → ℕ → Type 0) (May : ℕ → Type 0) (P : Held) : Type 0 where
+  pub acts : (a : Action) (l : List Lane) (out : List Action) (w : List Item) (f : List Flight) (n : ℕ) → IsJust Good Own May a → P l out w f n → P l (out ++ a ∷ []) w f n
+  pub queued : (item : Item) (l : List Lane) (out : List Action) (w : List Item) (f : List Flight) (n : ℕ) → P l out w f n → P l out (w ++ item ∷ []) f n
+  pub flown : (id : ℕ) (item : Item) (l : List Lane) (out : List Action) (w : List Item) (f : List Flight) (n : ℕ) → P l out w f n → P l out w (f ++ record { id = id; item = item } ∷ []) n
+  pub counts : (l : List Lane) (out : List Action) (w : List Item) (f : List Flight) (n : ℕ) → P l out w f n → P l out w f (n + 1)
+
+-- And of whole bridges: if something else than a first sending is to be done, if a lane changes, if
+-- a reading is taken, what waits is offered, what is in flight goes out again, and a good reading
 -- leaves it; and it says what lanes are.
-pub record IsWalked (Good : ℕ → Type 0) (Own : ℕ → ℕ → Type 0) (May : ℕ → Type 0) (P : Held) : Type 0 where
-  pub kept : IsKept Good Own May P
-  pub placed : (place : ℕ) (x : Lane) (l : List Lane) (out : List Action) (w : List Item) (f : List Flight) → LaneJust Good Own place x → P l out w f → P (slice_set l place x) out w f
-  pub there : (place : ℕ) (l : List Lane) (out : List Action) (w : List Item) (f : List Flight) → P l out w f → IfThere (LaneJust Good Own place) (slice_get l place)
-  pub offers : (settings : Settings) (b : Bridge) → P b.lanes b.out b.waiting b.flight → P (sends settings b).lanes (sends settings b).out (sends settings b).waiting (sends settings b).flight
-  pub repeated : (l : List Lane) (out : List Action) (w : List Item) (f : List Flight) → P l out w f → P l (fold out_again out f) w f
-  pub left : (id : ℕ) (l : List Lane) (out : List Action) (w : List Item) (f : List Flight) → ItemGood Good (acknowledged id f) → P l out w f → P l out w (left_in_flight id f)
+pub record IsWalked (Good : ℕ → Type 0) (Own : ℕ → ℕ → ℕ → Type 0) (May : ℕ → Type 0) (P : Held) : Type 0 where
+  pub acts : (a : Action) (l : List Lane) (out : List Action) (w : List Item) (f : List Flight) (n : ℕ) → IsOther a → IsJust Good Own May a → P l out w f n → P l (out ++ a ∷ []) w f n
+  pub placed : (place : ℕ) (x : Lane) (l : List Lane) (out : List Action) (w : List Item) (f : List Flight) (n : ℕ) → LaneJust Good Own place x → P l out w f n → P (slice_set l place x) out w f n
+  pub there : (place : ℕ) (l : List Lane) (out : List Action) (w : List Item) (f : List Flight) (n : ℕ) → P l out w f n → IfThere (LaneJust Good Own place) (slice_get l place)
+  pub taken : (settings : Settings) (item : Item) (b : Bridge) → item.number ≡ b.number → At P b → At P (takes settings item (one-taken b))
+  pub offers : (settings : Settings) (b : Bridge) → At P b → At P (sends settings b)
+  pub repeated : (l : List Lane) (out : List Action) (w : List Item) (f : List Flight) (n : ℕ) → P l out w f n → P l (fold out_again out f) w f n
+  pub left : (id : ℕ) (l : List Lane) (out : List Action) (w : List Item) (f : List Flight) (n : ℕ) → ItemGood Good (acknowledged id f) → P l out w f n → P l out w (left_in_flight id f) n
 
 -- ---- a reading is offered
 
-module _ (Good : ℕ → Type 0) (Own : ℕ → ℕ → Type 0) (May : ℕ → Type 0) (P : Held) (kept : IsKept Good Own May P) where
+module _ (Good : ℕ → Type 0) (Own : ℕ → ℕ → ℕ → Type 0) (May : ℕ → Type 0) (P : Held) (kept : IsKept Good Own May P) where
   abbrev K : Bridge → Type 0
-  K b = P b.lanes b.out b.waiting b.flight
+  K b = At P b
 
   pub sent-under-kept : (id : ℕ) (item : Item) (b : Bridge) → K b → K (sent_under id item b)
   sent-under-kept id item b h =
-      kept.acts (actions.ToBroker (in_flight false (record { id = id; item = item }))) b.lanes b.out b.waiting (b.flight ++ record { id = id; item = item } ∷ []) tt
-      (kept.flown id item b.lanes b.out b.waiting b.flight h)
+      kept.acts (actions.Reading item.number (in_flight false (record { id = id; item = item }))) b.lanes b.out b.waiting (b.flight ++ record { id = id; item = item } ∷ []) b.number tt
+      (kept.flown id item b.lanes b.out b.waiting b.flight b.number h)
 
   pub sent-at-kept : (qos : Qos) (item : Item) (b : Bridge) → K b → K (sent_at qos item b)
-  sent-at-kept levels.Zero item b h = kept.acts (actions.ToBroker (at_once item)) b.lanes b.out b.waiting b.flight tt h
+  sent-at-kept levels.Zero item b h = kept.acts (actions.Reading item.number (at_once item)) b.lanes b.out b.waiting b.flight b.number tt h
   sent-at-kept levels.One item b h = sent-under-kept (free_id b.packet_id b.flight) item b h
 
   choose-kept : (c : Bool) (x y : Bridge) → K x → K y → K (if c then x else y)
@@ -175,17 +205,29 @@ module _ (Good : ℕ → Type 0) (Own : ℕ → ℕ → Type 0) (May : ℕ → T
   pub offered-kept : (settings : Settings) (b : Bridge) (item : Item) → K b → K (offered settings b item)
   offered-kept settings b item h =
       choose-kept ((length b.waiting == 0) && has_window settings item.qos b.flight) (sent_at item.qos item b) (waits item b)
-      (sent-at-kept item.qos item b h) (kept.queued item b.lanes b.out b.waiting b.flight h)
+      (sent-at-kept item.qos item b h) (kept.queued item b.lanes b.out b.waiting b.flight b.number h)
 
   pub all-offered : (settings : Settings) (items : List Item) (b : Bridge) → K b → K (fold (offered settings) b items)
   all-offered settings [] b h = h
   all-offered settings (item ∷ more) b h = all-offered settings more (offered settings b item) (offered-kept settings b item h)
 
+  kept-at-kept : (qos : Qos) (item : Item) (b : Bridge) → K b → K (kept_at qos item b)
+  kept-at-kept levels.Zero item b h = h
+  kept-at-kept levels.One item b h = kept.queued item b.lanes b.out b.waiting b.flight b.number h
+
+  takes-at-kept : (side : Side) (settings : Settings) (item : Item) (b : Bridge) → K b → K (takes_at side settings item b)
+  takes-at-kept sides.Up settings item b h = offered-kept settings b item h
+  takes-at-kept side settings item b h = kept-at-kept item.qos item b h
+
+  pub taken-kept : (settings : Settings) (item : Item) (b : Bridge) → K b → K (takes settings item (one-taken b))
+  taken-kept settings item b h =
+      takes-at-kept b.side settings item (one-taken b) (kept.counts b.lanes b.out b.waiting b.flight b.number h)
+
 -- ---- all the rest
 
-module _ (Good : ℕ → Type 0) (Own : ℕ → ℕ → Type 0) (May : ℕ → Type 0) (P : Held) (walked : IsWalked Good Own May P) where
+module _ (Good : ℕ → Type 0) (Own : ℕ → ℕ → ℕ → Type 0) (May : ℕ → Type 0) (P : Held) (walked : IsWalked Good Own May P) where
   abbrev J : Bridge → Type 0
-  J b = P b.lanes b.out b.waiting b.flight
+  J b = At P b
 
   abbrev L : ℕ → Lane → Type 0
   L place x = LaneJust Good Own place x
@@ -202,39 +244,22 @@ module _ (Good : ℕ → Type 0) (Own : ℕ → ℕ → Type 0) (May : ℕ → T
   choose-not true x y p q = p
   choose-not false x y p q = q refl
 
-  does-just : (a : Action) (b : Bridge) → IsJust Good Own May a → J b → J (does a b)
-  does-just a b p h = walked.kept.acts a b.lanes b.out b.waiting b.flight p h
+  does-just : (a : Action) (b : Bridge) → IsOther a → IsJust Good Own May a → J b → J (does a b)
+  does-just a b o p h = walked.acts a b.lanes b.out b.waiting b.flight b.number o p h
 
   put-just : (place : ℕ) (x : Lane) (b : Bridge) → L place x → J b → J (lane.seated place x b)
-  put-just place x b p h = walked.placed place x b.lanes b.out b.waiting b.flight p h
+  put-just place x b p h = walked.placed place x b.lanes b.out b.waiting b.flight b.number p h
 
   says-just : (place : ℕ) (frame : Frame) (x : Lane) (b : Bridge) → IsFrame Good Own place frame → L place x → J b → J (lane.says place frame x b)
-  says-just place frame x b f p h = does-just (actions.ToField place frame) (lane.seated place x b) f (put-just place x b p h)
+  says-just place frame x b f p h = does-just (actions.ToField place frame) (lane.seated place x b) tt f (put-just place x b p h)
 
   -- ---- towards the broker
-
-  waits-just : (item : Item) (b : Bridge) → J b → J (waits item b)
-  waits-just item b h = walked.kept.queued item b.lanes b.out b.waiting b.flight h
-
-  offered-just : (settings : Settings) (b : Bridge) (item : Item) → J b → J (offered settings b item)
-  offered-just settings b item h = offered-kept Good Own May P walked.kept settings b item h
 
   sends-just : (settings : Settings) (b : Bridge) → J b → J (sends settings b)
   sends-just settings b h = walked.offers settings b h
 
-  kept-at-just : (qos : Qos) (item : Item) (b : Bridge) → J b → J (kept_at qos item b)
-  kept-at-just levels.Zero item b h = h
-  kept-at-just levels.One item b h = waits-just item b h
-
-  takes-at-just : (side : Side) (settings : Settings) (item : Item) (b : Bridge) → J b → J (takes_at side settings item b)
-  takes-at-just sides.Up settings item b h = offered-just settings b item h
-  takes-at-just side settings item b h = kept-at-just item.qos item b h
-
-  takes-just : (settings : Settings) (item : Item) (b : Bridge) → J b → J (takes settings item b)
-  takes-just settings item b h = takes-at-just b.side settings item b h
-
   all-again-just : (b : Bridge) → J b → J (all_again b)
-  all-again-just b h = walked.repeated b.lanes b.out b.waiting b.flight h
+  all-again-just b h = walked.repeated b.lanes b.out b.waiting b.flight b.number h
 
   -- ---- lanes
 
@@ -254,10 +279,10 @@ module _ (Good : ℕ → Type 0) (Own : ℕ → ℕ → Type 0) (May : ℕ → T
 
   counted-just : (settings : Settings) (place : ℕ) (qos : Qos) (up : UpName) (body : List ℕ) (b : Bridge) → J b → J (lane.counted settings place qos up body b)
   counted-just settings place qos up body b h =
-      takes-just settings (lane.item_of b.number place qos up body) (record b { number = b.number + 1 }) (h)
+      walked.taken settings (lane.item_of b.number place qos up body) b refl h
 
   brings-just : (settings : Settings) (place name : ℕ) (up : UpName) (topic_id msg_id : ℕ) (body : List ℕ) (x : Lane) (b : Bridge)
-      → Own place b.number → L place x → J b → J (lane.brings settings place name up topic_id msg_id body x b)
+      → Own place b.number msg_id → L place x → J b → J (lane.brings settings place name up topic_id msg_id body x b)
   brings-just settings place name up topic_id msg_id body x b own p h =
       let brought : Lane = record x { last = Some (lane.open_of b.number name topic_id msg_id body) } in
       choose (lane.has_room b) (lane.counted settings place levels.One up body (lane.seated place brought b)) (lane.seated place x b)
@@ -265,21 +290,26 @@ module _ (Good : ℕ → Type 0) (Own : ℕ → ℕ → Type 0) (May : ℕ → T
       (put-just place x b p h)
 
   again-at-just : (c : Bool) (place topic_id msg_id : ℕ) (held : Open) (x : Lane) (b : Bridge)
-      → held.is_answered ≡ c → OpenJust Good Own place held → J b → J (lane.again_at c place topic_id msg_id held x b)
-  again-at-just true place topic_id msg_id held x b e o h =
+      → held.is_answered ≡ c → held.msg_id ≡ msg_id → OpenJust Good Own place held → J b → J (lane.again_at c place topic_id msg_id held x b)
+  again-at-just true place topic_id msg_id held x b e same o h =
       says-just place (frames.PubAck topic_id msg_id 0) (record x { last = Some (record held { topic_id = topic_id }) }) b
-      (λ none. (held.number, o.1 e, o.0)) o h
-  again-at-just false place topic_id msg_id held x b e o h =
+      (λ none. (held.number, o.1 e, subst (λ id. Own place held.number id) same o.0)) o h
+  again-at-just false place topic_id msg_id held x b e same o h =
       put-just place (record x { last = Some (record held { topic_id = topic_id }) }) b o h
 
+  same-id : (name msg_id : ℕ) (body : List ℕ) (held : Open) → lane.is_same name msg_id body held ≡ true → held.msg_id ≡ msg_id
+  same-id name msg_id body held e =
+      let both = and_parts ((held.name == name) && (held.msg_id == msg_id)) (bytes_eq held.body body) e in
+      eqb-true held.msg_id msg_id (and_parts (held.name == name) (held.msg_id == msg_id) both.0).1
+
   brings-if-just : (last : Option Open) (settings : Settings) (place name : ℕ) (up : UpName) (topic_id msg_id : ℕ) (body : List ℕ) (x : Lane) (b : Bridge)
-      → LastJust Good Own place last → Own place b.number → L place x → J b → J (lane.brings_if last settings place name up topic_id msg_id body x b)
+      → LastJust Good Own place last → Own place b.number msg_id → L place x → J b → J (lane.brings_if last settings place name up topic_id msg_id body x b)
   brings-if-just None settings place name up topic_id msg_id body x b o own p h =
       brings-just settings place name up topic_id msg_id body x b own p h
   brings-if-just (Some held) settings place name up topic_id msg_id body x b o own p h =
-      choose (lane.is_same name msg_id body held) (lane.again_at held.is_answered place topic_id msg_id held x b)
+      choose-by (lane.is_same name msg_id body held) (lane.again_at held.is_answered place topic_id msg_id held x b)
       (lane.brings settings place name up topic_id msg_id body x b)
-      (again-at-just held.is_answered place topic_id msg_id held x b refl o h)
+      (λ e. again-at-just held.is_answered place topic_id msg_id held x b refl (same-id name msg_id body held e) o h)
       (brings-just settings place name up topic_id msg_id body x b own p h)
 
   passes-just : (settings : Settings) (place : ℕ) (up : UpName) (body : List ℕ) (x : Lane) (b : Bridge) → L place x → J b → J (lane.passes settings place up body x b)
@@ -289,28 +319,28 @@ module _ (Good : ℕ → Type 0) (Own : ℕ → ℕ → Type 0) (May : ℕ → T
       (put-just place x b p h)
 
   publication-at-just : (qos : FieldQos) (settings : Settings) (place name : ℕ) (up : UpName) (topic_id msg_id : ℕ) (body : List ℕ) (x : Lane) (b : Bridge)
-      → Own place b.number → L place x → J b → J (lane.publication_at qos settings place name up topic_id msg_id body x b)
+      → Own place b.number msg_id → L place x → J b → J (lane.publication_at qos settings place name up topic_id msg_id body x b)
   publication-at-just field_levels.Zero settings place name up topic_id msg_id body x b own p h = passes-just settings place up body x b p h
   publication-at-just field_levels.One settings place name up topic_id msg_id body x b own p h =
       brings-if-just x.last settings place name up topic_id msg_id body x b p own p h
   publication-at-just qos settings place name up topic_id msg_id body x b own p h = put-just place x b p h
 
-  unknown-at-just : (qos : FieldQos) (place topic_id msg_id : ℕ) (x : Lane) (b : Bridge) → L place x → J b → J (lane.unknown_at qos place topic_id msg_id x b)
-  unknown-at-just field_levels.One place topic_id msg_id x b p h =
-      says-just place (frames.PubAck topic_id msg_id 2) x b (λ e. absurd (refused e)) p h
-  unknown-at-just qos place topic_id msg_id x b p h = put-just place x b p h
+  unknown-at-just : (qos : FieldQos) (kind : TopicIdType) (place topic_id msg_id : ℕ) (x : Lane) (b : Bridge) → L place x → J b → J (lane.unknown_at qos kind place topic_id msg_id x b)
+  unknown-at-just field_levels.One kind place topic_id msg_id x b p h =
+      says-just place (frames.PubAck topic_id msg_id (lane.refusal kind x.phase)) x b (λ e. absurd (refusal-not kind x.phase e)) p h
+  unknown-at-just qos kind place topic_id msg_id x b p h = put-just place x b p h
 
-  named-at-just : (up : Option UpName) (qos : FieldQos) (settings : Settings) (place name topic_id msg_id : ℕ) (body : List ℕ) (x : Lane) (b : Bridge)
-      → Own place b.number → L place x → J b → J (lane.named_at up qos settings place name topic_id msg_id body x b)
-  named-at-just None qos settings place name topic_id msg_id body x b own p h = unknown-at-just qos place topic_id msg_id x b p h
-  named-at-just (Some up) qos settings place name topic_id msg_id body x b own p h =
+  named-at-just : (up : Option UpName) (qos : FieldQos) (kind : TopicIdType) (settings : Settings) (place name topic_id msg_id : ℕ) (body : List ℕ) (x : Lane) (b : Bridge)
+      → Own place b.number msg_id → L place x → J b → J (lane.named_at up qos kind settings place name topic_id msg_id body x b)
+  named-at-just None qos kind settings place name topic_id msg_id body x b own p h = unknown-at-just qos kind place topic_id msg_id x b p h
+  named-at-just (Some up) qos kind settings place name topic_id msg_id body x b own p h =
       publication-at-just qos settings place name up topic_id msg_id body x b own p h
 
-  known-at-just : (name : Option ℕ) (qos : FieldQos) (settings : Settings) (own : LaneSettings) (place topic_id msg_id : ℕ) (body : List ℕ) (x : Lane) (b : Bridge)
-      → Own place b.number → L place x → J b → J (lane.known_at name qos settings own place topic_id msg_id body x b)
-  known-at-just None qos settings own place topic_id msg_id body x b mine p h = unknown-at-just qos place topic_id msg_id x b p h
-  known-at-just (Some name) qos settings own place topic_id msg_id body x b mine p h =
-      named-at-just (slice_get own.names name) qos settings place name topic_id msg_id body x b mine p h
+  known-at-just : (name : Option ℕ) (qos : FieldQos) (kind : TopicIdType) (settings : Settings) (own : LaneSettings) (place topic_id msg_id : ℕ) (body : List ℕ) (x : Lane) (b : Bridge)
+      → Own place b.number msg_id → L place x → J b → J (lane.known_at name qos kind settings own place topic_id msg_id body x b)
+  known-at-just None qos kind settings own place topic_id msg_id body x b mine p h = unknown-at-just qos kind place topic_id msg_id x b p h
+  known-at-just (Some name) qos kind settings own place topic_id msg_id body x b mine p h =
+      named-at-just (slice_get own.names name) qos kind settings place name topic_id msg_id body x b mine p h
 
   registered-just : (name : Option ℕ) (place topic_id msg_id : ℕ) (x : Lane) (b : Bridge) → L place x → J b → J (lane.registered name place topic_id msg_id x b)
   registered-just None place topic_id msg_id x b p h = says-just place (frames.RegAck topic_id msg_id 3) x b tt p h
@@ -323,7 +353,7 @@ module _ (Good : ℕ → Type 0) (Own : ℕ → ℕ → Type 0) (May : ℕ → T
   awake-just : (settings : Settings) (own : LaneSettings) (place : ℕ) (m : Moment) (frame : Frame) (x : Lane) (b : Bridge)
       → FrameOwn Own place frame b.number → L place x → J b → J (lane.awake_frame settings own place m frame x b)
   awake-just settings own place m (frames.Publish flags topic msg_id body) x b mine p h =
-      known-at-just (lane.name_of (kind_of flags.bits) topic own.names x.ids) (qos_of flags.bits) settings own place topic msg_id body x b mine p h
+      known-at-just (lane.name_of (kind_of flags.bits) topic own.names x.ids) (qos_of flags.bits) (kind_of flags.bits) settings own place topic msg_id body x b mine p h
   awake-just settings own place m (frames.Register topic_id msg_id name) x b mine p h =
       registered-just (lane.place_of name own.names) place topic_id msg_id x b p h
   awake-just settings own place m (frames.Disconnect duration) x b mine p h = goes-away-just place m x b p h
@@ -370,7 +400,7 @@ module _ (Good : ℕ → Type 0) (Own : ℕ → ℕ → Type 0) (May : ℕ → T
   lane-tick-just place m own x b p h =
       choose (nat_lt m.at x.due) b (if nat_le TRIES x.tries then lane.gives_up place m x b else lane.again x.phase own place m x b) h
       (choose (nat_le TRIES x.tries) (lane.gives_up place m x b) (lane.again x.phase own place m x b)
-      (does-just (actions.NextGateway place) (lane.goes_away place m x b) tt (goes-away-just place m x b p h))
+      (does-just (actions.NextGateway place) (lane.goes_away place m x b) tt tt (goes-away-just place m x b p h))
       (lane-again-just x.phase own place m x b p h))
 
   asleep-in-just : (phase : Phase) (place : ℕ) (x : Lane) (b : Bridge) → L place x → J b → J (lane.asleep_in phase place x b)
@@ -383,7 +413,7 @@ module _ (Good : ℕ → Type 0) (Own : ℕ → ℕ → Type 0) (May : ℕ → T
   wakes-in-just phases.Asleep own place m x b h = connecting-just own place m x b h
   wakes-in-just phase own place m x b h = h
 
-  answered-at-just : (c : Bool) (place : ℕ) (held : Open) (x : Lane) (b : Bridge) → Own place held.number → Good held.number → J b → J (lane.answered_at c place held x b)
+  answered-at-just : (c : Bool) (place : ℕ) (held : Open) (x : Lane) (b : Bridge) → Own place held.number held.msg_id → Good held.number → J b → J (lane.answered_at c place held x b)
   answered-at-just true place held x b own good h =
       says-just place (frames.PubAck held.topic_id held.msg_id 0) (record x { last = Some (record held { is_answered = true }) }) b
       (λ none. (held.number, good, own)) (own, λ e. good) h
@@ -402,10 +432,10 @@ module _ (Good : ℕ → Type 0) (Own : ℕ → ℕ → Type 0) (May : ℕ → T
   down-just down b h = h
 
   says-down-just : (frame : Frame) (down : Down) (b : Bridge) → J b → J (command.says_down frame down b)
-  says-down-just frame down b h = does-just (actions.ToCommands frame) (command.put_down down b) tt (down-just down b h)
+  says-down-just frame down b h = does-just (actions.ToCommands frame) (command.put_down down b) tt tt (down-just down b h)
 
   told-just : (id : ℕ) (b : Bridge) → Tells May id → J b → J (command.told id b)
-  told-just id b may h = choose-not (id == 0) b (does (actions.ToBroker (packets.PubAck id)) b) h (λ e. does-just (actions.ToBroker (packets.PubAck id)) b (may e) h)
+  told-just id b may h = choose-not (id == 0) b (does (actions.ToBroker (packets.PubAck id)) b) h (λ e. does-just (actions.ToBroker (packets.PubAck id)) b tt (may e) h)
 
   queued-just : (id : ℕ) (from topic body : List ℕ) (b : Bridge) → J b → J (command.queued id from topic body b)
   queued-just id from topic body b h = h
@@ -448,7 +478,7 @@ module _ (Good : ℕ → Type 0) (Own : ℕ → ℕ → Type 0) (May : ℕ → T
   refusing-just why first down b h =
       let told : Down = record down { doing = doings.Refusing down.line; line = down.line + 1 } in
       choose (nat_lt down.line LAST_NUMBER) (does (actions.Refuse down.line first why) (command.put_down told b)) (command.put_down down b)
-      (does-just (actions.Refuse down.line first why) (command.put_down told b) tt (down-just told b h)) (down-just down b h)
+      (does-just (actions.Refuse down.line first why) (command.put_down told b) tt tt (down-just told b h)) (down-just down b h)
 
   sent-in-just : (phase : Phase) (dup : Bool) (m : Moment) (first : Command) (down : Down) (b : Bridge) → J b → J (command.sent_in phase dup m first down b)
   sent-in-just phases.Listening dup m first down b h = sent-as-just (command.short_name first.topic) dup m first down b h
@@ -549,7 +579,7 @@ module _ (Good : ℕ → Type 0) (Own : ℕ → ℕ → Type 0) (May : ℕ → T
   down-tick-just client m b h =
       choose (nat_lt m.at b.down.due) b (if nat_le TRIES b.down.tries then command.gives_up m b else command.again b.down.phase client m b) h
       (choose (nat_le TRIES b.down.tries) (command.gives_up m b) (command.again b.down.phase client m b)
-      (does-just actions.NextCommands (command.away m b.down b) tt (away-just m b.down b h)) (down-again-just b.down.phase client m b h))
+      (does-just actions.NextCommands (command.away m b.down b) tt tt (away-just m b.down b h)) (down-again-just b.down.phase client m b h))
 
   line-just : (doing : Doing) (line : ℕ) (m : Moment) (b : Bridge) → (doing ≡ doings.Refusing line → FirstMay May b.down.queue) → J b → J (command.kept_at doing line m b)
   line-just (doings.Refusing own) line m b may h =
@@ -567,7 +597,7 @@ module _ (Good : ℕ → Type 0) (Own : ℕ → ℕ → Type 0) (May : ℕ → T
   at-lane-just : (settings : Settings) (place : ℕ) (f : LaneSettings → Lane → Bridge → Bridge) (b : Bridge)
       → ((own : LaneSettings) (x : Lane) → L place x → J (f own x b)) → J b → J (whole.at_lane settings place f b)
   at-lane-just settings place f b k h =
-      lane-does-just (slice_get settings.lanes place) (slice_get b.lanes place) place f b (walked.there place b.lanes b.out b.waiting b.flight h) k h
+      lane-does-just (slice_get settings.lanes place) (slice_get b.lanes place) place f b (walked.there place b.lanes b.out b.waiting b.flight b.number h) k h
 
   lanes-along-just : (owns : List LaneSettings) (place : ℕ) (settings : Settings) (f : ℕ → LaneSettings → Lane → Bridge → Bridge) (b : Bridge)
       → ((place : ℕ) (own : LaneSettings) (x : Lane) (b : Bridge) → L place x → J b → J (f place own x b)) → J b → J (whole.lanes_along owns place settings f b)
@@ -589,7 +619,7 @@ module _ (Good : ℕ → Type 0) (Own : ℕ → ℕ → Type 0) (May : ℕ → T
       let begun : Bridge = record b { side = sides.Up; due = m.ping; tries = 0 } in
       let here : Bridge = whole.says_here settings begun in
       let said : J here =
-      does-just (actions.ToBroker (packets.Publish deliveries.Once true settings.state settings.here)) begun tt (h) in
+      does-just (actions.ToBroker (packets.Publish deliveries.Once true settings.state settings.here)) begun tt tt (h) in
       each-lane-just settings (λ place. lane.wakes place m) (sends settings (all_again here)) (λ place own x b p h. wakes-in-just x.phase own place m x b h)
       (sends-just settings (all_again here) (all-again-just here said))
 
@@ -598,7 +628,7 @@ module _ (Good : ℕ → Type 0) (Own : ℕ → ℕ → Type 0) (May : ℕ → T
   subscribe-at-just (Some entry) settings next m b h =
       let id : ℕ = free_id b.packet_id b.flight in
       does-just (actions.ToBroker (packets.Subscribe id entry.filter levels.One))
-      (record b { side = sides.Subscribing next; due = m.retry; packet_id = next_id id }) tt (h)
+      (record b { side = sides.Subscribing next; due = m.retry; packet_id = next_id id }) tt tt (h)
 
   subscribe-just : (settings : Settings) (next : ℕ) (m : Moment) (b : Bridge) → J b → J (whole.subscribing settings next m b)
   subscribe-just settings next m b h = subscribe-at-just (slice_get settings.downs next) settings next m b h
@@ -609,17 +639,17 @@ module _ (Good : ℕ → Type 0) (Own : ℕ → ℕ → Type 0) (May : ℕ → T
       (h)
 
   hangs-up-just : (settings : Settings) (due : ℕ) (b : Bridge) → J b → J (whole.hangs_up settings due b)
-  hangs-up-just settings due b h = does-just actions.HangUp (whole.lost settings due b) tt (lost-just settings due b h)
+  hangs-up-just settings due b h = does-just actions.HangUp (whole.lost settings due b) tt tt (lost-just settings due b h)
 
   welcomed-at-just : (session : Bool) (settings : Settings) (m : Moment) (b : Bridge) → J b → J (whole.welcomed_at session settings m b)
   welcomed-at-just true settings m b h = up-just settings m b h
   welcomed-at-just false settings m b h = subscribe-just settings 0 m b h
 
   answered-just : (item : Option Item) (settings : Settings) (id : ℕ) (b : Bridge) → ItemGood Good item → ItemGood Good (acknowledged id b.flight) → J b → J (whole.answered item settings id b)
-  answered-just None settings id b good taken h = walked.left id b.lanes b.out b.waiting b.flight taken h
+  answered-just None settings id b good taken h = walked.left id b.lanes b.out b.waiting b.flight b.number taken h
   answered-just (Some item) settings id b good taken h =
       let rest : Bridge = record b { flight = left_in_flight id b.flight } in
-      let left : J rest = walked.left id b.lanes b.out b.waiting b.flight taken h in
+      let left : J rest = walked.left id b.lanes b.out b.waiting b.flight b.number taken h in
       let answered : Bridge = whole.at_lane settings item.lane (lane.answers item.number item.lane) rest in
       let told : J answered =
       at-lane-just settings item.lane (lane.answers item.number item.lane) rest
@@ -667,11 +697,11 @@ module _ (Good : ℕ → Type 0) (Own : ℕ → ℕ → Type 0) (May : ℕ → T
       (choose (b.tries == 0) b (record b { tries = 0; due = m.ping }) h (h))
 
   side-due-just : (side : Side) (settings : Settings) (m : Moment) (b : Bridge) → J b → J (whole.side_due side settings m b)
-  side-due-just sides.Closed settings m b h = does-just actions.Dial (record b { due = m.retry }) tt (h)
+  side-due-just sides.Closed settings m b h = does-just actions.Dial (record b { due = m.retry }) tt tt (h)
   side-due-just sides.Up settings m b h =
       let asked : Bridge = record b { tries = 1; due = m.retry } in
       choose (b.tries == 0) (does (actions.ToBroker packets.PingReq) asked) (whole.hangs_up settings m.soon b)
-      (does-just (actions.ToBroker packets.PingReq) asked tt (h)) (hangs-up-just settings m.soon b h)
+      (does-just (actions.ToBroker packets.PingReq) asked tt tt (h)) (hangs-up-just settings m.soon b h)
   side-due-just side settings m b h = hangs-up-just settings m.soon b h
 
   side-tick-just : (settings : Settings) (m : Moment) (b : Bridge) → J b → J (whole.side_tick settings m b)
@@ -691,7 +721,7 @@ module _ (Good : ℕ → Type 0) (Own : ℕ → ℕ → Type 0) (May : ℕ → T
   event-walked settings (events.Broker packet) m b why h = packet-in-just b.side settings m packet b why h
   event-walked settings events.BrokerOpen m b why h =
       does-just (actions.ToBroker (packets.Connect false BROKER_KEEP_ALIVE settings.client settings.will settings.login))
-      (record b { side = sides.Connecting; due = m.retry; tries = 0 }) tt (h)
+      (record b { side = sides.Connecting; due = m.retry; tries = 0 }) tt tt (h)
   event-walked settings events.BrokerLost m b why h = lost-just settings m.soon b h
   event-walked settings (events.Kept line) m b why h = line-just b.down.doing line m b why h
   event-walked settings events.Tick m b why h = ticks-just settings m b h

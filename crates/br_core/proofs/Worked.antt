@@ -13,8 +13,7 @@ use Rattle.br_core.specs.declared.event.Event.TheVariants as events
 use Rattle.br_core.specs.declared.settings.Settings.{Settings}
 use Rattle.br_core.specs.declared.state.Bridge.{Bridge}
 use Rattle.br_core.specs.Begins.{begun}
-use Rattle.br_core.specs.Runs.{Come, after_from}
-use Rattle.br_core.specs.inner.Parts.{done_from}
+use Rattle.br_core.specs.Runs.{Come, after_from, done_from, firsts}
 
 -- one lane with one name, commands below `c/`, a window of two
 abbrev hello : Packet
@@ -66,7 +65,7 @@ reading =
     (events.Field 0 (frames.Publish once 5 9 (codes "21")), 3) ∷ (events.Broker (packets.PubAck 1), 4) ∷ []
 
 read_on : done_from small ready reading
-    ≡ actions.ToBroker sent ∷ actions.ToField 0 (frames.PubAck 5 9 0) ∷ []
+    ≡ actions.Reading 0 sent ∷ actions.ToField 0 (frames.PubAck 5 9 0) ∷ []
 read_on = refl
 
 -- the same message again is acknowledged again, and not sent twice
@@ -88,7 +87,7 @@ abbrev away : List Come
 away = (events.Field 0 (frames.Publish once 5 9 (codes "21")), 3) ∷ (events.BrokerLost, 4) ∷ []
 
 slept : done_from small ready away
-    ≡ actions.ToBroker sent ∷ actions.ToField 0 (frames.Disconnect (Some 65535)) ∷ []
+    ≡ actions.Reading 0 sent ∷ actions.ToField 0 (frames.Disconnect (Some 65535)) ∷ []
 slept = refl
 
 abbrev back : List Come
@@ -108,8 +107,21 @@ anew =
 
 brought_again : done_from small (after_from small (after_from small ready away) back) anew
     ≡ actions.ToField 0 (frames.Subscribe once 2 (codes "t/heat"))
-    ∷ actions.ToBroker (packets.Publish (deliveries.Acknowledged 2 false) false (codes "f/t/heat") (codes "21")) ∷ []
+    ∷ actions.Reading 1 (packets.Publish (deliveries.Acknowledged 2 false) false (codes "f/t/heat") (codes "21")) ∷ []
 brought_again = refl
+
+-- while names are subscribed to, a topic that is no id is asked for again later: then it has its id
+abbrev connecting : List Come
+connecting =
+    (events.BrokerOpen, 1) ∷ (events.Broker (packets.ConnAck true 0), 1)
+    ∷ (events.Field 0 (frames.ConnAck 0), 2) ∷ []
+
+abbrev predefined : Flags
+predefined = record { bits = 0x21 }
+
+asked_later : done_from small (after_from small (begun small) connecting) ((events.Field 0 (frames.Publish predefined 5 9 (codes "21")), 2) ∷ [])
+    ≡ actions.ToField 0 (frames.PubAck 5 9 1) ∷ []
+asked_later = refl
 
 -- a command: the name is registered, the command goes out, and the broker is told after the gateway's yes
 abbrev listening : List Come

@@ -178,28 +178,39 @@ publication_at field_levels.One settings place name up topic_id msg_id body lane
     brings_if lane.last settings place name up topic_id msg_id body lane bridge
 publication_at qos settings place name up topic_id msg_id body lane bridge = seated place lane bridge
 
--- under another topic id it is refused, and the gateway registers the id
-abbrev pub unknown_at : FieldQos → ℕ → ℕ → ℕ → Lane → Bridge → Bridge
-unknown_at field_levels.One place topic_id msg_id lane bridge =
-    says place (frames.PubAck topic_id msg_id 2) lane bridge
-unknown_at qos place topic_id msg_id lane bridge = seated place lane bridge
+-- The code that refuses a topic that is none of the lane's. After code 2 the gateway registers an id
+-- again. What is no id it would drop: while names are subscribed to it is asked to wait (code 1),
+-- and then publishes by the id.
+abbrev pub refusal_at : Phase → ℕ
+refusal_at (phases.Subscribing next) = 1
+refusal_at phase = 2
 
-abbrev pub named_at : Option UpName → FieldQos → Settings → ℕ → ℕ → ℕ → ℕ → List ℕ → Lane → Bridge → Bridge
-named_at None qos settings place name topic_id msg_id body lane bridge =
-    unknown_at qos place topic_id msg_id lane bridge
-named_at (Some up) qos settings place name topic_id msg_id body lane bridge =
+abbrev pub refusal : TopicIdType → Phase → ℕ
+refusal kinds.Normal phase = 2
+refusal kind phase = refusal_at phase
+
+-- a message under such a topic is refused
+abbrev pub unknown_at : FieldQos → TopicIdType → ℕ → ℕ → ℕ → Lane → Bridge → Bridge
+unknown_at field_levels.One kind place topic_id msg_id lane bridge =
+    says place (frames.PubAck topic_id msg_id (refusal kind lane.phase)) lane bridge
+unknown_at qos kind place topic_id msg_id lane bridge = seated place lane bridge
+
+abbrev pub named_at : Option UpName → FieldQos → TopicIdType → Settings → ℕ → ℕ → ℕ → ℕ → List ℕ → Lane → Bridge → Bridge
+named_at None qos kind settings place name topic_id msg_id body lane bridge =
+    unknown_at qos kind place topic_id msg_id lane bridge
+named_at (Some up) qos kind settings place name topic_id msg_id body lane bridge =
     publication_at qos settings place name up topic_id msg_id body lane bridge
 
-abbrev pub known_at : Option ℕ → FieldQos → Settings → LaneSettings → ℕ → ℕ → ℕ → List ℕ → Lane → Bridge → Bridge
-known_at None qos settings own place topic_id msg_id body lane bridge =
-    unknown_at qos place topic_id msg_id lane bridge
-known_at (Some name) qos settings own place topic_id msg_id body lane bridge =
-    named_at (slice_get own.names name) qos settings place name topic_id msg_id body lane bridge
+abbrev pub known_at : Option ℕ → FieldQos → TopicIdType → Settings → LaneSettings → ℕ → ℕ → ℕ → List ℕ → Lane → Bridge → Bridge
+known_at None qos kind settings own place topic_id msg_id body lane bridge =
+    unknown_at qos kind place topic_id msg_id lane bridge
+known_at (Some name) qos kind settings own place topic_id msg_id body lane bridge =
+    named_at (slice_get own.names name) qos kind settings place name topic_id msg_id body lane bridge
 
 abbrev pub publication : Settings → LaneSettings → ℕ → Flags → ℕ → ℕ → List ℕ → Lane → Bridge → Bridge
 publication settings own place flags topic_id msg_id body lane bridge =
     known_at (name_of (kind_of flags.bits) topic_id own.names lane.ids) (qos_of flags.bits)
-    settings own place topic_id msg_id body lane bridge
+    (kind_of flags.bits) settings own place topic_id msg_id body lane bridge
 
 -- REGISTER of one of the names gives its topic id; another name is none of the lane's
 abbrev pub registered : Option ℕ → ℕ → ℕ → ℕ → Lane → Bridge → Bridge

@@ -1,5 +1,5 @@
 -- Runs of a bridge, and what must hold of each.
-use Rattle.std.specs.Prelude.{◌≡◌, ℕ, ◌⊎◌, Bool, true, List, [], ◌∷◌, ◌++◌, Some}
+use Rattle.std.specs.Prelude.{◌≡◌, ◌≤◌, ℕ, ◌+◌, ◌⊎◌, Bool, true, List, [], ◌∷◌, ◌++◌, Some}
 use Rattle.std.specs.List.{AllByRecursion}
 use Rattle.mq_packet.specs.declared.packet.Delivery.TheVariants as deliveries
 use Rattle.mq_packet.specs.declared.packet.Packet.{Packet}
@@ -67,13 +67,12 @@ Flies number (f ∷ more) = (f.item.number ≡ number) ⊎ Flies number more
 abbrev pub IsIn : ℕ → Bridge → Type 0
 IsIn number bridge = Waits number bridge.waiting ⊎ Flies number bridge.flight
 
--- The reading of this number came from the gateway of this lane in a PUBLISH.
-pub record Brought (settings : Settings) (run : List Come) (place number : ℕ) : Type 0 where
+-- The reading of this number came from the gateway of this lane, in a PUBLISH of this message id.
+pub record Brought (settings : Settings) (run : List Come) (place number msg_id : ℕ) : Type 0 where
   pub earlier : List Come
   pub later : List Come
   pub flags : Flags
   pub topic : ℕ
-  pub msg_id : ℕ
   pub body : List ℕ
   pub moment : ℕ
   pub comes : run ≡ earlier ++ (events.Field place (frames.Publish flags topic msg_id body), moment) ∷ later
@@ -117,10 +116,11 @@ pub record IsOld (run : List Come) (id : ℕ) : Type 0 where
 abbrev pub MayTell : Settings → List Come → ℕ → Type 0
 MayTell settings run id = Accepted settings run id ⊎ (LineKept settings run id ⊎ IsOld run id)
 
--- A lane says PUBACK with code 0 only of a reading that has this, and came over this lane.
-abbrev pub IsFrame : (ℕ → Type 0) → (ℕ → ℕ → Type 0) → ℕ → Frame → Type 0
+-- A lane says PUBACK with code 0 only of a reading that has this, and came over this lane under the
+-- message id that is acknowledged.
+abbrev pub IsFrame : (ℕ → Type 0) → (ℕ → ℕ → ℕ → Type 0) → ℕ → Frame → Type 0
 IsFrame Good Own place (frames.PubAck topic_id msg_id code) =
-    code ≡ 0 → (number : ℕ) × Good number × Own place number
+    code ≡ 0 → (number : ℕ) × Good number × Own place number msg_id
 IsFrame Good Own place frame = Unit {0}
 
 -- The broker is told PUBACK only of a publication that has this.
@@ -128,9 +128,10 @@ abbrev pub IsPacket : (ℕ → Type 0) → Packet → Type 0
 IsPacket May (packets.PubAck id) = May id
 IsPacket May packet = Unit {0}
 
-abbrev pub IsJust : (ℕ → Type 0) → (ℕ → ℕ → Type 0) → (ℕ → Type 0) → Action → Type 0
+abbrev pub IsJust : (ℕ → Type 0) → (ℕ → ℕ → ℕ → Type 0) → (ℕ → Type 0) → Action → Type 0
 IsJust Good Own May (actions.ToField place frame) = IsFrame Good Own place frame
 IsJust Good Own May (actions.ToBroker packet) = IsPacket May packet
+IsJust Good Own May (actions.Reading number packet) = IsPacket May packet
 IsJust Good Own May action = Unit {0}
 
 -- What is to be done after a run acknowledges nothing without a reason: to a gateway what the broker
@@ -142,3 +143,26 @@ IsAllowed settings run action =
 
 abbrev pub AreAllowed : Settings → List Come → List Action → Type 0
 AreAllowed settings run actions = AllByRecursion (IsAllowed settings run) actions
+
+-- all that was to be done in a run, in its order
+abbrev pub done_from : Settings → Bridge → List Come → List Action
+done_from settings bridge [] = []
+done_from settings bridge (come ∷ more) =
+    (stepped settings bridge come).out ++ done_from settings (stepped settings bridge come) more
+
+abbrev pub done : Settings → List Come → List Action
+done settings run = done_from settings (begun settings) run
+
+-- the numbers of the readings that went out for the first time, in this order
+abbrev pub first_in : Action → List ℕ
+first_in (actions.Reading number packet) = number ∷ []
+first_in action = []
+
+abbrev pub firsts : List Action → List ℕ
+firsts [] = []
+firsts (action ∷ more) = first_in action ++ firsts more
+
+-- numbers go up from one on, and end below another
+abbrev pub Rises : ℕ → List ℕ → ℕ → Type 0
+Rises low [] high = low ≤ high
+Rises low (number ∷ more) high = (low ≤ number) × Rises (number + 1) more high

@@ -56,7 +56,7 @@ has_window settings levels.One flight = nat_lt (length flight) settings.window
 -- a reading is sent under a packet id, and is in flight
 abbrev pub sent_under : ℕ → Item → Bridge → Bridge
 sent_under id item bridge =
-    does (actions.ToBroker (in_flight false (record { id = id; item = item })))
+    does (actions.Reading item.number (in_flight false (record { id = id; item = item })))
     (record bridge {
       flight = bridge.flight ++ record { id = id; item = item } ∷ [];
       packet_id = next_id id;
@@ -64,7 +64,7 @@ sent_under id item bridge =
 
 -- a reading is sent; without an acknowledgement it is handed on at once
 abbrev pub sent_at : Qos → Item → Bridge → Bridge
-sent_at levels.Zero item bridge = does (actions.ToBroker (at_once item)) bridge
+sent_at levels.Zero item bridge = does (actions.Reading item.number (at_once item)) bridge
 sent_at levels.One item bridge = sent_under (free_id bridge.packet_id bridge.flight) item bridge
 
 -- a reading waits behind those that wait

@@ -31,6 +31,11 @@ pub enum Action {
     ToBroker {
         packet: Packet,
     },
+    /// A packet to the broker with the reading of this number, which goes out for the first time.
+    Reading {
+        number: u64,
+        packet: Packet,
+    },
     /// A line of what no side will have, synced; then `Kept` with its number.
     Refuse {
         line: u64,

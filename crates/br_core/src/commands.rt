@@ -10,8 +10,8 @@ use crate::item::Command;
 use crate::settings::DownFilter;
 use crate::sides::{does, next_id, once_more};
 use crate::state::{
-    Bridge, Doing, KEEP_ALIVE, LAST_NUMBER, MAX_BODY, MAX_COMMANDS, MAX_NAMES, Moment,
-    NamedTopic, Phase, TRIES,
+    Bridge, Doing, KEEP_ALIVE, LAST_NUMBER, MAX_BODY, MAX_COMMANDS, MAX_NAMES, Moment, NamedTopic,
+    Phase, TRIES,
 };
 use br_map::asks_for;
 use mq_packet::Packet;
@@ -167,7 +167,11 @@ fn is_waiting(id: u16, queue: &[Command]) -> bool
 fn is_queued(id: u16, queue: &[Command]) -> bool
     ensures { result ≡ spec.is_queued id queue.now }
 {
-    if id == 0 { false } else { is_waiting(id, queue) }
+    if id == 0 {
+        false
+    } else {
+        is_waiting(id, queue)
+    }
 }
 
 /// A publication of the broker comes. What comes again while it waits is the same command; without
@@ -377,7 +381,11 @@ fn taken_first(alloc: Global, bridge: &mut Bridge) -> Option<Command>
     ensures rest { bridge.new ≡ inner.without_first bridge.old }
 {
     let mut queue = mem::replace(&mut bridge.down.queue, Sequence::empty(alloc)).into_vec();
-    let first = if queue.is_empty() { None } else { Some(queue.remove(0)) };
+    let first = if queue.is_empty() {
+        None
+    } else {
+        Some(queue.remove(0))
+    };
     bridge.down.queue = Sequence::new(queue);
     first
 }
@@ -581,12 +589,7 @@ fn unfinished(doing: Doing) -> Doing
 }
 
 /// CONNACK 0: commands go out.
-fn connected(
-    alloc: Global,
-    m: Moment,
-    frame: &Frame,
-    bridge: &mut Bridge,
-) -> Result<(), NoMemory>
+fn connected(alloc: Global, m: Moment, frame: &Frame, bridge: &mut Bridge) -> Result<(), NoMemory>
     ensures { OnOk result (bridge.new ≡ spec.connected m frame.now bridge.old) }
 {
     let Frame::ConnAck { code } = frame else {
@@ -637,12 +640,7 @@ fn again_at(alloc: Global, m: Moment, bridge: &mut Bridge) -> Result<(), NoMemor
 }
 
 /// What is due is sent again.
-fn again(
-    alloc: Global,
-    client: &Octets,
-    m: Moment,
-    bridge: &mut Bridge,
-) -> Result<(), NoMemory>
+fn again(alloc: Global, client: &Octets, m: Moment, bridge: &mut Bridge) -> Result<(), NoMemory>
     ensures { OnOk result (bridge.new ≡ spec.again bridge.old.down.phase client.now m bridge.old) }
 {
     let phase = bridge.down.phase;
@@ -674,12 +672,7 @@ pub(crate) fn down_tick(
 }
 
 /// A line is on the disk: it counts if it is that of the first command.
-pub(crate) fn kept(
-    alloc: Global,
-    line: u64,
-    m: Moment,
-    bridge: &mut Bridge,
-) -> Result<(), NoMemory>
+pub(crate) fn kept(alloc: Global, line: u64, m: Moment, bridge: &mut Bridge) -> Result<(), NoMemory>
     ensures { OnOk result (bridge.new ≡ spec.kept line m bridge.old) }
 {
     let doing = bridge.down.doing;

@@ -347,9 +347,31 @@ fn passes(
     }
 }
 
-/// A PUBLISH under a topic that is none of the lane's is refused, and the gateway registers its id.
+/// The code that refuses a topic which is no id: congestion while names are subscribed to, since the
+/// gateway then publishes it by its id, and code 2 would drop it.
+fn refusal_at(phase: Phase) -> u8
+    ensures { result ≡ spec.refusal_at phase }
+{
+    match phase {
+        Phase::Subscribing { .. } => 1,
+        Phase::Away | Phase::Connecting | Phase::Listening | Phase::Asleep => 2,
+    }
+}
+
+/// The code that refuses a topic: after code 2 the gateway registers an id again.
+fn refusal(kind: TopicIdType, phase: Phase) -> u8
+    ensures { result ≡ spec.refusal kind phase }
+{
+    match kind {
+        TopicIdType::Normal => 2,
+        TopicIdType::Predefined | TopicIdType::Short | TopicIdType::Reserved => refusal_at(phase),
+    }
+}
+
+/// A PUBLISH under a topic that is none of the lane's is refused.
 fn unknown(
     qos: FieldQos,
+    kind: TopicIdType,
     place: usize,
     topic_id: u16,
     msg_id: u16,
@@ -357,11 +379,12 @@ fn unknown(
     bridge: &mut Bridge,
 ) -> Result<(), NoMemory>
     requires { place < length bridge.old.lanes }
-    ensures { OnOk result (bridge.new ≡ spec.unknown_at qos place topic_id msg_id lane bridge.old) }
+    ensures { OnOk result (bridge.new ≡ spec.unknown_at qos kind place topic_id msg_id lane
+        bridge.old) }
 {
     match qos {
         FieldQos::One => {
-            let code = 2;
+            let code = refusal(kind, lane.phase);
             let frame = Frame::PubAck {
                 topic_id,
                 msg_id,
@@ -425,10 +448,26 @@ fn publication(
 {
     let names = own.names.as_slice();
     let Some(name) = name_of(flags.kind(), topic_id, names, lane.ids.as_slice()) else {
-        return unknown(flags.qos(), place, topic_id, msg_id, lane, bridge);
+        return unknown(
+            flags.qos(),
+            flags.kind(),
+            place,
+            topic_id,
+            msg_id,
+            lane,
+            bridge,
+        );
     };
     let Some(up) = names.get(name) else {
-        return unknown(flags.qos(), place, topic_id, msg_id, lane, bridge);
+        return unknown(
+            flags.qos(),
+            flags.kind(),
+            place,
+            topic_id,
+            msg_id,
+            lane,
+            bridge,
+        );
     };
     published(
         alloc,
@@ -524,9 +563,7 @@ fn awake_frame(
             topic_id,
             msg_id,
             name,
-        } => registered(
-            alloc, own, place, *topic_id, *msg_id, name, lane, bridge,
-        ),
+        } => registered(alloc, own, place, *topic_id, *msg_id, name, lane, bridge),
         Frame::Disconnect { .. } => {
             goes_away(place, m, lane, bridge);
             Ok(())
@@ -663,13 +700,28 @@ pub(crate) fn lane_frame(
             naming_frame(alloc, settings, own, place, next, m, frame, lane, bridge)
         }
         Phase::Listening => {
-            awake_frame(alloc, settings, own, place, m, frame, heard(m, lane), bridge)
+            awake_frame(
+                alloc,
+                settings,
+                own,
+                place,
+                m,
+                frame,
+                heard(m, lane),
+                bridge,
+            )
         }
     }
 }
 
 /// A sign of life (section 6.11).
-fn pings(place: usize, m: Moment, mut lane: Lane, client: Octets, bridge: &mut Bridge) -> Result<(), NoMemory>
+fn pings(
+    place: usize,
+    m: Moment,
+    mut lane: Lane,
+    client: Octets,
+    bridge: &mut Bridge,
+) -> Result<(), NoMemory>
     requires { place < length bridge.old.lanes }
     ensures { OnOk result (bridge.new ≡ spec.pings place m lane client bridge.old) }
 {
@@ -733,7 +785,11 @@ pub(crate) fn lane_tick(
 }
 
 /// A lane that may not acknowledge falls asleep (section 6.14).
-pub(crate) fn falls_asleep(place: usize, mut lane: Lane, bridge: &mut Bridge) -> Result<(), NoMemory>
+pub(crate) fn falls_asleep(
+    place: usize,
+    mut lane: Lane,
+    bridge: &mut Bridge,
+) -> Result<(), NoMemory>
     requires { place < length bridge.old.lanes }
     ensures { OnOk result (bridge.new ≡ spec.asleep_in lane.phase place lane bridge.old) }
 {
@@ -781,7 +837,12 @@ fn is_awake(phase: Phase) -> bool
 }
 
 /// The lane's open message may be acknowledged.
-fn answered(place: usize, mut held: Open, mut lane: Lane, bridge: &mut Bridge) -> Result<(), NoMemory>
+fn answered(
+    place: usize,
+    mut held: Open,
+    mut lane: Lane,
+    bridge: &mut Bridge,
+) -> Result<(), NoMemory>
     requires { place < length bridge.old.lanes }
     ensures { OnOk result (bridge.new ≡ spec.answered_at (spec.is_awake lane.phase) place held lane
         bridge.old) }

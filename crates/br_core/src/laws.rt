@@ -3,7 +3,7 @@
 ghost use Rattle.std.specs.Prelude.{ℕ, [], ◌∷◌, ◌++◌, ◌⊎◌, List};
 ghost use Rattle.br_core.specs.declared.event.Event.{Event};
 ghost use Rattle.br_core.specs.declared.settings.Settings.{Settings};
-ghost use Rattle.br_core.specs.Runs.{AreAllowed, Come, Handed, IsIn, after, stepped};
+ghost use Rattle.br_core.specs.Runs.{AreAllowed, Come, Handed, IsIn, Rises, after, done, firsts, stepped};
 
 /// What was taken from one side is acknowledged there only after the other side has acknowledged
 /// it, or after a line of what no side will have is on the disk. It holds of every list of events,
@@ -21,4 +21,12 @@ pub fn nothing_drops()
     ensures { (settings : Settings) (before later : List Come) (number : ℕ)
         → IsIn number (after settings before) → Handed settings (before ++ later) number
         ⊎ IsIn number (after settings (before ++ later)) }
+{}
+
+/// Readings go to the broker for the first time in the order in which lanes brought them, each of
+/// them once: the numbers that they get as they come go up. So each lane keeps its order. The
+/// function does nothing; its contract is the law.
+pub fn keeps_order()
+    ensures { (settings : Settings) (run : List Come)
+        → Rises 0 (firsts (done settings run)) (after settings run).number }
 {}

@@ -90,18 +90,14 @@ fn has_window(settings: &Settings, qos: Qos, flight: &[Flight]) -> bool
 }
 
 /// A reading is sent under a packet id, and is in flight.
-fn sent_under(
-    alloc: Global,
-    id: u16,
-    item: Item,
-    bridge: &mut Bridge,
-) -> Result<(), NoMemory>
+fn sent_under(alloc: Global, id: u16, item: Item, bridge: &mut Bridge) -> Result<(), NoMemory>
     ensures { OnOk result (bridge.new ≡ spec.sent_under id item bridge.old) }
 {
+    let number = item.number;
     let packet = in_flight(alloc, false, id, &item)?;
     bridge.flight.push(Flight { id, item })?;
     bridge.packet_id = next_id(id);
-    does(bridge, Action::ToBroker { packet })
+    does(bridge, Action::Reading { number, packet })
 }
 
 /// A reading is sent; without an acknowledgement it is handed on at once.
@@ -109,7 +105,11 @@ fn sent(alloc: Global, item: Item, bridge: &mut Bridge) -> Result<(), NoMemory>
     ensures { OnOk result (bridge.new ≡ spec.sent_at item.qos item bridge.old) }
 {
     match item.qos {
-        Qos::Zero => does(bridge, Action::ToBroker { packet: at_once(item) }),
+        Qos::Zero => {
+            let number = item.number;
+            let packet = at_once(item);
+            does(bridge, Action::Reading { number, packet })
+        }
         Qos::One => {
             let id = free_id(bridge.packet_id, bridge.flight.as_slice());
             sent_under(alloc, id, item, bridge)
@@ -150,11 +150,7 @@ fn offered(
 }
 
 /// What waits is offered again, in its order.
-pub(crate) fn sends(
-    alloc: Global,
-    settings: &Settings,
-    bridge: &mut Bridge,
-) -> Result<(), NoMemory>
+pub(crate) fn sends(alloc: Global, settings: &Settings, bridge: &mut Bridge) -> Result<(), NoMemory>
     ensures { OnOk result (bridge.new ≡ spec.sends settings.now bridge.old) }
 {
     let waiting = mem::replace(&mut bridge.waiting, Sequence::empty(alloc));
@@ -223,8 +219,10 @@ fn taken_out(id: u16, flight: &mut Vec<Flight>) -> Option<Item>
 /// The reading that a PUBACK of the broker acknowledges, which is in flight no more.
 pub(crate) fn acknowledged(alloc: Global, id: u16, bridge: &mut Bridge) -> Option<Item>
     ensures item { result ≡ spec.acknowledged id bridge.old.flight }
-    ensures left { bridge.new ≡ record bridge.old { flight = spec.left_in_flight id
-        bridge.old.flight } }
+    ensures left { bridge.new ≡ record bridge.old {
+      flight = spec.left_in_flight id
+          bridge.old.flight;
+    } }
 {
     let mut flight = mem::replace(&mut bridge.flight, Sequence::empty(alloc)).into_vec();
     let item = taken_out(id, &mut flight);
@@ -233,11 +231,7 @@ pub(crate) fn acknowledged(alloc: Global, id: u16, bridge: &mut Bridge) -> Optio
 }
 
 /// What is in flight goes out again, in its order, under its packet ids (MQTT 3.1.1 section 4.4).
-fn sent_again(
-    alloc: Global,
-    flight: &[Flight],
-    out: &mut Sequence<Action>,
-) -> Result<(), NoMemory>
+fn sent_again(alloc: Global, flight: &[Flight], out: &mut Sequence<Action>) -> Result<(), NoMemory>
     ensures { OnOk result (out.new ≡ fold spec.out_again out.old flight.now) }
 {
     for f in flight {

@@ -229,12 +229,7 @@ fn says_here(alloc: Global, settings: &Settings, bridge: &mut Bridge) -> Result<
 }
 
 /// The broker is there: what is in flight goes out again, what waits is sent, lanes wake.
-fn up(
-    alloc: Global,
-    settings: &Settings,
-    m: Moment,
-    bridge: &mut Bridge,
-) -> Result<(), NoMemory>
+fn up(alloc: Global, settings: &Settings, m: Moment, bridge: &mut Bridge) -> Result<(), NoMemory>
     ensures { OnOk result (bridge.new ≡ spec.up settings.now m bridge.old) }
 {
     bridge.side = Side::Up;
@@ -283,12 +278,7 @@ fn ended(alloc: Global, due: u64, bridge: &mut Bridge)
 }
 
 /// The connection is over, and lanes fall asleep, since they may not acknowledge.
-fn lost(
-    alloc: Global,
-    settings: &Settings,
-    due: u64,
-    bridge: &mut Bridge,
-) -> Result<(), NoMemory>
+fn lost(alloc: Global, settings: &Settings, due: u64, bridge: &mut Bridge) -> Result<(), NoMemory>
     ensures { OnOk result (bridge.new ≡ spec.lost settings.now due bridge.old) }
 {
     ended(alloc, due, bridge);
@@ -596,12 +586,7 @@ fn side_tick(
 }
 
 /// Time goes by.
-fn ticks(
-    alloc: Global,
-    settings: &Settings,
-    m: Moment,
-    bridge: &mut Bridge,
-) -> Result<(), NoMemory>
+fn ticks(alloc: Global, settings: &Settings, m: Moment, bridge: &mut Bridge) -> Result<(), NoMemory>
     ensures { OnOk result (bridge.new ≡ spec.ticks settings.now m bridge.old) }
 {
     all_tick(alloc, settings, m, bridge)?;

@@ -251,7 +251,7 @@ fn print_action(alloc: Global, text: &mut String, action: &Action) -> Result<(),
             let digits = Digits(octets.as_slice());
             Ok(writeln!(text, "to-commands {digits}")?)
         }
-        Action::ToBroker { packet } => {
+        Action::ToBroker { packet } | Action::Reading { packet, .. } => {
             let said = Said(packet);
             Ok(writeln!(text, "to-broker {said}")?)
         }

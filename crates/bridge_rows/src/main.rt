@@ -87,7 +87,13 @@ fn play_input(rt: &HostRuntime) -> Result<(), Stop> {
     let mut stage = None;
     for line in rt.lines(rt.alloc()) {
         let line = line?;
-        answer(rt.alloc(), &mut printed, &mut kept, &mut stage, line.as_str())?;
+        answer(
+            rt.alloc(),
+            &mut printed,
+            &mut kept,
+            &mut stage,
+            line.as_str(),
+        )?;
     }
     Ok(io::writer(rt).write_all(printed.as_bytes())?)
 }

@@ -91,7 +91,8 @@ fn add_names(
     let kept = list_at(table, "retain", "up.retain")?;
     for item in list_at(table, list, key)? {
         let name = name_of(alloc, text_of(item, key)?, key)?;
-        let is_good = (name.bytes().len() == 2) == short && !is_there(names.as_slice(), name.bytes());
+        let is_good = (name.bytes().len() == 2) == short
+            && !is_there(names.as_slice(), name.bytes());
         if !is_good {
             return Err(Stop::Key(key));
         }

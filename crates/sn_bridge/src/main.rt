@@ -12,6 +12,7 @@
 //! - `reading`: the settings file.
 //! - `keys`: what a document says of each key.
 //! - `entries`: names that go up, and filters whose messages come down.
+//! - `ignored`: keys that mean nothing.
 //! - `parsing`: all of them, the first bad one named.
 //! - `stop`: why the program ends early (`Stop`).
 //! - `ends`: the sockets of the lanes, and the connection to the broker.
@@ -22,6 +23,7 @@
 
 mod ends;
 mod entries;
+mod ignored;
 mod keys;
 mod parsing;
 mod reading;

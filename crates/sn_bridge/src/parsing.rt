@@ -159,7 +159,7 @@ fn shared(mut lanes: Vec<LaneSettings>, ups: Vec<UpName>) -> Result<Vec<LaneSett
             return Err(Stop::Key("lanes"));
         }
         lane.names.push(up)?;
-        place += 1;
+        place = place.saturating_add(1);
     }
     Ok(lanes)
 }

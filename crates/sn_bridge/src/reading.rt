@@ -1,5 +1,6 @@
 //! The settings file, and the file of the password.
 
+use crate::ignored::tell_ignored;
 use crate::parsing::{Setup, setup_in};
 use crate::stop::Stop;
 use std::alloc::Global;
@@ -23,7 +24,10 @@ pub(crate) fn setup_at<R: Files<File = File>, E: Write>(
 ) -> Result<Setup, Stop> {
     let text = text_at(rt, alloc, path, err)?;
     match toml::table_from_str(alloc, text.as_str()) {
-        Ok(table) => setup_in(rt, alloc, &table),
+        Ok(table) => {
+            tell_ignored(path, &table, err);
+            setup_in(rt, alloc, &table)
+        }
         Err(error) => {
             if error.is_memory() {
                 return Err(Stop::Memory);
@@ -76,7 +80,7 @@ fn read_into<R: Files<File = File>>(
     octets: &mut Vec<u8>,
 ) -> io::Result<()> {
     let file = File::open(rt, path)?;
-    file.take(most + 1).read_to_end(octets)?;
+    file.take(most.saturating_add(1)).read_to_end(octets)?;
     Ok(())
 }
 

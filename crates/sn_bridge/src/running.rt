@@ -4,7 +4,7 @@ use crate::ends::{Gate, Line, Looked, dial};
 use crate::parsing::Setup;
 use crate::refused::{Owed, keep};
 use crate::stop::Stop;
-use crate::telling::Told;
+use crate::telling::{Refusal, Told, refusal_in_frame, refusal_in_packet, soon_ended};
 use br_core::{Action, Bridge, Event, Moment, begun, step};
 use mio::{Events, Poll};
 use mq_packet::Packet;
@@ -29,6 +29,12 @@ const MOST_READS: usize = 64;
 /// How many turns pass between two tries to write a line of what no side will have.
 const PATIENCE: u32 = 10;
 
+/// A connection that ends within so many milliseconds has ended soon.
+const SOON: u64 = 3_000;
+
+/// After how many such connections in turn it is told.
+const MOST_SHORT: u32 = 3;
+
 /// What the program has in hand.
 #[derive(Drop)]
 struct Run<'a> {
@@ -47,6 +53,12 @@ struct Run<'a> {
     due: u64,
     /// Whether more may be there than was read.
     is_busy: bool,
+    /// What was refused last and is to be told.
+    refusal: Option<Refusal>,
+    /// The millisecond in which the broker took the connection.
+    opened: u64,
+    /// How many connections in turn the broker has ended soon.
+    short: u32,
 }
 
 /// The millisecond of the clock that nobody sets.
@@ -105,6 +117,9 @@ fn opened<'a, T: Clock + Net>(rt: &T, alloc: Global, setup: &'a Setup) -> Result
         rest: 0,
         due: 0,
         is_busy: false,
+        refusal: None,
+        opened: 0,
+        short: 0,
     })
 }
 
@@ -137,12 +152,15 @@ impl<'a> Run<'a> {
         let mut told = Told::nothing();
         for _ in 0..u64::MAX {
             let wait = if self.is_busy { 0 } else { A_WHILE };
-            let _ = self.poll.poll(&mut events, Some(Duration::from_millis(wait)));
+            let _ = self
+                .poll
+                .poll(&mut events, Some(Duration::from_millis(wait)));
             self.is_busy = false;
             self.turn(rt, alloc, buffer.as_mut_slice())?;
             self.write_owed(rt, alloc, err)?;
             self.flush();
-            told.look(&self.bridge, err);
+            told.look(&self.bridge, self.refusal, err);
+            self.refusal = None;
         }
         Ok(())
     }
@@ -159,6 +177,7 @@ impl<'a> Run<'a> {
         self.hear_broker(rt, alloc, buffer)?;
         if self.is_lost {
             self.is_lost = false;
+            self.count_short(millisecond(rt));
             self.line = None;
             self.take(rt, alloc, &Event::BrokerLost)?;
         }
@@ -170,9 +189,42 @@ impl<'a> Run<'a> {
         Ok(())
     }
 
+    /// Keeps what was refused, if something was.
+    fn note(&mut self, found: Option<Refusal>) {
+        if found.is_some() {
+            self.refusal = found;
+        }
+    }
+
+    /// A connection has ended: the third one in turn that the broker ended soon is told.
+    fn count_short(&mut self, now: u64) {
+        let is_open = match &self.line {
+            None => false,
+            Some(line) => line.is_open,
+        };
+        if !is_open {
+            return;
+        }
+        if now.saturating_sub(self.opened) > SOON {
+            self.short = 0;
+            return;
+        }
+        self.short = self.short.saturating_add(1);
+        if self.short >= MOST_SHORT {
+            self.short = 0;
+            self.note(Some(soon_ended()));
+        }
+    }
+
     /// An event goes through the machine, and what that gives is done.
     fn take<T: Clock + Net>(&mut self, rt: &T, alloc: Global, event: &Event) -> Result<(), Stop> {
-        step(alloc, &self.setup.settings, event, moment(rt), &mut self.bridge)?;
+        step(
+            alloc,
+            &self.setup.settings,
+            event,
+            moment(rt),
+            &mut self.bridge,
+        )?;
         let out = mem::replace(&mut self.bridge.out, Sequence::empty(alloc));
         for action in out.into_vec() {
             self.carry_out(rt, alloc, action)?;
@@ -198,6 +250,7 @@ impl<'a> Run<'a> {
             if is_its {
                 let (datagram, _) = buffer.split_at(size);
                 if let Some(frame) = frame_of(alloc, datagram)? {
+                    self.note(refusal_in_frame(&frame));
                     self.take(rt, alloc, &Event::Field { lane, frame })?;
                 }
             }
@@ -221,6 +274,7 @@ impl<'a> Run<'a> {
             if is_its {
                 let (datagram, _) = buffer.split_at(size);
                 if let Some(frame) = frame_of(alloc, datagram)? {
+                    self.note(refusal_in_frame(&frame));
                     self.take(rt, alloc, &Event::Commands { frame })?;
                 }
             }
@@ -247,7 +301,10 @@ impl<'a> Run<'a> {
         for _ in 0..MOST_READS {
             match self.look(alloc, buffer)? {
                 Looked::Nothing => return Ok(()),
-                Looked::Opened => self.take(rt, alloc, &Event::BrokerOpen)?,
+                Looked::Opened => {
+                    self.opened = millisecond(rt);
+                    self.take(rt, alloc, &Event::BrokerOpen)?;
+                }
                 Looked::Over => {
                     self.is_lost = true;
                     return Ok(());
@@ -274,6 +331,7 @@ impl<'a> Run<'a> {
         packets: Vec<Packet>,
     ) -> Result<(), Stop> {
         for packet in packets {
+            self.note(refusal_in_packet(&packet));
             self.take(rt, alloc, &Event::Broker { packet })?;
         }
         Ok(())
@@ -289,10 +347,9 @@ impl<'a> Run<'a> {
                 self.down.send(gateways, octets.as_slice());
                 Ok(())
             }
-            Action::ToBroker { packet } => match &mut self.line {
-                None => Ok(()),
-                Some(line) => line.say(alloc, &packet),
-            },
+            Action::ToBroker { packet } | Action::Reading { packet, .. } => self.say(
+                alloc, &packet,
+            ),
             Action::Refuse { line, command, why } => {
                 self.owed.push(Owed { line, command, why })?;
                 Ok(())
@@ -316,6 +373,14 @@ impl<'a> Run<'a> {
                 self.line = None;
                 Ok(())
             }
+        }
+    }
+
+    /// A packet goes to the broker, if there is a connection.
+    fn say(&mut self, alloc: Global, packet: &Packet) -> Result<(), Stop> {
+        match &mut self.line {
+            None => Ok(()),
+            Some(line) => line.say(alloc, packet),
         }
     }
 

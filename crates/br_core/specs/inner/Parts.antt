@@ -1,13 +1,10 @@
--- the first command, a message that came before, and all that a run does
-use Rattle.std.specs.Prelude.{ℕ, if◌then◌else◌, List, [], ◌∷◌, ◌++◌, drop, Option, Some, None}
-use Rattle.br_core.specs.declared.action.Action.{Action}
+-- the first command, and a message that came before
+use Rattle.std.specs.Prelude.{ℕ, if◌then◌else◌, List, [], ◌∷◌, drop, Option, Some, None}
 use Rattle.br_core.specs.declared.item.Command.{Command}
-use Rattle.br_core.specs.declared.settings.Settings.{Settings}
 use Rattle.br_core.specs.declared.state.Bridge.{Bridge}
 use Rattle.br_core.specs.declared.state.Open.{Open}
 use Rattle.br_core.specs.Commands.{put_down}
 use Rattle.br_core.specs.Lanes.{is_same}
-use Rattle.br_core.specs.Runs.{Come, stepped}
 
 -- the first command, and the bridge without it
 abbrev pub first_of : List Command → Option Command
@@ -21,9 +18,3 @@ without_first bridge = put_down (record bridge.down { queue = drop 1 bridge.down
 abbrev pub same_open : Option Open → ℕ → ℕ → List ℕ → Option Open
 same_open None name msg_id body = None
 same_open (Some held) name msg_id body = if is_same name msg_id body held then Some held else None
-
--- all that was to be done, in its order
-abbrev pub done_from : Settings → Bridge → List Come → List Action
-done_from settings bridge [] = []
-done_from settings bridge (come ∷ more) =
-    (stepped settings bridge come).out ++ done_from settings (stepped settings bridge come) more
