@@ -1,18 +1,26 @@
 -- What is read of a stream of packets.
-use Rattle.std.specs.Prelude.{◌≡◌, ℕ, ◌-◌, ◌≤◌, min, List, [], ◌∷◌, length, take, drop}
+use Rattle.std.specs.Prelude.{◌≡◌, ℕ, ◌-◌, ◌≤◌, nat_lt, if◌then◌else◌, List, [], ◌∷◌, length, take, drop}
 use Rattle.mq_packet.specs.declared.packet.Packet.{Packet}
-use Rattle.mq_packet.specs.Grammar.{IsSaid, Spells, framed_of}
+use Rattle.mq_packet.specs.Bodies.{IsMessage, body_of, header_of}
+use Rattle.mq_packet.specs.Grammar.{IsSaid}
+use Rattle.mq_packet.specs.Headers.{octet_of}
 use Rattle.mq_stream.specs.declared.front.TheConstants.{MAX_HELD}
 
 -- how many octets of a body are held
 abbrev pub held : ℕ → ℕ
-held said = min said MAX_HELD
+held said = if nat_lt MAX_HELD said then MAX_HELD else said
 
 -- The octets are a first octet, a Remaining Length that says this size, and what follows it.
 pub record IsHead (octets : List ℕ) (first said : ℕ) (body : List ℕ) : Type 0 where
   pub after : List ℕ
   pub begins : octets ≡ first ∷ after
   pub says : IsSaid after said body
+
+-- The packet has this first octet and this body, and values that are allowed.
+pub record Says (first : ℕ) (body : List ℕ) (packet : Packet) : Type 0 where
+  pub message : IsMessage packet
+  pub octet : octet_of (header_of packet) ≡ first
+  pub whole : body_of packet ≡ body
 
 -- The octets begin with this packet, of whose body what is held is there; so many octets more belong
 -- to it, and the rest follows what is held.
@@ -22,7 +30,7 @@ pub record IsPiece (octets : List ℕ) (packet : Packet) (over : ℕ) (rest : Li
   pub body : List ℕ
   pub head : IsHead octets first said body
   pub there : held said ≤ length body
-  pub spelled : Spells (framed_of first (take (held said) body)) packet
+  pub says : Says first (take (held said) body) packet
   pub left : over ≡ said - held said
   pub follows : rest ≡ drop (held said) body
 

@@ -1,9 +1,8 @@
 //! The packet in front of a stream.
 
-ghost use Rattle.std.specs.Prelude.{◌≡◌, ◌<◌, ◌-◌, length, drop, IfOk, IfSome};
+ghost use Rattle.std.specs.Prelude.{◌≡◌, ◌<◌, ◌-◌, ◌∷◌, length, drop, IfOk, IfSome};
 ghost use Rattle.mq_stream.specs.declared.front.TheConstants.{MAX_HELD};
 ghost use Rattle.mq_stream.specs.Pieces.{IsHead, IsPiece};
-ghost use Rattle.mq_packet.specs.Grammar.{framed_of};
 
 use mq_packet::{Header, Packet, PacketFault, decode, remaining};
 use octets::NoMemory;
@@ -98,10 +97,10 @@ fn cut<'a>(
     Ok(Some(InFront { packet, over, rest }))
 }
 
-/// The octets of a packet with this body, of `MAX_HELD` octets.
+/// The octets of a packet with this body, of which Remaining Length says that it has `MAX_HELD`
+/// octets: 4 times 16,384 and 64 times 128.
 fn shortened(alloc: Global, first: u8, held: &[u8]) -> Result<Vec<u8>, NoMemory>
-    requires { length held.now ≡ MAX_HELD }
-    ensures { IfOk result (λ own. own.items ≡ framed_of first held.now) }
+    ensures { IfOk result (λ own. own.items ≡ first ∷ 128 ∷ 192 ∷ 4 ∷ held.now) }
 {
     let mut own = Vec::from_slice(alloc, &[first, 0x80, 0xc0, 0x04])?;
     own.extend_from_slice(held)?;

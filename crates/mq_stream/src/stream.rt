@@ -80,8 +80,8 @@ fn read_packets(alloc: Global, over: u32, octets: &[u8]) -> Result<(Fed, u32, us
             }
             Ok(Some(found)) => {
                 packets.push(found.packet)?;
-                let (over, after) = passed(found.over, found.rest);
-                left = over;
+                let (more, after) = passed(found.over, found.rest);
+                left = more;
                 rest = after;
             }
             Err(PacketFault::Memory) => return Err(NoMemory),
