@@ -5,7 +5,7 @@ use mq_packet::Packet;
 use sn_frame::Frame;
 
 /// Why no side will have a command.
-#[derive(Clone, Copy, Debug, PartialEq, Eq)]
+#[derive(Clone, Copy)]
 pub enum Why {
     /// The field has no such topic: it is empty, too long or has a wildcard.
     Topic,
@@ -16,7 +16,7 @@ pub enum Why {
 }
 
 /// What is to be done, in the order of the list.
-#[derive(Debug, Drop, PartialEq, Eq)]
+#[derive(Drop)]
 pub enum Action {
     /// A frame to the gateway of a lane.
     ToField {

@@ -4,7 +4,7 @@ use mq_packet::Packet;
 use sn_frame::Frame;
 
 /// What comes to a bridge, each at a moment in seconds.
-#[derive(Debug, Drop, PartialEq, Eq)]
+#[derive(Drop)]
 pub enum Event {
     /// A frame of the gateway of a lane.
     Field { lane: usize, frame: Frame },

@@ -7,7 +7,7 @@ use octets::{NoMemory, Octets};
 use std::alloc::Global;
 
 /// A reading on its way to the broker.
-#[derive(Debug, Drop, PartialEq, Eq)]
+#[derive(Drop)]
 pub struct Item {
     /// Which reading it is: each one that a lane brings has a number of its own.
     pub number: u64,
@@ -24,7 +24,7 @@ pub struct Item {
 }
 
 /// A reading that was sent to the broker and is not acknowledged.
-#[derive(Debug, Drop, PartialEq, Eq)]
+#[derive(Drop)]
 pub struct Flight {
     /// Its packet id.
     pub id: u16,
@@ -33,7 +33,7 @@ pub struct Flight {
 }
 
 /// A command on its way into the field.
-#[derive(Debug, Drop, PartialEq, Eq)]
+#[derive(Drop)]
 pub struct Command {
     /// The broker's packet id; 0 where the broker wants no acknowledgement.
     pub id: u16,

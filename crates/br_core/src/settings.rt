@@ -4,7 +4,7 @@ use mq_packet::{Login, Qos, Will};
 use octets::{Octets, Sequence};
 
 /// A name of the field that a lane subscribes to, and the broker's topic of its messages.
-#[derive(Debug, Drop, PartialEq, Eq)]
+#[derive(Drop)]
 pub struct UpName {
     /// The field's topic. One of two octets is a short name, which takes no topic id.
     pub name: Octets,
@@ -17,7 +17,7 @@ pub struct UpName {
 }
 
 /// A lane: a client of the field that takes readings.
-#[derive(Debug, Drop)]
+#[derive(Drop)]
 pub struct LaneSettings {
     /// Its client id.
     pub client: Octets,
@@ -26,7 +26,7 @@ pub struct LaneSettings {
 }
 
 /// A filter of the broker whose messages are commands for the field.
-#[derive(Debug, Drop, PartialEq, Eq)]
+#[derive(Drop)]
 pub struct DownFilter {
     /// What is subscribed to at the broker.
     pub filter: Octets,
@@ -37,7 +37,7 @@ pub struct DownFilter {
 }
 
 /// What a bridge is asked to carry.
-#[derive(Debug, Drop)]
+#[derive(Drop)]
 pub struct Settings {
     /// The lanes for readings.
     pub lanes: Sequence<LaneSettings>,

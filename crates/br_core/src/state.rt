@@ -41,7 +41,7 @@ pub const MAX_BODY: usize = 4_096;
 pub const LAST_NUMBER: u64 = 18_446_744_073_709_551_615;
 
 /// A moment, and those that are counted from it, in seconds since any begin.
-#[derive(Clone, Copy, Debug, PartialEq, Eq)]
+#[derive(Clone, Copy)]
 pub struct Moment {
     /// The moment.
     pub at: u64,
@@ -74,7 +74,7 @@ impl Moment {
 }
 
 /// How far the connection of a lane is.
-#[derive(Clone, Copy, Debug, PartialEq, Eq)]
+#[derive(Clone, Copy, PartialEq, Eq)]
 pub enum Phase {
     /// It has none.
     Away,
@@ -89,7 +89,7 @@ pub enum Phase {
 }
 
 /// A topic id of the gateway, and which of the lane's names it is.
-#[derive(Clone, Copy, Debug, PartialEq, Eq)]
+#[derive(Clone, Copy)]
 pub struct Named {
     /// The topic id.
     pub id: u16,
@@ -98,7 +98,7 @@ pub struct Named {
 }
 
 /// The last message of quality of service 1 that a lane has brought since its last CONNECT.
-#[derive(Debug, Drop, PartialEq, Eq)]
+#[derive(Drop)]
 pub struct Open {
     /// The number of its reading.
     pub number: u64,
@@ -131,7 +131,7 @@ impl Open {
 }
 
 /// A lane. Its client and its names are in the settings.
-#[derive(Debug, Drop)]
+#[derive(Drop)]
 pub struct Lane {
     /// How far its connection is.
     pub phase: Phase,
@@ -184,7 +184,7 @@ impl Lane {
 }
 
 /// A topic of the field, and the id that the gateway gave for it.
-#[derive(Debug, Drop, PartialEq, Eq)]
+#[derive(Drop)]
 pub struct NamedTopic {
     /// The topic id.
     pub id: u16,
@@ -193,7 +193,7 @@ pub struct NamedTopic {
 }
 
 /// What is done with the first command.
-#[derive(Clone, Copy, Debug, PartialEq, Eq)]
+#[derive(Clone, Copy)]
 pub enum Doing {
     /// Nothing yet.
     Nothing,
@@ -206,7 +206,7 @@ pub enum Doing {
 }
 
 /// The lane for commands. It has no subscription.
-#[derive(Debug, Drop)]
+#[derive(Drop)]
 pub struct Down {
     /// How far its connection is.
     pub phase: Phase,
@@ -227,7 +227,7 @@ pub struct Down {
 }
 
 /// How far the connection to the broker is.
-#[derive(Clone, Copy, Debug, PartialEq, Eq)]
+#[derive(Clone, Copy, PartialEq, Eq)]
 pub enum Side {
     /// There is none.
     Closed,
@@ -240,7 +240,7 @@ pub enum Side {
 }
 
 /// What a bridge knows.
-#[derive(Debug, Drop)]
+#[derive(Drop)]
 pub struct Bridge {
     /// The lanes for readings.
     pub lanes: Sequence<Lane>,

@@ -8,7 +8,7 @@ ghost use Rattle.mq_packet.specs.Headers as spec;
 use crate::fault::PacketFault;
 
 /// What the first octet of a packet says. Types of quality of service 2 are none of these.
-#[derive(Clone, Copy, Debug, PartialEq, Eq)]
+#[derive(Clone, Copy)]
 pub enum Header {
     /// A client connects (section 3.1).
     Connect,

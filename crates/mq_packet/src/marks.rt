@@ -8,7 +8,7 @@ use crate::packet::Qos;
 
 /// The flags: whether the session begins empty; how often the will is to arrive, and whether it is
 /// to be kept, if there is a will; whether a password follows the user, if there is a user.
-#[derive(Clone, Copy, Debug, PartialEq, Eq)]
+#[derive(Clone, Copy)]
 pub(crate) struct Marks {
     pub(crate) clean: bool,
     pub(crate) will: Option<(Qos, bool)>,

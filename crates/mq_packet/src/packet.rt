@@ -9,7 +9,7 @@ pub const MAX_REMAINING: usize = 268_435_455;
 pub const MAX_DATA: usize = 65_535;
 
 /// How often a publication is to arrive (MQTT 3.1.1 section 4.3).
-#[derive(Clone, Copy, Debug, PartialEq, Eq)]
+#[derive(Clone, Copy, PartialEq, Eq)]
 pub enum Qos {
     /// At most once.
     Zero,
@@ -18,7 +18,7 @@ pub enum Qos {
 }
 
 /// How a publication is sent (MQTT 3.1.1 section 3.3.1).
-#[derive(Clone, Copy, Debug, PartialEq, Eq)]
+#[derive(Clone, Copy)]
 pub enum Delivery {
     /// At quality of service 0.
     Once,
@@ -28,7 +28,7 @@ pub enum Delivery {
 }
 
 /// What the broker is to publish if the connection breaks (MQTT 3.1.1 section 3.1.2.5).
-#[derive(Debug, Drop, PartialEq, Eq)]
+#[derive(Drop)]
 pub struct Will {
     /// The topic's name.
     pub topic: Octets,
@@ -41,7 +41,7 @@ pub struct Will {
 }
 
 /// Who connects (MQTT 3.1.1 sections 3.1.3.4 and 3.1.3.5).
-#[derive(Debug, Drop, PartialEq, Eq)]
+#[derive(Drop)]
 pub struct Login {
     /// The name of the user, which is text.
     pub user: Octets,
@@ -50,7 +50,7 @@ pub struct Login {
 }
 
 /// A packet (MQTT 3.1.1 section 3). A packet id is not 0.
-#[derive(Debug, Drop, PartialEq, Eq)]
+#[derive(Drop)]
 pub enum Packet {
     /// A client sets up a connection (section 3.1). `keep_alive` is in seconds, and the client's id
     /// is text.

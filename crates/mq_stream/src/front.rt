@@ -14,7 +14,7 @@ pub const MAX_HELD: usize = 73_728;
 
 /// The packet in front of a stream, how many octets after it are still to be passed over, and what
 /// follows.
-#[derive(Debug, Drop)]
+#[derive(Drop)]
 pub(crate) struct InFront<'a> {
     pub packet: Packet,
     pub over: u32,

@@ -9,7 +9,7 @@ use octets::NoMemory;
 use std::alloc::Global;
 
 /// What a piece gave.
-#[derive(Debug, Drop)]
+#[derive(Drop)]
 pub struct Fed {
     /// The packets that are whole now, in their order.
     pub packets: Vec<Packet>,
@@ -18,7 +18,7 @@ pub struct Fed {
 }
 
 /// The end of a connection at which octets come in, in pieces.
-#[derive(Debug, Drop)]
+#[derive(Drop)]
 pub struct PacketIn {
     /// The octets that wait for the rest of their packet.
     pub waiting: Vec<u8>,
