@@ -347,9 +347,8 @@ impl<'a> Run<'a> {
                 self.down.send(gateways, octets.as_slice());
                 Ok(())
             }
-            Action::ToBroker { packet } | Action::Reading { packet, .. } => self.say(
-                alloc, &packet,
-            ),
+            Action::ToBroker { packet } => self.say(alloc, &packet),
+            Action::Reading { number: _, packet } => self.say(alloc, &packet),
             Action::Refuse { line, command, why } => {
                 self.owed.push(Owed { line, command, why })?;
                 Ok(())
