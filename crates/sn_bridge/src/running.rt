@@ -348,7 +348,7 @@ impl<'a> Run<'a> {
                 Ok(())
             }
             Action::ToBroker { packet } => self.say(alloc, &packet),
-            Action::Reading { number: _, packet } => self.say(alloc, &packet),
+            Action::Reading { number: _number, packet } => self.say(alloc, &packet),
             Action::Refuse { line, command, why } => {
                 self.owed.push(Owed { line, command, why })?;
                 Ok(())
