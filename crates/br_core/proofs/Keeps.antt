@@ -28,7 +28,11 @@ module _ (number : ℕ) where
   flies-more (first ∷ more) one (inl is) = inl is
   flies-more (first ∷ more) one (inr h) = inr (flies-more more one h)
 
-  flies-last : (f : List Flight) (one : Flight) → one.item.number ≡ number → Flies number (f ++ one ∷ [])
+  pub waits-last : (w : List Item) (item : Item) → item.number ≡ number → IsOne item.qos → Waits number (w ++ item ∷ [])
+  waits-last [] item is one = inl (is, one)
+  waits-last (first ∷ more) item is one = inr (waits-last more item is one)
+
+  pub flies-last : (f : List Flight) (one : Flight) → one.item.number ≡ number → Flies number (f ++ one ∷ [])
   flies-last [] one is = inl is
   flies-last (first ∷ more) one is = inr (flies-last more one is)
 

@@ -6,7 +6,9 @@ use Rattle.mq_packet.specs.declared.packet.Packet.{Packet}
 use Rattle.mq_packet.specs.declared.packet.Packet.TheVariants as packets
 use Rattle.mq_packet.specs.declared.packet.Qos.{Qos}
 use Rattle.mq_packet.specs.declared.packet.Qos.TheVariants as levels
+use Rattle.sn_frame.specs.FlagBits.{qos_of}
 use Rattle.sn_frame.specs.declared.flags.Flags.{Flags}
+use Rattle.sn_frame.specs.declared.flags.Qos.TheVariants as field_levels
 use Rattle.sn_frame.specs.declared.frame.Frame.{Frame}
 use Rattle.sn_frame.specs.declared.frame.Frame.TheVariants as frames
 use Rattle.br_core.specs.declared.action.Action.{Action}
@@ -166,3 +168,17 @@ firsts (action ∷ more) = first_in action ++ firsts more
 abbrev pub Rises : ℕ → List ℕ → ℕ → Type 0
 Rises low [] high = low ≤ high
 Rises low (number ∷ more) high = (low ≤ number) × Rises (number + 1) more high
+
+-- a PUBLISH comes over a lane, and has quality of service 1
+abbrev pub published : ℕ → Flags → ℕ → ℕ → List ℕ → ℕ → Come
+published place flags topic msg_id body moment =
+    (events.Field place (frames.Publish flags topic msg_id body), moment)
+
+abbrev pub IsAtOne : Flags → Type 0
+IsAtOne flags = qos_of flags.bits ≡ field_levels.One
+
+-- what comes takes no number; or the reading of the next number waits or is in flight then
+abbrev pub IsTaken : Settings → List Come → Come → Type 0
+IsTaken settings before come =
+    ((stepped settings (after settings before) come).number ≡ (after settings before).number)
+    ⊎ IsIn (after settings before).number (stepped settings (after settings before) come)

@@ -1,9 +1,10 @@
 //! What holds of every run of a bridge, whatever a program does with it.
 
 ghost use Rattle.std.specs.Prelude.{ℕ, [], ◌∷◌, ◌++◌, ◌⊎◌, List};
+ghost use Rattle.sn_frame.specs.declared.flags.Flags.{Flags};
 ghost use Rattle.br_core.specs.declared.event.Event.{Event};
 ghost use Rattle.br_core.specs.declared.settings.Settings.{Settings};
-ghost use Rattle.br_core.specs.Runs.{AreAllowed, Come, Handed, IsIn, Rises, after, done, firsts, stepped};
+ghost use Rattle.br_core.specs.Runs.{AreAllowed, Come, Handed, IsAtOne, IsIn, IsTaken, Rises, after, done, firsts, published, stepped};
 
 /// What was taken from one side is acknowledged there only after the other side has acknowledged
 /// it, or after a line of what no side will have is on the disk. It holds of every list of events,
@@ -12,6 +13,15 @@ pub fn acknowledges_behind()
     ensures { (settings : Settings) (before : List Come) (event : Event) (moment : ℕ)
         → AreAllowed settings (before ++ (event, moment) ∷ [])
         (stepped settings (after settings before) (event, moment)).out }
+{}
+
+/// A PUBLISH of quality of service 1 that comes over a lane takes the next number, and its reading
+/// waits in the bridge or is in flight to the broker; or it takes none, and its gateway is owed an
+/// acknowledgement still. The function does nothing; its contract is the law.
+pub fn takes_in()
+    ensures { (settings : Settings) (before : List Come) (place topic msg_id moment : ℕ)
+        (flags : Flags) (body : List ℕ) → IsAtOne flags
+        → IsTaken settings before (published place flags topic msg_id body moment) }
 {}
 
 /// A reading of quality of service 1 that waits in the bridge, or is in flight to the broker, stays

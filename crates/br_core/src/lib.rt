@@ -29,7 +29,7 @@ mod steps;
 pub use action::{Action, Why};
 pub use event::Event;
 pub use item::{Command, Flight, Item};
-pub use laws::{acknowledges_behind, keeps_order, nothing_drops};
+pub use laws::{acknowledges_behind, keeps_order, nothing_drops, takes_in};
 pub use settings::{DownFilter, LaneSettings, Settings, UpName};
 pub use state::{
     BROKER_KEEP_ALIVE, Bridge, Doing, Down, KEEP_ALIVE, LAST_NUMBER, Lane, MAX_BODY, MAX_COMMANDS,
