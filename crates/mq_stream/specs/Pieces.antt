@@ -1,7 +1,10 @@
 -- What is read of a stream of packets.
-use Rattle.std.specs.Prelude.{◌≡◌, ℕ, ◌-◌, ◌≤◌, nat_lt, if◌then◌else◌, List, [], ◌∷◌, length, take, drop}
+use Rattle.std.specs.Prelude.{◌≡◌, ℕ, ◌-◌, ◌<◌, ◌≤◌, ◌⊎◌, nat_lt, if◌then◌else◌, List, [], ◌∷◌, length, take, drop, Option, Some, None}
+use Rattle.mq_packet.specs.declared.fault.PacketFault.{PacketFault}
+use Rattle.mq_packet.specs.declared.fault.PacketFault.TheVariants as faults
 use Rattle.mq_packet.specs.declared.packet.Packet.{Packet}
 use Rattle.mq_packet.specs.Bodies.{IsMessage, body_of, header_of}
+use Rattle.mq_packet.specs.Faults.{IsHeadThen}
 use Rattle.mq_packet.specs.Grammar.{IsSaid}
 use Rattle.mq_packet.specs.Headers.{octet_of}
 use Rattle.mq_stream.specs.declared.front.TheConstants.{MAX_HELD}
@@ -33,6 +36,24 @@ pub record IsPiece (octets : List ℕ) (packet : Packet) (over : ℕ) (rest : Li
   pub says : Says first (take (held said) body) packet
   pub left : over ≡ said - held said
   pub follows : rest ≡ drop (held said) body
+
+-- The octets begin a packet of which less is there than is held.
+pub record IsUnfinished (octets : List ℕ) : Type 0 where
+  pub first : ℕ
+  pub said : ℕ
+  pub body : List ℕ
+  pub head : IsHead octets first said body
+  pub lacks : length body < held said
+
+-- No packet is there as far as it is held: nothing is there, Remaining Length does not end, or the
+-- body lacks octets.
+abbrev pub IsWanting : List ℕ → Type 0
+IsWanting octets = (octets ≡ []) ⊎ (IsHeadThen octets faults.Short ⊎ IsUnfinished octets)
+
+-- and that is why no further packet was read, or there is a fault
+abbrev pub Ends : Option PacketFault → List ℕ → Type 0
+Ends None rest = IsWanting rest
+Ends (Some fault) rest = Unit {0}
 
 -- So many octets are passed over, and then come these packets; then so many are still to be passed
 -- over, and the rest waits.

@@ -1,8 +1,8 @@
 //! The packet in front of a stream.
 
-ghost use Rattle.std.specs.Prelude.{◌≡◌, ◌<◌, ◌-◌, ◌∷◌, length, drop, IfOk, IfSome};
+ghost use Rattle.std.specs.Prelude.{◌≡◌, ◌<◌, ◌-◌, ◌∷◌, length, drop, IfOk, MatchOption};
 ghost use Rattle.mq_stream.specs.declared.front.TheConstants.{MAX_HELD};
-ghost use Rattle.mq_stream.specs.Pieces.{IsHead, IsPiece};
+ghost use Rattle.mq_stream.specs.Pieces.{IsHead, IsPiece, IsWanting};
 
 use mq_packet::{Header, Packet, PacketFault, decode, remaining};
 use octets::NoMemory;
@@ -35,8 +35,8 @@ pub(crate) fn passed(over: u32, octets: &[u8]) -> (u32, &[u8])
 /// The packet in front of the octets; nothing where octets are wanting. A first octet that no packet
 /// begins with is a fault at once.
 pub(crate) fn front(alloc: Global, octets: &[u8]) -> Result<Option<InFront<'_>>, PacketFault>
-    ensures { IfOk result (λ found. IfSome found (λ f. IsPiece octets.now f.packet f.over
-        f.rest.now)) }
+    ensures { IfOk result (λ found. MatchOption found (IsWanting octets.now)
+        (λ f. IsPiece octets.now f.packet f.over f.rest.now)) }
 {
     let [first, after @ ..] = octets else {
         return Ok(None);
@@ -58,8 +58,8 @@ fn whole<'a>(
     body: &'a [u8],
 ) -> Result<Option<InFront<'a>>, PacketFault>
     requires { IsHead octets.now first said body.now }
-    ensures { IfOk result (λ found. IfSome found (λ f. IsPiece octets.now f.packet f.over
-        f.rest.now)) }
+    ensures { IfOk result (λ found. MatchOption found (IsWanting octets.now)
+        (λ f. IsPiece octets.now f.packet f.over f.rest.now)) }
 {
     if MAX_HELD < said as usize {
         return cut(alloc, first, said, octets, body);
@@ -84,8 +84,8 @@ fn cut<'a>(
 ) -> Result<Option<InFront<'a>>, PacketFault>
     requires head { IsHead _octets.now first said body.now }
     requires long { MAX_HELD < said }
-    ensures { IfOk result (λ found. IfSome found (λ f. IsPiece _octets.now f.packet f.over
-        f.rest.now)) }
+    ensures { IfOk result (λ found. MatchOption found (IsWanting _octets.now)
+        (λ f. IsPiece _octets.now f.packet f.over f.rest.now)) }
 {
     if body.len() < MAX_HELD {
         return Ok(None);
