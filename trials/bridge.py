@@ -136,8 +136,8 @@ class Peer:
 class Node:
     """A client of the field: it asks again until it is answered, and takes what comes."""
 
-    def __init__(self, gateway: Gateway, name: bytes):
-        self.gateway, self.name, self.message = gateway, name, 0
+    def __init__(self, gateway: Gateway, name: bytes, patience: float = 0.5):
+        self.gateway, self.name, self.message, self.patience = gateway, name, 0, patience
         self.socket = socket.socket(socket.AF_INET, socket.SOCK_DGRAM)
         self.socket.bind((HOST, 0))
         self.ids, self.names, self.came = {}, {}, []
@@ -171,7 +171,7 @@ class Node:
         end = time.monotonic() + seconds
         while time.monotonic() < end:
             self.say(octets)
-            again = time.monotonic() + 0.5
+            again = time.monotonic() + self.patience
             while (left := again - time.monotonic()) > 0:
                 found = self.receive(left)
                 if found and found[0] == kind and is_it(found[1]):
@@ -181,8 +181,14 @@ class Node:
         raise Failed(f"{self.name!r} was not answered")
 
     def connect(self, clean: bool = True) -> None:
-        self.ids = {}
-        self.ask(connect(self.name, 600, clean), 0x05, lambda body: body == b"\0")
+        self.ids, end = {}, time.monotonic() + 60
+        while True:
+            try:
+                self.ask(connect(self.name, 600, clean), 0x05, lambda body: body == b"\0")
+                return
+            except ConnectionError:  # the answer to what was sent before
+                if time.monotonic() > end:
+                    raise
 
     def listen(self, name: bytes) -> None:
         message = self.next()
@@ -411,7 +417,8 @@ def through(bridge: str, sngw: str, broker: tuple, folder: str, words) -> str:
         threading.Thread(target=actor.run, args=(lambda: bool(is_over),), daemon=True).start()
         scene.ready()
         until(lambda: reader.socket and writer.socket, 10, "the peers did not connect")
-        sensors = [Node(scene.gateway, b"s%d" % at) for at in range(len(scene.names))]
+        # what a sensor sends again is another message for the gateway, so these wait
+        sensors = [Node(scene.gateway, b"s%d" % at, 20.0) for at in range(len(scene.names))]
 
         def read(sensor: Node, name: bytes) -> None:
             sensor.connect()
