@@ -37,7 +37,7 @@ const MOST_SHORT: u32 = 3;
 
 /// What the program has in hand.
 #[derive(Drop)]
-struct Run<'a> {
+struct Turning<'a> {
     setup: &'a Setup,
     bridge: Bridge,
     poll: Poll,
@@ -94,7 +94,11 @@ where
 }
 
 /// A bridge that begins.
-fn opened<'a, T: Clock + Net>(rt: &T, alloc: Global, setup: &'a Setup) -> Result<Run<'a>, Stop> {
+fn opened<'a, T: Clock + Net>(
+    rt: &T,
+    alloc: Global,
+    setup: &'a Setup,
+) -> Result<Turning<'a>, Stop> {
     let Ok(poll) = Poll::new(rt) else {
         return Err(Stop::Socket);
     };
@@ -105,7 +109,7 @@ fn opened<'a, T: Clock + Net>(rt: &T, alloc: Global, setup: &'a Setup) -> Result
         lanes.push(Gate::open(rt, poll.registry(), place, gateways)?)?;
     }
     let down = Gate::open(rt, poll.registry(), count, gateways)?;
-    Ok(Run {
+    Ok(Turning {
         setup,
         bridge: begun(alloc, &setup.settings)?,
         poll,
@@ -141,7 +145,7 @@ fn written(alloc: Global, frame: &Frame) -> Result<Vec<u8>, Stop> {
     }
 }
 
-impl<'a> Run<'a> {
+impl<'a> Turning<'a> {
     /// Turn after turn.
     fn turns<T, E: Write>(&mut self, rt: &T, alloc: Global, err: &mut E) -> Result<(), Stop>
     where
@@ -348,7 +352,10 @@ impl<'a> Run<'a> {
                 Ok(())
             }
             Action::ToBroker { packet } => self.say(alloc, &packet),
-            Action::Reading { number: _number, packet } => self.say(alloc, &packet),
+            Action::Reading {
+                number: _number,
+                packet,
+            } => self.say(alloc, &packet),
             Action::Refuse { line, command, why } => {
                 self.owed.push(Owed { line, command, why })?;
                 Ok(())
