@@ -75,9 +75,9 @@ front-rest octets rest first said body h few e =
     let place : length octets - length body + said ≡ length F + said = omega arith in
     e ∙ ap (λ n. drop n octets) place ∙ ap (λ zs. drop (length F + said) zs) whole ∙ drop-behind F body said
 
-pub whole-piece : (octets own rest : List ℕ) (first said : ℕ) (body : List ℕ) (p : Packet) → IsHead octets first said body → said ≤ MAX_HELD → said ≤ length body
+pub whole_piece : (octets own rest : List ℕ) (first said : ℕ) (body : List ℕ) (p : Packet) → IsHead octets first said body → said ≤ MAX_HELD → said ≤ length body
     → own ≡ take (length octets - length body + said) octets → rest ≡ drop (length octets - length body + said) octets → Spells own p → IsPiece octets p 0 rest
-whole-piece octets own rest first said body p h small few begun after s =
+whole_piece octets own rest first said body p h small few begun after s =
     let all : held said ≡ said = held-whole said small in
     let none : said - said ≡ 0 = omega arith in
     record {
@@ -102,9 +102,9 @@ cut-framed own kept first size e =
       said = subst (λ n. IsSaid (128 ∷ 192 ∷ 4 ∷ kept) n kept) (sym size) (record { more = 2; few = omega arith; fits = small; spelled = refl });
     }
 
-pub cut-piece : (octets own kept rest : List ℕ) (first said : ℕ) (body : List ℕ) (p : Packet) → IsHead octets first said body → MAX_HELD < said → MAX_HELD ≤ length body
+pub cut_piece : (octets own kept rest : List ℕ) (first said : ℕ) (body : List ℕ) (p : Packet) → IsHead octets first said body → MAX_HELD < said → MAX_HELD ≤ length body
     → kept ≡ take MAX_HELD body → rest ≡ drop MAX_HELD body → own ≡ first ∷ 128 ∷ 192 ∷ 4 ∷ kept → Spells own p → IsPiece octets p (said - MAX_HELD) rest
-cut-piece octets own kept rest first said body p h long few begun after is s =
+cut_piece octets own kept rest first said body p h long few begun after is s =
     let cut : held said ≡ MAX_HELD = held-cut said long in
     let size : length kept ≡ MAX_HELD = ap (λ zs. length zs) begun ∙ take-length MAX_HELD body few in
     record {

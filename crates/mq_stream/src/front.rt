@@ -50,6 +50,7 @@ pub(crate) fn front(alloc: Global, octets: &[u8]) -> Result<Option<InFront<'_>>,
 }
 
 /// The packet that says so many octets, which begin with the body.
+#[tactic(auto, using(crate::proofs::Whole::whole_piece))]
 fn whole<'a>(
     alloc: Global,
     first: u8,
@@ -75,6 +76,7 @@ fn whole<'a>(
 }
 
 /// The packet of which more is said than is held.
+#[tactic(auto, using(crate::proofs::Whole::cut_piece))]
 fn cut<'a>(
     alloc: Global,
     first: u8,
