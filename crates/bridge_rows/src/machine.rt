@@ -196,24 +196,33 @@ fn field_event(alloc: Global, fields: &[&str]) -> Result<Event, Stop> {
     Ok(Event::Field { lane, frame })
 }
 
+/// A frame of the gateway of the lane for commands.
+fn commands_event(alloc: Global, fields: &[&str]) -> Result<Event, Stop> {
+    let frame = frame_of(alloc, fields)?;
+    Ok(Event::Commands { frame })
+}
+
+/// A packet of the broker.
+fn broker_event(alloc: Global, fields: &[&str]) -> Result<Event, Stop> {
+    let packet = packet_of(alloc, fields)?;
+    Ok(Event::Broker { packet })
+}
+
+/// A line that is on the disk.
+fn kept_event(fields: &[&str]) -> Result<Event, Stop> {
+    let line = number_of(fields)?;
+    Ok(Event::Kept { line })
+}
+
 /// The event of a line.
 fn event_of(alloc: Global, first: &str, rest: &[&str]) -> Result<Event, Stop> {
     match first {
         "field" => field_event(alloc, rest),
-        "commands" => {
-            let frame = frame_of(alloc, rest)?;
-            Ok(Event::Commands { frame })
-        }
-        "broker" => {
-            let packet = packet_of(alloc, rest)?;
-            Ok(Event::Broker { packet })
-        }
+        "commands" => commands_event(alloc, rest),
+        "broker" => broker_event(alloc, rest),
         "opened" => Ok(Event::BrokerOpen),
         "lost" => Ok(Event::BrokerLost),
-        "kept" => {
-            let line = number_of(rest)?;
-            Ok(Event::Kept { line })
-        }
+        "kept" => kept_event(rest),
         "tick" => Ok(Event::Tick),
         _ => Err(Stop::Line),
     }
@@ -238,31 +247,57 @@ fn word_of(why: Why) -> &'static str {
     }
 }
 
+/// Prints the octets of a frame, and ends the line.
+fn print_frame(alloc: Global, text: &mut String, frame: &Frame) -> Result<(), Stop> {
+    let octets = written(alloc, frame)?;
+    let digits = Digits(octets.as_slice());
+    Ok(writeln!(text, " {digits}")?)
+}
+
 /// Prints one thing that is to be done.
 fn print_action(alloc: Global, text: &mut String, action: &Action) -> Result<(), Stop> {
     match action {
         Action::ToField { lane, frame } => {
-            let octets = written(alloc, frame)?;
-            let digits = Digits(octets.as_slice());
-            Ok(writeln!(text, "to-field {lane} {digits}")?)
+            write!(text, "to-field {lane}")?;
+            print_frame(alloc, text, frame)
         }
         Action::ToCommands { frame } => {
-            let octets = written(alloc, frame)?;
-            let digits = Digits(octets.as_slice());
-            Ok(writeln!(text, "to-commands {digits}")?)
+            text.push_str("to-commands")?;
+            print_frame(alloc, text, frame)
         }
-        Action::ToBroker { packet } | Action::Reading { packet, .. } => {
-            let said = Said(packet);
-            Ok(writeln!(text, "to-broker {said}")?)
-        }
+        Action::ToBroker { packet } => print_packet(text, packet),
+        Action::Reading { packet, .. } => print_packet(text, packet),
+        other => print_other(text, other),
+    }
+}
+
+/// Prints a packet for the broker.
+fn print_packet(text: &mut String, packet: &Packet) -> Result<(), Stop> {
+    let said = Said(packet);
+    Ok(writeln!(text, "to-broker {said}")?)
+}
+
+/// Prints what is to be done beside frames and packets.
+fn print_other(text: &mut String, action: &Action) -> Result<(), Stop> {
+    match action {
         Action::Refuse { line, command, why } => {
             let (word, topic) = (word_of(*why), Text(command.from.as_slice()));
             Ok(writeln!(text, "refuse {line} {word} {topic}")?)
         }
         Action::NextGateway { lane } => Ok(writeln!(text, "next-gateway {lane}")?),
-        Action::NextCommands => Ok(writeln!(text, "next-commands")?),
-        Action::Dial => Ok(writeln!(text, "dial")?),
-        Action::HangUp => Ok(writeln!(text, "hang-up")?),
+        other => {
+            let word = bare_word(other);
+            Ok(writeln!(text, "{word}")?)
+        }
+    }
+}
+
+/// What is to be done, in a word.
+fn bare_word(action: &Action) -> &'static str {
+    match action {
+        Action::NextCommands => "next-commands",
+        Action::Dial => "dial",
+        _ => "hang-up",
     }
 }
 

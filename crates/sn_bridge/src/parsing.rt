@@ -4,7 +4,7 @@ use crate::entries::{downs_in, look_for_loops, ups_in};
 use crate::keys::{address_of, list_at, number_at, octets_of, text_at, text_if, text_of};
 use crate::reading::password_at;
 use crate::stop::Stop;
-use br_core::{LaneSettings, Settings, UpName};
+use br_core::{DownFilter, LaneSettings, Settings, UpName};
 use mq_packet::{Login, Qos, Will, is_text};
 use octets::{Octets, Sequence};
 use std::alloc::Global;
@@ -188,6 +188,116 @@ fn look_for_later(document: &Table) -> Result<(), Stop> {
     Ok(())
 }
 
+/// Who connects to the broker, and the client id there.
+#[derive(Drop)]
+struct Account {
+    client: Octets,
+    login: Option<Login>,
+}
+
+/// Names that go up, and filters whose messages come down.
+#[derive(Drop)]
+struct Entries {
+    ups: Vec<UpName>,
+    downs: Vec<DownFilter>,
+}
+
+/// What the bridge says under its name.
+#[derive(Drop)]
+struct Identity {
+    commands: Octets,
+    will: Will,
+    state: Octets,
+    here: Octets,
+}
+
+/// Who connects to the broker, and the client id there.
+fn account_in<R: Files<File = File>>(
+    rt: &R,
+    alloc: Global,
+    document: &Table,
+) -> Result<Account, Stop> {
+    let client = client_in(alloc, document)?;
+    match login_in(rt, alloc, document) {
+        Ok(login) => Ok(Account { client, login }),
+        Err(stop) => Err(stop),
+    }
+}
+
+/// All entries. Nothing that comes down by them goes up again, and nothing that goes up comes down.
+fn entries_in(alloc: Global, document: &Table) -> Result<Entries, Stop> {
+    let ups = ups_in(alloc, document)?;
+    let downs = downs_in(alloc, document)?;
+    let apart = look_for_loops(alloc, downs.as_slice(), ups.as_slice());
+    match apart {
+        Ok(()) => Ok(Entries { ups, downs }),
+        Err(stop) => Err(stop),
+    }
+}
+
+/// What the bridge says under its name.
+fn identity_of(alloc: Global, name: &str) -> Result<Identity, Stop> {
+    let commands = format!(in alloc; "{name}-d0")?;
+    Ok(Identity {
+        commands: octets_of(alloc, commands.as_str())?,
+        will: will_of(alloc, name)?,
+        state: state_topic(alloc, name)?,
+        here: Octets::from_slice(alloc, b"here")?,
+    })
+}
+
+/// The names that go up, shared by so many lanes.
+fn lanes_of(
+    alloc: Global,
+    name: &str,
+    count: u64,
+    ups: Vec<UpName>,
+) -> Result<Sequence<LaneSettings>, Stop> {
+    match new_lanes(alloc, name, count as usize) {
+        Ok(lanes) => Ok(Sequence::new(shared(lanes, ups)?)),
+        Err(stop) => Err(stop),
+    }
+}
+
+/// What is carried, of its parts.
+fn settings_of(
+    lanes: Sequence<LaneSettings>,
+    downs: Vec<DownFilter>,
+    account: Account,
+    identity: Identity,
+    window: u64,
+) -> Settings {
+    Settings {
+        lanes,
+        commands: identity.commands,
+        downs: Sequence::new(downs),
+        client: account.client,
+        will: Some(identity.will),
+        login: account.login,
+        state: identity.state,
+        here: identity.here,
+        window: window as usize,
+    }
+}
+
+/// What is carried: `client`, `user`, `password`, `lanes`, `window`, the keys of what is not there,
+/// `up` and `down`.
+fn settings_in<R: Files<File = File>>(
+    rt: &R,
+    alloc: Global,
+    document: &Table,
+    name: &str,
+) -> Result<Settings, Stop> {
+    let account = account_in(rt, alloc, document)?;
+    let lanes = number_at(document, "lanes", 1, 16, 1)?;
+    let window = number_at(document, "window", 1, 64, 16)?;
+    look_for_later(document)?;
+    let entries = entries_in(alloc, document)?;
+    let identity = identity_of(alloc, name)?;
+    let lanes = lanes_of(alloc, name, lanes, entries.ups)?;
+    Ok(settings_of(lanes, entries.downs, account, identity, window))
+}
+
 /// What a document asks for, the first bad key named: `name`, `gateways`, `broker`, `client`,
 /// `user`, `password`, `lanes`, `window`, the keys of what is not there, `up`, `down`, and
 /// `refused`.
@@ -199,28 +309,8 @@ pub(crate) fn setup_in<R: Files<File = File>>(
     let name = name_in(document)?;
     let gateways = gateways_in(alloc, document)?;
     let broker = address_of(text_at(document, "broker", "broker")?, "broker")?;
-    let client = client_in(alloc, document)?;
-    let login = login_in(rt, alloc, document)?;
-    let lanes = number_at(document, "lanes", 1, 16, 1)?;
-    let window = number_at(document, "window", 1, 64, 16)?;
-    look_for_later(document)?;
-    let ups = ups_in(alloc, document)?;
-    let downs = downs_in(alloc, document)?;
-    look_for_loops(alloc, downs.as_slice(), ups.as_slice())?;
-    let refused = refused_in(alloc, document, !downs.is_empty())?;
-    let lanes = shared(new_lanes(alloc, name, lanes as usize)?, ups)?;
-    let commands = format!(in alloc; "{name}-d0")?;
-    let settings = Settings {
-        lanes: Sequence::new(lanes),
-        commands: octets_of(alloc, commands.as_str())?,
-        downs: Sequence::new(downs),
-        client,
-        will: Some(will_of(alloc, name)?),
-        login,
-        state: state_topic(alloc, name)?,
-        here: Octets::from_slice(alloc, b"here")?,
-        window: window as usize,
-    };
+    let settings = settings_in(rt, alloc, document, name)?;
+    let refused = refused_in(alloc, document, !settings.downs.is_empty())?;
     Ok(Setup {
         settings,
         gateways,

@@ -64,11 +64,7 @@ fn front(octets: &[u8]) -> &[u8] {
 
 /// Writes a line into the file, and syncs it: second, quality of service, why, the broker's topic
 /// and the message in hexadecimal digits.
-pub(crate) fn keep<R: Files<File = File> + Clock>(
-    rt: &R,
-    path: &str,
-    owed: &Owed,
-) -> io::Result<()> {
+fn write_line<R: Files<File = File> + Clock>(rt: &R, path: &str, owed: &Owed) -> io::Result<()> {
     let mut file = File::options()
         .append(true)
         .create(true)
@@ -81,4 +77,22 @@ pub(crate) fn keep<R: Files<File = File> + Clock>(
     let body = Digits(front(owed.command.body.as_slice()));
     writeln!(&mut file, "{second} {qos} {why} {topic} {body}")?;
     file.sync_all()
+}
+
+/// Writes a line, and tells that or why it was not. Says whether it is on the disk.
+pub(crate) fn keep<R, E: Write>(rt: &R, path: &str, owed: &Owed, err: &mut E) -> bool
+where
+    R: Files<File = File> + Clock,
+{
+    match write_line(rt, path, owed) {
+        Ok(()) => {
+            let _ = writeln!(err, "sn_bridge: no side will have a command: see {path}");
+            true
+        }
+        Err(error) => {
+            let kind = error.kind();
+            let _ = writeln!(err, "sn_bridge: {path}: {kind}");
+            false
+        }
+    }
 }

@@ -5,8 +5,8 @@ use crate::parsing::Setup;
 use crate::refused::{Owed, keep};
 use crate::stop::Stop;
 use crate::telling::{Refusal, Told, refusal_in_frame, refusal_in_packet, soon_ended};
-use br_core::{Action, Bridge, Event, Moment, begun, step};
-use mio::{Events, Poll};
+use br_core::{Action, Bridge, Command, Event, Moment, Why, begun, step};
+use mio::{Events, Poll, Registry};
 use mq_packet::Packet;
 use octets::Sequence;
 use sn_frame::{EncodeFault, Frame, FrameFault, decode, encode};
@@ -14,7 +14,7 @@ use std::alloc::Global;
 use std::fs::{File, Files};
 use std::io::Write;
 use std::mem;
-use std::net::Net;
+use std::net::{Net, SocketAddr};
 use std::time::{Clock, Duration};
 
 /// How many milliseconds a turn waits for something to come; so often time goes by.
@@ -93,28 +93,34 @@ where
     done
 }
 
-/// A bridge that begins.
-fn opened<'a, T: Clock + Net>(
-    rt: &T,
+/// The sockets of so many lanes.
+fn open_lanes<N: Net>(
+    net: &N,
     alloc: Global,
-    setup: &'a Setup,
-) -> Result<Turning<'a>, Stop> {
+    registry: &Registry,
+    gateways: &[SocketAddr],
+    count: usize,
+) -> Result<Vec<Gate>, Stop> {
+    let mut lanes = Vec::new(alloc);
+    for place in 0..count {
+        lanes.push(Gate::open(net, registry, place, gateways)?)?;
+    }
+    Ok(lanes)
+}
+
+/// A bridge that begins.
+fn opened<'a, T: Net>(rt: &T, alloc: Global, setup: &'a Setup) -> Result<Turning<'a>, Stop> {
     let Ok(poll) = Poll::new(rt) else {
         return Err(Stop::Socket);
     };
     let gateways = setup.gateways.as_slice();
     let count = setup.settings.lanes.len();
-    let mut lanes = Vec::new(alloc);
-    for place in 0..count {
-        lanes.push(Gate::open(rt, poll.registry(), place, gateways)?)?;
-    }
-    let down = Gate::open(rt, poll.registry(), count, gateways)?;
     Ok(Turning {
         setup,
+        lanes: open_lanes(rt, alloc, poll.registry(), gateways, count)?,
+        down: Gate::open(rt, poll.registry(), count, gateways)?,
         bridge: begun(alloc, &setup.settings)?,
         poll,
-        lanes,
-        down,
         line: None,
         is_lost: false,
         owed: Vec::new(alloc),
@@ -155,22 +161,29 @@ impl<'a> Turning<'a> {
         let mut buffer = vec![in alloc; 0_u8; BUFFER]?;
         let mut told = Told::nothing();
         for _ in 0..u64::MAX {
-            let wait = if self.is_busy { 0 } else { A_WHILE };
-            let _ = self
-                .poll
-                .poll(&mut events, Some(Duration::from_millis(wait)));
-            self.is_busy = false;
-            self.turn(rt, alloc, buffer.as_mut_slice())?;
-            self.write_owed(rt, alloc, err)?;
-            self.flush();
+            self.wait(&mut events);
+            self.turn(rt, alloc, buffer.as_mut_slice(), err)?;
             told.look(&self.bridge, self.refusal, err);
             self.refusal = None;
         }
         Ok(())
     }
 
-    /// What is there on all sides, and the time.
-    fn turn<T>(&mut self, rt: &T, alloc: Global, buffer: &mut [u8]) -> Result<(), Stop>
+    /// Waits until something comes, or for a while.
+    fn wait(&mut self, events: &mut Events) {
+        let wait = if self.is_busy { 0 } else { A_WHILE };
+        let _ = self.poll.poll(events, Some(Duration::from_millis(wait)));
+        self.is_busy = false;
+    }
+
+    /// What is there on all sides, and the time; then what is to be written and sent.
+    fn turn<T, E: Write>(
+        &mut self,
+        rt: &T,
+        alloc: Global,
+        buffer: &mut [u8],
+        err: &mut E,
+    ) -> Result<(), Stop>
     where
         T: Files<File = File> + Clock + Net,
     {
@@ -179,18 +192,32 @@ impl<'a> Turning<'a> {
         }
         self.hear_down(rt, alloc, buffer)?;
         self.hear_broker(rt, alloc, buffer)?;
-        if self.is_lost {
-            self.is_lost = false;
-            self.count_short(millisecond(rt));
-            self.line = None;
-            self.take(rt, alloc, &Event::BrokerLost)?;
-        }
-        let now = millisecond(rt);
-        if now >= self.due {
-            self.due = now.saturating_add(A_WHILE);
-            self.take(rt, alloc, &Event::Tick)?;
-        }
+        self.end_lost(rt, alloc)?;
+        self.pass_time(rt, alloc)?;
+        self.write_owed(rt, alloc, err)?;
+        self.flush();
         Ok(())
+    }
+
+    /// The machine hears that the connection to the broker has ended, if it has.
+    fn end_lost<T: Clock + Net>(&mut self, rt: &T, alloc: Global) -> Result<(), Stop> {
+        if !self.is_lost {
+            return Ok(());
+        }
+        self.is_lost = false;
+        self.count_short(millisecond(rt));
+        self.line = None;
+        self.take(rt, alloc, &Event::BrokerLost)
+    }
+
+    /// Time goes by, if a while has passed.
+    fn pass_time<T: Clock + Net>(&mut self, rt: &T, alloc: Global) -> Result<(), Stop> {
+        let now = millisecond(rt);
+        if now < self.due {
+            return Ok(());
+        }
+        self.due = now.saturating_add(A_WHILE);
+        self.take(rt, alloc, &Event::Tick)
     }
 
     /// Keeps what was refused, if something was.
@@ -222,18 +249,12 @@ impl<'a> Turning<'a> {
 
     /// An event goes through the machine, and what that gives is done.
     fn take<T: Clock + Net>(&mut self, rt: &T, alloc: Global, event: &Event) -> Result<(), Stop> {
-        step(
-            alloc,
-            &self.setup.settings,
-            event,
-            moment(rt),
-            &mut self.bridge,
-        )?;
+        let settings = &self.setup.settings;
+        step(alloc, settings, event, moment(rt), &mut self.bridge)?;
         let out = mem::replace(&mut self.bridge.out, Sequence::empty(alloc));
-        for action in out.into_vec() {
-            self.carry_out(rt, alloc, action)?;
-        }
-        Ok(())
+        let done = self.carry_out_all(rt, alloc, out.as_slice());
+        drop(out);
+        done
     }
 
     /// What a lane's gateway sent.
@@ -252,11 +273,7 @@ impl<'a> Turning<'a> {
                 return Ok(());
             };
             if is_its {
-                let (datagram, _) = buffer.split_at(size);
-                if let Some(frame) = frame_of(alloc, datagram)? {
-                    self.note(refusal_in_frame(&frame));
-                    self.take(rt, alloc, &Event::Field { lane, frame })?;
-                }
+                self.take_frame(rt, alloc, Some(lane), buffer.split_at(size).0)?;
             }
         }
         self.is_busy = true;
@@ -276,15 +293,32 @@ impl<'a> Turning<'a> {
                 return Ok(());
             };
             if is_its {
-                let (datagram, _) = buffer.split_at(size);
-                if let Some(frame) = frame_of(alloc, datagram)? {
-                    self.note(refusal_in_frame(&frame));
-                    self.take(rt, alloc, &Event::Commands { frame })?;
-                }
+                self.take_frame(rt, alloc, None, buffer.split_at(size).0)?;
             }
         }
         self.is_busy = true;
         Ok(())
+    }
+
+    /// The frame of a datagram for a lane, or for the lane for commands.
+    fn take_frame<T: Clock + Net>(
+        &mut self,
+        rt: &T,
+        alloc: Global,
+        lane: Option<usize>,
+        datagram: &[u8],
+    ) -> Result<(), Stop> {
+        let Some(frame) = frame_of(alloc, datagram)? else {
+            return Ok(());
+        };
+        self.note(refusal_in_frame(&frame));
+        let event = match lane {
+            None => Event::Commands { frame },
+            Some(lane) => Event::Field { lane, frame },
+        };
+        let done = self.take(rt, alloc, &event);
+        drop(event);
+        done
     }
 
     /// What a look at the connection finds.
@@ -303,28 +337,39 @@ impl<'a> Turning<'a> {
         buffer: &mut [u8],
     ) -> Result<(), Stop> {
         for _ in 0..MOST_READS {
-            match self.look(alloc, buffer)? {
-                Looked::Nothing => return Ok(()),
-                Looked::Opened => {
-                    self.opened = millisecond(rt);
-                    self.take(rt, alloc, &Event::BrokerOpen)?;
-                }
-                Looked::Over => {
-                    self.is_lost = true;
-                    return Ok(());
-                }
-                Looked::Came { fed } => {
-                    let is_over = fed.fault.is_some();
-                    self.take_packets(rt, alloc, fed.packets)?;
-                    if is_over {
-                        self.is_lost = true;
-                        return Ok(());
-                    }
-                }
+            let found = self.look(alloc, buffer)?;
+            if !self.take_look(rt, alloc, found)? {
+                return Ok(());
             }
         }
         self.is_busy = true;
         Ok(())
+    }
+
+    /// What a look found goes through the machine. Says whether more may be there.
+    fn take_look<T: Clock + Net>(
+        &mut self,
+        rt: &T,
+        alloc: Global,
+        found: Looked,
+    ) -> Result<bool, Stop> {
+        match found {
+            Looked::Nothing => Ok(false),
+            Looked::Opened => {
+                self.opened = millisecond(rt);
+                self.take(rt, alloc, &Event::BrokerOpen)?;
+                Ok(true)
+            }
+            Looked::Over => {
+                self.is_lost = true;
+                Ok(false)
+            }
+            Looked::Came { fed } => {
+                self.is_lost = fed.fault.is_some();
+                self.take_packets(rt, alloc, fed.packets)?;
+                Ok(!self.is_lost)
+            }
+        }
     }
 
     /// Packets of the broker, one after the other.
@@ -335,50 +380,69 @@ impl<'a> Turning<'a> {
         packets: Vec<Packet>,
     ) -> Result<(), Stop> {
         for packet in packets {
-            self.note(refusal_in_packet(&packet));
-            self.take(rt, alloc, &Event::Broker { packet })?;
+            self.take_packet(rt, alloc, packet)?;
+        }
+        Ok(())
+    }
+
+    /// A packet of the broker.
+    fn take_packet<T: Clock + Net>(
+        &mut self,
+        rt: &T,
+        alloc: Global,
+        packet: Packet,
+    ) -> Result<(), Stop> {
+        self.note(refusal_in_packet(&packet));
+        let event = Event::Broker { packet };
+        let done = self.take(rt, alloc, &event);
+        drop(event);
+        done
+    }
+
+    /// Does all that is to be done, in its order.
+    fn carry_out_all<T: Net>(
+        &mut self,
+        rt: &T,
+        alloc: Global,
+        actions: &[Action],
+    ) -> Result<(), Stop> {
+        for action in actions {
+            self.carry_out(rt, alloc, action)?;
         }
         Ok(())
     }
 
     /// Does one thing that is to be done.
-    fn carry_out<T: Net>(&mut self, rt: &T, alloc: Global, action: Action) -> Result<(), Stop> {
+    fn carry_out<T: Net>(&mut self, rt: &T, alloc: Global, action: &Action) -> Result<(), Stop> {
+        match action {
+            Action::ToField { lane, frame } => self.send(alloc, *lane, frame),
+            Action::ToCommands { frame } => self.send_down(alloc, frame),
+            Action::ToBroker { packet } => self.say(alloc, packet),
+            Action::Reading { packet, .. } => self.say(alloc, packet),
+            Action::Refuse { line, command, why } => self.owe(alloc, *line, command, *why),
+            other => {
+                self.connect(rt, alloc, other);
+                Ok(())
+            }
+        }
+    }
+
+    /// Turns to another gateway, dials the broker or hangs up, if it is that which is to be done.
+    fn connect<T: Net>(&mut self, rt: &T, alloc: Global, action: &Action) {
         let gateways = self.setup.gateways.as_slice();
         match action {
-            Action::ToField { lane, frame } => self.send(alloc, lane, &frame),
-            Action::ToCommands { frame } => {
-                let octets = written(alloc, &frame)?;
-                self.down.send(gateways, octets.as_slice());
-                Ok(())
-            }
-            Action::ToBroker { packet } => self.say(alloc, &packet),
-            Action::Reading {
-                number: _number,
-                packet,
-            } => self.say(alloc, &packet),
-            Action::Refuse { line, command, why } => {
-                self.owed.push(Owed { line, command, why })?;
-                Ok(())
-            }
             Action::NextGateway { lane } => {
-                if let Some(gate) = self.lanes.as_mut_slice().get_mut(lane) {
+                if let Some(gate) = self.lanes.as_mut_slice().get_mut(*lane) {
                     gate.turn(gateways);
                 }
-                Ok(())
             }
-            Action::NextCommands => {
-                self.down.turn(gateways);
-                Ok(())
-            }
-            Action::Dial => {
-                self.dial(rt, alloc);
-                Ok(())
-            }
+            Action::NextCommands => self.down.turn(gateways),
+            Action::Dial => self.dial(rt, alloc),
             Action::HangUp => {
                 self.flush();
                 self.line = None;
-                Ok(())
             }
+            _ => {}
         }
     }
 
@@ -396,6 +460,21 @@ impl<'a> Turning<'a> {
         if let Some(gate) = self.lanes.as_slice().get(lane) {
             gate.send(self.setup.gateways.as_slice(), octets.as_slice());
         }
+        Ok(())
+    }
+
+    /// Sends a frame to the gateway of the lane for commands.
+    fn send_down(&self, alloc: Global, frame: &Frame) -> Result<(), Stop> {
+        let octets = written(alloc, frame)?;
+        self.down
+            .send(self.setup.gateways.as_slice(), octets.as_slice());
+        Ok(())
+    }
+
+    /// A line of what no side will have is owed.
+    fn owe(&mut self, alloc: Global, line: u64, command: &Command, why: Why) -> Result<(), Stop> {
+        let command = command.copied(alloc)?;
+        self.owed.push(Owed { line, command, why })?;
         Ok(())
     }
 
@@ -432,24 +511,15 @@ impl<'a> Turning<'a> {
             self.rest -= 1;
             return Ok(());
         }
-        if self.owed.is_empty() {
+        let Some(owed) = self.owed.as_slice().first() else {
+            return Ok(());
+        };
+        let line = owed.line;
+        if !keep(rt, path.as_str(), owed, err) {
+            self.rest = PATIENCE;
             return Ok(());
         }
-        let owed = self.owed.remove(0);
-        let line = owed.line;
-        match keep(rt, path.as_str(), &owed) {
-            Ok(()) => {
-                drop(owed);
-                let _ = writeln!(err, "sn_bridge: no side will have a command: see {path}");
-                self.take(rt, alloc, &Event::Kept { line })
-            }
-            Err(error) => {
-                let kind = error.kind();
-                let _ = writeln!(err, "sn_bridge: {path}: {kind}");
-                self.rest = PATIENCE;
-                self.owed.push(owed)?;
-                Ok(())
-            }
-        }
+        drop(self.owed.remove(0));
+        self.take(rt, alloc, &Event::Kept { line })
     }
 }

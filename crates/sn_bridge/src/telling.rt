@@ -131,24 +131,35 @@ impl Told {
         refusal: Option<Refusal>,
         err: &mut E,
     ) {
-        let is_up = bridge.side == Side::Up;
+        self.tell_broker(bridge.side == Side::Up, err);
+        self.tell_lanes(listening(bridge), bridge.lanes.len(), err);
+        self.tell_commands(bridge.down.phase == Phase::Listening, err);
+        self.tell(refusal, err);
+    }
+
+    /// Tells whether the broker is there.
+    fn tell_broker<E: Write>(&mut self, is_up: bool, err: &mut E) {
         if is_up != self.is_up {
+            self.is_up = is_up;
             let word = if is_up { "there" } else { "away" };
             let _ = writeln!(err, "sn_bridge: the broker is {word}");
         }
-        let lanes = listening(bridge);
+    }
+
+    /// Tells how many lanes listen.
+    fn tell_lanes<E: Write>(&mut self, lanes: usize, all: usize, err: &mut E) {
         if lanes != self.listening {
-            let all = bridge.lanes.len();
+            self.listening = lanes;
             let _ = writeln!(err, "sn_bridge: {lanes} of {all} lanes listen");
         }
-        let is_connected = bridge.down.phase == Phase::Listening;
+    }
+
+    /// Tells whether the lane for commands is connected.
+    fn tell_commands<E: Write>(&mut self, is_connected: bool, err: &mut E) {
         if is_connected != self.is_connected {
+            self.is_connected = is_connected;
             let word = if is_connected { "connected" } else { "away" };
             let _ = writeln!(err, "sn_bridge: the lane for commands is {word}");
         }
-        self.is_up = is_up;
-        self.listening = lanes;
-        self.is_connected = is_connected;
-        self.tell(refusal, err);
     }
 }
