@@ -54,30 +54,62 @@ fn is_there(names: &[UpName], name: &[u8]) -> bool {
     names.iter().any(|up| up.name.as_slice() == name)
 }
 
-/// A name that goes up.
-fn up_of(
-    alloc: Global,
-    prefix: &Prefix,
+/// What an entry `[[up]]` says of all its names.
+#[derive(Drop)]
+struct Above<'a> {
+    prefix: Prefix,
     qos: Qos,
-    kept: &[Value],
-    name: &TopicName,
-) -> Result<UpName, Stop> {
-    let topic = prefix.topic_of(alloc, name)?;
+    kept: &'a [Value],
+}
+
+/// What an entry says of all its names.
+fn above_of<'a>(alloc: Global, table: &'a Table) -> Result<Above<'a>, Stop> {
+    Ok(Above {
+        prefix: prefix_at(alloc, table)?,
+        qos: qos_at(table, "up.qos")?,
+        kept: list_at(table, "retain", "up.retain")?,
+    })
+}
+
+/// A name that goes up.
+fn up_of(alloc: Global, above: &Above<'_>, name: &TopicName) -> Result<UpName, Stop> {
+    let topic = above.prefix.topic_of(alloc, name)?;
     if !is_topic(topic.as_slice()) {
         return Err(Stop::Key("up.to"));
     }
     Ok(UpName {
-        name: Octets::from_slice(alloc, name.bytes())?,
         topic,
-        qos,
-        retain: is_kept(alloc, kept, name)?,
+        name: Octets::from_slice(alloc, name.bytes())?,
+        qos: above.qos,
+        retain: is_kept(alloc, above.kept, name)?,
     })
+}
+
+/// Adds the name of a text, which is short, or longer.
+fn add_name(
+    alloc: Global,
+    above: &Above<'_>,
+    short: bool,
+    text: &str,
+    key: &'static str,
+    names: &mut Vec<UpName>,
+) -> Result<(), Stop> {
+    let name = name_of(alloc, text, key)?;
+    let is_short = name.bytes().len() == 2;
+    if is_short != short || is_there(names.as_slice(), name.bytes()) {
+        return Err(Stop::Key(key));
+    }
+    let up = up_of(alloc, above, &name);
+    drop(name);
+    names.push(up?)?;
+    Ok(())
 }
 
 /// The names of a list of an entry: short ones of two octets, or longer ones.
 fn add_names(
     alloc: Global,
     table: &Table,
+    above: &Above<'_>,
     short: bool,
     names: &mut Vec<UpName>,
 ) -> Result<(), Stop> {
@@ -86,17 +118,8 @@ fn add_names(
     } else {
         ("topics", "up.topics")
     };
-    let prefix = prefix_at(alloc, table)?;
-    let qos = qos_at(table, "up.qos")?;
-    let kept = list_at(table, "retain", "up.retain")?;
     for item in list_at(table, list, key)? {
-        let name = name_of(alloc, text_of(item, key)?, key)?;
-        let is_good = (name.bytes().len() == 2) == short
-            && !is_there(names.as_slice(), name.bytes());
-        if !is_good {
-            return Err(Stop::Key(key));
-        }
-        names.push(up_of(alloc, &prefix, qos, kept, &name)?)?;
+        add_name(alloc, above, short, text_of(item, key)?, key, names)?;
     }
     Ok(())
 }
@@ -109,17 +132,22 @@ fn table_of<'a>(value: &'a Value, key: &'static str) -> Result<&'a Table, Stop> 
     }
 }
 
-/// The names of all entries `[[up]]`. Wildcards are refused: there is nothing yet that finds the
-/// names which match them.
+/// Adds the names of an entry. Wildcards are refused: there is nothing yet that finds the names
+/// which match them.
+fn add_entry(alloc: Global, table: &Table, names: &mut Vec<UpName>) -> Result<(), Stop> {
+    if table.get("filter").is_some() {
+        return Err(Stop::Key("up.filter"));
+    }
+    let above = above_of(alloc, table)?;
+    add_names(alloc, table, &above, false, names)?;
+    add_names(alloc, table, &above, true, names)
+}
+
+/// The names of all entries `[[up]]`.
 pub(crate) fn ups_in(alloc: Global, document: &Table) -> Result<Vec<UpName>, Stop> {
     let mut names = Vec::new(alloc);
     for entry in list_at(document, "up", "up")? {
-        let table = table_of(entry, "up")?;
-        if table.get("filter").is_some() {
-            return Err(Stop::Key("up.filter"));
-        }
-        add_names(alloc, table, false, &mut names)?;
-        add_names(alloc, table, true, &mut names)?;
+        add_entry(alloc, table_of(entry, "up")?, &mut names)?;
     }
     Ok(names)
 }
