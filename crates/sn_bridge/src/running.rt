@@ -365,9 +365,12 @@ impl<'a> Turning<'a> {
                 Ok(false)
             }
             Looked::Came { fed } => {
-                self.is_lost = fed.fault.is_some();
+                let is_over = fed.fault.is_some();
                 self.take_packets(rt, alloc, fed.packets)?;
-                Ok(!self.is_lost)
+                if is_over {
+                    self.is_lost = true;
+                }
+                Ok(!is_over)
             }
         }
     }
