@@ -74,8 +74,8 @@
 //! All these lines are played on both replicas, and a last line says that they print the same. What
 //! stands after a heading is played once, on the plain replica.
 //!
-//! Behind the heading `=== shifts` rows are of shifts. Each of the lines above may stand there, but
-//! `repeat`; and in a shift, during which the gateway is not open, those below. PLACE is where a
+//! Behind the heading `=== shifts` rows are of shifts. Each of the lines above may stand there; and
+//! in a shift, during which the gateway is not open, those below. PLACE is where a
 //! pass sits, from 0 on, in the order in which passes sat down in the row; those of an earlier
 //! shift stay in their places:
 //!
