@@ -37,8 +37,8 @@ impl Calls for Starts {
             let read = settings(said.alloc, self.text);
             given(said, read, SettingsFault::Memory);
         } else {
-            match settings(said.alloc, LONG) {
-                Ok(read) => begin_once(said, &read),
+            match &settings(said.alloc, LONG) {
+                Ok(read) => begin_once(said, read),
                 Err(_) => said.stop(Stop::Memory),
             }
         }
@@ -102,12 +102,12 @@ pub(crate) fn play_files<T: Files<File = File>>(rt: &T, said: &mut Said, call: &
 
 impl<'a, T: Files<File = File>> Calls for Opens<'a, T> {
     fn call_once(&mut self, said: &mut Said, _call: &str) {
-        match FileDisk::at(self.rt, said.alloc, "j") {
+        match &FileDisk::at(self.rt, said.alloc, "j") {
             Ok(_disk) => {
                 said.page.append(b"two files\n");
                 said.answer();
             }
-            Err(fault) => said.refuse(fault == FileDiskFault::Memory),
+            Err(fault) => said.refuse(*fault == FileDiskFault::Memory),
         }
     }
 }

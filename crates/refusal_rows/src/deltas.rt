@@ -160,7 +160,7 @@ pub(crate) fn octets_of(said: &mut Said, parts: &[&str]) -> Vec<u8> {
 
 /// The octets that hexadecimal digits spell come after the others.
 fn add_octets(said: &mut Said, octets: &mut Vec<u8>, digits: &str) {
-    match hex::decode(said.alloc, digits.as_bytes()) {
+    match &hex::decode(said.alloc, digits.as_bytes()) {
         Ok(found) => {
             let is_short = octets.extend_from_slice(found.as_slice()).is_err();
             said.stop_if_short(is_short);

@@ -288,7 +288,7 @@ fn new<R: Replica>(said: &mut Said) -> Option<Gateway<R>> {
 
 /// The octets of what a gateway must keep.
 fn kept<R: Replica>(said: &mut Said, node: &Gateway<R>) -> Vec<u8> {
-    match node.held(said.alloc) {
+    match &node.held(said.alloc) {
         Ok(deltas) => spelled(said, deltas.as_slice()),
         Err(_) => {
             said.stop(Stop::Memory);

@@ -89,12 +89,12 @@ impl<R: Replica> Replicas<R> {
 
 /// Makes an empty replica.
 fn show_empty<R: Replica>(said: &mut Said) {
-    match R::empty(said.alloc) {
+    match &R::empty(said.alloc) {
         Ok(replica) => {
-            show(said, &replica);
+            show(said, replica);
             said.answer();
         }
-        Err(fault) => said.refuse(fault == TakeFault::Memory),
+        Err(fault) => said.refuse(*fault == TakeFault::Memory),
     }
 }
 
@@ -163,7 +163,7 @@ pub(crate) fn take<R: Replica>(said: &mut Said, replica: &mut R, delta: &Delta) 
 
 /// The octets of what a replica must keep.
 fn kept<R: Replica>(said: &mut Said, replica: &R) -> Vec<u8> {
-    match replica.held(said.alloc) {
+    match &replica.held(said.alloc) {
         Ok(deltas) => spelled(said, deltas.as_slice()),
         Err(_) => {
             said.stop(Stop::Memory);
@@ -183,12 +183,12 @@ fn copy_view<R: Replica>(said: &mut Said, replica: &R) {
 
 /// Copies a view, and prints how many messages wait in the copy.
 fn show_copy(said: &mut Said, view: &ClientView) {
-    match view.copy(said.alloc) {
+    match &view.copy(said.alloc) {
         Ok(copy) => {
             said.keep(copy.session == view.session && copy.stamp == view.stamp);
             said.number("pending", copy.pending.as_slice().len());
             said.answer();
         }
-        Err(fault) => said.refuse(fault == OpsFault::Memory),
+        Err(fault) => said.refuse(*fault == OpsFault::Memory),
     }
 }

@@ -172,12 +172,12 @@ fn look_inside(said: &mut Said, fault: &NodeFault) {
 
 /// Asks for the deltas that were made, and prints how many there are.
 fn show_made<W: Wait>(rt: &W, said: &mut Said, shift: &Shared, pass: &Pass) {
-    match shift.after(rt, said.alloc, pass, 0, 9) {
+    match &shift.after(rt, said.alloc, pass, 0, 9) {
         Ok(made) => {
             said.number("deltas", made.len());
             said.answer();
         }
-        Err(fault) => said.refuse(matches!(&fault, CallFault::Memory)),
+        Err(fault) => said.refuse(matches!(fault, CallFault::Memory)),
     }
 }
 

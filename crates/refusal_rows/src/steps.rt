@@ -148,8 +148,8 @@ impl<R: Replica> Steps<R> {
     /// Takes a plan: its operations, and what is in no set of operations.
     fn take(&mut self, said: &mut Said, plan: Plan) {
         let Plan { ops, local, .. } = plan;
-        match Delta::from_ops(said.alloc, ops.into_vec()) {
-            Ok(delta) => take(said, &mut self.replica, &delta),
+        match &Delta::from_ops(said.alloc, ops.into_vec()) {
+            Ok(delta) => take(said, &mut self.replica, delta),
             Err(_) => said.stop(Stop::Memory),
         }
         let changed = change(&mut self.dialogs, local);
@@ -320,7 +320,7 @@ fn show_plan(said: &mut Said, plan: Plan) {
     for send in plan.sends.as_slice() {
         said.octets(send.bytes.as_slice());
     }
-    match Delta::from_ops(said.alloc, plan.ops.into_vec()) {
+    match &Delta::from_ops(said.alloc, plan.ops.into_vec()) {
         Ok(delta) => delta.show(said),
         Err(_) => said.stop(Stop::Memory),
     }

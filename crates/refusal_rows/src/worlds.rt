@@ -52,12 +52,12 @@ impl Calls for Worlds {
 /// Runs what a script says.
 fn run_once<R: Replica>(said: &mut Said, script: &Script) {
     let (configs, events) = (script.configs.as_slice(), script.events.as_slice());
-    match run::<R>(said.alloc, configs, events) {
+    match &run::<R>(said.alloc, configs, events) {
         Ok(world) => {
-            show_world(said, &world);
+            show_world(said, world);
             said.answer();
         }
-        Err(fault) => said.refuse(fault == WorldFault::Memory),
+        Err(fault) => said.refuse(*fault == WorldFault::Memory),
     }
 }
 

@@ -195,7 +195,7 @@ pub(crate) fn print_over(page: &mut Page, over: &Over) {
 
 /// The clients that a gateway knows.
 fn print_clients(page: &mut Page, node: &Gateway) {
-    match node.clients(page.alloc()) {
+    match &node.clients(page.alloc()) {
         Ok(clients) => {
             for client in clients.as_slice() {
                 page.octets(" ", client.bytes());
