@@ -571,13 +571,13 @@ def threads(program: str, folder: str) -> str:
 
 
 def behind_a_radio(program: str, folder: str) -> tuple:
-    """A network beyond this one, what starts a program there, and who keeps it. What comes from there comes at 512 kbit/s."""
+    """A network beyond this one, what starts a program there, and who keeps it. What comes from there comes at 128 kbit/s."""
     keeper = subprocess.Popen(["unshare", "-n", "sleep", "300"])
     time.sleep(0.5)
     there = f"nsenter -t {keeper.pid} -n"
     for words in (f"ip link add here type veth peer name there netns {keeper.pid}", "ip addr add 10.9.9.2/24 dev here", "ip link set here up",
                   f"{there} ip link set lo up", f"{there} ip addr add 10.9.9.1/24 dev there", f"{there} ip link set there up",
-                  f"{there} tc qdisc add dev there root tbf rate 512kbit burst 4kb limit 2mb"):
+                  f"{there} tc qdisc add dev there root tbf rate 128kbit burst 4kb limit 2mb"):
         subprocess.run(words.split(), check=True)
     start = os.path.join(folder, "start")
     with open(start, "w", encoding="ascii") as text:
@@ -599,9 +599,9 @@ def slow(program: str, folder: str) -> str:
     sys.modules["gateway"].HOST, Client.host = "10.9.9.1", "10.9.9.2"
     keeper, start = behind_a_radio(program, folder)
     try:
-        with Gateway(start, folder, 1, ports, steps="1300", workers="2") as gateway:
+        with Gateway(start, folder, 1, ports, steps="1010", workers="2") as gateway:
             gateway.start()
-            crowd = [Client(b"c-%d" % one, gateway) for one in range(540)]
+            crowd = [Client(b"c-%d" % one, gateway) for one in range(480)]
             for client in crowd:
                 client.connect()
                 client.ask(subscribe(b"sl", 1, 0x02), b"\x08\x13")
@@ -617,7 +617,7 @@ def slow(program: str, folder: str) -> str:
     finally:
         keeper.kill()
         keeper.wait()
-    said = f"a shift of which some 200 calls were left was over {took:.2f} seconds after a message of 100 octets was published to 540 clients at 512 kbit/s"
+    said = f"a shift of which some 40 calls were left was over {took:.2f} seconds after a message of 100 octets was published to 480 clients at 128 kbit/s"
     expect(took < 0.3, said)
     return said
 

@@ -9,7 +9,7 @@ use crate::file::{FileFault, SlotFile};
 use jr_disk::Short;
 
 /// What is known of the file of a slot.
-#[derive(Clone, Copy, Debug, PartialEq, Eq)]
+#[derive(Clone, Copy, PartialEq, Eq)]
 pub(crate) enum Trust {
     /// No sync of it has failed.
     Sound,
@@ -21,7 +21,7 @@ pub(crate) enum Trust {
 }
 
 /// What became of a file that was to be cut for good.
-#[derive(Clone, Copy, Debug, PartialEq, Eq)]
+#[derive(Clone, Copy, PartialEq, Eq)]
 pub(crate) enum Shortened {
     /// It is as it was.
     Kept,

@@ -1,6 +1,7 @@
 //! The names of the two files, and how they are opened.
 
 use std::alloc::Global;
+use std::fmt;
 use std::fs::{File, Files, TryLockError};
 use std::io::{self, ErrorKind};
 use std::os::fd::AsRawFd;
@@ -18,18 +19,29 @@ const OWNER_ALONE: u32 = 0o600;
 #[derive(Clone, Copy, Debug, PartialEq, Eq, Error)]
 pub enum FileDiskFault {
     /// A file cannot be opened or made.
-    #[error("the files of the journal cannot be opened: {0}")]
     Files(ErrorKind),
     /// Another program has one of them open as its journal.
-    #[error("another program has the journal open")]
     InUse,
     /// One of the two files is not there any more. What it held may be newer than what is left, so
     /// a gateway that went on without it would forget what it answered for.
-    #[error("one of the two files of the journal is not there any more")]
     Lost,
     /// Memory ran out.
-    #[error("out of memory")]
     Memory,
+}
+
+impl fmt::Display for FileDiskFault {
+    /// Says why the disk cannot be opened.
+    fn fmt<W: fmt::Write>(&self, f: &mut fmt::Formatter<W>) -> fmt::Result {
+        let words = match self {
+            FileDiskFault::Files(kind) => {
+                return write!(f, "the files of the journal cannot be opened: {kind}");
+            }
+            FileDiskFault::InUse => "another program has the journal open",
+            FileDiskFault::Lost => "one of the two files of the journal is not there any more",
+            FileDiskFault::Memory => "out of memory",
+        };
+        f.write_str(words)
+    }
 }
 
 /// The file of a slot, where it is there.

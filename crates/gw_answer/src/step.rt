@@ -6,7 +6,7 @@ use rep_ops::{ClientId, Delta};
 use sn_local::Addr;
 
 /// A call of a node, with its arguments. Moments are in seconds.
-#[derive(Debug, Drop)]
+#[derive(Drop)]
 pub enum Step {
     /// A datagram comes from an address at a moment.
     Frame {

@@ -18,6 +18,7 @@ use jr_disk::Disk;
 use octets::NoMemory;
 use rep_model::Replica;
 use std::alloc::Global;
+use std::fmt;
 use std::sync::{Arc, Wait};
 use thiserror::Error;
 
@@ -26,24 +27,32 @@ use thiserror::Error;
 pub enum End {
     /// The link is lost: its other end closed it, a read or a write failed, or what came is no
     /// message.
-    #[error("the link is lost")]
     Lost,
     /// The shift has had all its calls.
-    #[error("the shift has had all its calls")]
     Full,
     /// Memory ran out, also where the gateway said so.
-    #[error("out of memory")]
     Memory,
     /// The pass has seen more calls than the shift has.
-    #[error("a pass has seen more calls than the shift has")]
     Behind,
     /// The gateway is halted, since a write of its journal has failed, and refused to be opened
     /// anew.
-    #[error("the gateway is halted, and refused to be opened anew")]
     Halted,
     /// The gateway was halted, and was opened anew.
-    #[error("the gateway was halted, and was opened anew")]
     Reopened,
+}
+
+impl fmt::Display for End {
+    /// Says why the link ends.
+    fn fmt<W: fmt::Write>(&self, f: &mut fmt::Formatter<W>) -> fmt::Result {
+        f.write_str(match self {
+            End::Lost => "the link is lost",
+            End::Full => "the shift has had all its calls",
+            End::Memory => "out of memory",
+            End::Behind => "a pass has seen more calls than the shift has",
+            End::Halted => "the gateway is halted, and refused to be opened anew",
+            End::Reopened => "the gateway was halted, and was opened anew",
+        })
+    }
 }
 
 impl From<NoMemory> for End {

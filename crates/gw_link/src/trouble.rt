@@ -9,7 +9,7 @@ use gw_shift::gw_node::NodeFault;
 
 /// What an operator should hear of: nothing else tells that gateways differ for good, or that one
 /// has no link.
-#[derive(Clone, Copy, Debug, PartialEq, Eq)]
+#[derive(Clone, Copy, PartialEq, Eq)]
 pub enum Trouble {
     /// The other end of a link has the number of this gateway.
     SameNumber,
@@ -26,7 +26,7 @@ pub enum Trouble {
 }
 
 /// What is to be told of a trouble.
-#[derive(Clone, Copy, Debug, PartialEq, Eq)]
+#[derive(Clone, Copy, PartialEq, Eq)]
 pub struct Report {
     /// What it is.
     pub trouble: Trouble,

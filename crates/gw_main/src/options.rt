@@ -5,7 +5,7 @@ use sn_local::Addr;
 use sn_topic::Predefined;
 
 /// What a daemon is told when it starts.
-#[derive(Debug, Drop)]
+#[derive(Drop)]
 pub struct Settings {
     /// The gateway's number: 1 to 255.
     pub gateway: u8,

@@ -14,7 +14,7 @@ use rep_model::Replica;
 use std::alloc::Global;
 
 /// What became of a gateway that was tended.
-#[derive(Clone, Copy, Debug, PartialEq, Eq)]
+#[derive(Clone, Copy, PartialEq, Eq)]
 pub enum Tended {
     /// It goes on as it was. Its journal was written anew, unless its generation is the last.
     Kept,

@@ -7,26 +7,35 @@ ghost use Rattle.gw_net.specs.declared.fault.LinkOutFault.TheVariants.{Memory as
 
 use octets::NoMemory;
 use std::alloc::{AllocError, AllocFailed};
+use std::fmt;
 use thiserror::Error;
 
 /// Why what came over a link is no message, or is not read.
 #[derive(Clone, Copy, Debug, PartialEq, Eq, Error)]
 pub enum LinkFault {
     /// Fault 1: the body of a message is longer than 8,388,608 octets.
-    #[error("a message of the link is longer than 8388608 octets")]
     TooLong,
     /// Fault 2: there is no such kind of message.
-    #[error("a message of the link is of no known kind")]
     Kind,
     /// Fault 3: the body is none of its kind.
-    #[error("the body of a message of the link is none of its kind")]
     Body,
     /// Fault 4: memory ran out. Nothing was taken.
-    #[error("out of memory")]
     Memory,
     /// Fault 5: an earlier piece had a fault.
-    #[error("the link has failed before")]
     Failed,
+}
+
+impl fmt::Display for LinkFault {
+    /// Says why the link cannot go on.
+    fn fmt<W: fmt::Write>(&self, f: &mut fmt::Formatter<W>) -> fmt::Result {
+        f.write_str(match self {
+            LinkFault::TooLong => "a message of the link is longer than 8388608 octets",
+            LinkFault::Kind => "a message of the link is of no known kind",
+            LinkFault::Body => "the body of a message of the link is none of its kind",
+            LinkFault::Memory => "out of memory",
+            LinkFault::Failed => "the link has failed before",
+        })
+    }
 }
 
 impl LinkFault {

@@ -5,7 +5,7 @@ use rep_ops::Delta;
 
 /// What gateways say to one another over a link. A message is spelled as one octet of kind, four
 /// octets with the length of its body, and the body.
-#[derive(Debug, Drop)]
+#[derive(Drop)]
 pub enum LinkMessage {
     /// Kind 1: the number of the gateway at this end. Its body is one octet.
     Hello(u8),

@@ -11,7 +11,7 @@ use std::alloc::Global;
 use std::marker::Model;
 
 /// What a piece gave.
-#[derive(Debug, Drop)]
+#[derive(Drop)]
 pub struct Fed {
     /// The messages that are whole now, in their order.
     pub messages: Vec<LinkMessage>,
@@ -21,7 +21,7 @@ pub struct Fed {
 
 /// The end of a link at which octets come in, in pieces. Contracts see the octets that wait for the
 /// rest of their message, and whether the link has failed.
-#[derive(Debug, Drop)]
+#[derive(Drop)]
 pub struct LinkIn {
     waiting: Option<Vec<u8>>,
     failed: bool,

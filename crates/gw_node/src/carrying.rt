@@ -150,8 +150,15 @@ pub(crate) fn note<R: Replica, D: Disk + Drop>(
     let tidy = node.tidy;
     node.idle = None;
     node.tidy = false;
-    node.dialogs.prepare(local.as_slice())?;
-    let answer = Shares::new(alloc, Out::of_sends(alloc, sends))?;
+    let Ok(()) = node.dialogs.prepare(local.as_slice()) else {
+        drop(sends);
+        drop(local);
+        return Err(NoMemory);
+    };
+    let Ok(answer) = Shares::new(alloc, Out::of_sends(alloc, sends)) else {
+        drop(local);
+        return Err(NoMemory);
+    };
     node.tidy = note_changes(
         node.config.gateway,
         &node.replica,

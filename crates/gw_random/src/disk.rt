@@ -93,14 +93,27 @@ fn follow_failure<R: Replica>(
     let Some(failure) = seat.drive.failure else {
         return Ok(Some(What::Disk));
     };
-    let refused = match event {
-        Event::Compact { .. } => None,
-        Event::Take { delta, .. } => copy_of(alloc, delta_at(played, *delta))?,
-        _ => made_without::<R>(alloc, field, events, at, failure.first)?,
-    };
+    let refused = refused_by::<R>(alloc, field, events, played, at, event, failure.first)?;
     let is_right = matches!(event, Event::Compact { .. }) || has_operations(refused.as_ref());
     seat.drive.fail(refused);
     Ok(differs_unless(is_right, What::Disk))
+}
+
+/// The delta that is refused where the write of an event fails; none where that was a compaction.
+fn refused_by<R: Replica>(
+    alloc: Global,
+    field: &Field,
+    events: &[Event],
+    played: &Played,
+    at: usize,
+    event: &Event,
+    first: usize,
+) -> Result<Option<Delta>, NoMemory> {
+    match event {
+        Event::Compact { .. } => Ok(None),
+        Event::Take { delta, .. } => copy_of(alloc, delta_at(played, *delta)),
+        _ => made_without::<R>(alloc, field, events, at, first),
+    }
 }
 
 /// Whether there is a delta with operations.
@@ -135,10 +148,25 @@ fn made_without<R: Replica>(
         return Ok(None);
     };
     let calm = calm(alloc, events, at, last.gateway(), first)?;
-    let Some(played) = field.play::<R>(alloc, calm.as_slice())? else {
-        return Ok(None);
-    };
-    last_made(alloc, &played)
+    let made = made_last::<R>(alloc, field, calm.as_slice());
+    drop(calm);
+    made
+}
+
+/// What the last of these events makes.
+fn made_last<R: Replica>(
+    alloc: Global,
+    field: &Field,
+    events: &[Event],
+) -> Result<Option<Delta>, NoMemory> {
+    match field.play::<R>(alloc, events)? {
+        Some(played) => {
+            let made = last_made(alloc, &played);
+            drop(played);
+            made
+        }
+        None => Ok(None),
+    }
 }
 
 /// The events up to this index that are played again, where no failure was arranged for the

@@ -1,6 +1,6 @@
 //! At the end gateways exchange what they have.
 
-use super::copying::append_copies;
+use super::copying::{append, append_copies};
 use super::field::{Field, Played, added};
 use gw_world::Event;
 use octets::NoMemory;
@@ -42,18 +42,27 @@ fn answered<R: Replica>(
     let Some(played) = field.play::<R>(alloc, events)? else {
         return Ok(None);
     };
-    Ok(Some(takes(alloc, events, &played, from)?))
+    let takes = takes(alloc, events, &played, from);
+    drop(played);
+    Ok(Some(takes?))
 }
 
 /// Each gateway is opened again. Where failures were arranged for it, none is left.
 fn append_restarts(all: &mut Vec<Event>, gateways: u8, events: &[Event]) -> Result<(), NoMemory> {
-    let keep = u64::MAX;
     for gateway in 1..=gateways {
-        all.push(Event::Restart { gateway, keep })?;
-        if events.iter().any(|event| is_failure(event, gateway)) {
-            all.push(Event::Compact { gateway })?;
-            all.push(Event::Restart { gateway, keep })?;
-        }
+        let fails = events.iter().any(|event| is_failure(event, gateway));
+        append_restart(all, gateway, fails)?;
+    }
+    Ok(())
+}
+
+/// A gateway is opened again; twice where failures were arranged for it.
+fn append_restart(all: &mut Vec<Event>, gateway: u8, fails: bool) -> Result<(), NoMemory> {
+    let keep = u64::MAX;
+    append(all, Event::Restart { gateway, keep })?;
+    if fails {
+        append(all, Event::Compact { gateway })?;
+        append(all, Event::Restart { gateway, keep })?;
     }
     Ok(())
 }
@@ -89,15 +98,25 @@ fn takes(
     let mut listed = 0u64;
     let both = events.iter().zip(played.answers.as_slice());
     for (index, (event, answer)) in both.enumerate() {
-        for _ in 0..added(answer) {
-            listed = listed.saturating_add(1);
-            if index >= from {
-                takes.push(Event::Take {
-                    gateway: event.gateway(),
-                    delta: listed,
-                })?;
-            }
+        let count = added(answer);
+        if index >= from {
+            append_takes(&mut takes, event.gateway(), listed, count)?;
         }
+        listed = listed.saturating_add(count);
     }
     Ok(takes)
+}
+
+/// A gateway takes so many deltas of the list after these.
+fn append_takes(
+    takes: &mut Vec<Event>,
+    gateway: u8,
+    listed: u64,
+    count: u64,
+) -> Result<(), NoMemory> {
+    for index in 1..=count {
+        let delta = listed.saturating_add(index);
+        takes.push(Event::Take { gateway, delta })?;
+    }
+    Ok(())
 }

@@ -117,12 +117,19 @@ fn any_frame(alloc: Global, draw: &mut Draw, client: u8) -> Result<Frame, NoMemo
         8..=13 => publish(alloc, draw),
         14 => unconnected(alloc, draw),
         15 => will_update(alloc, draw),
-        16 => Ok(Frame::Disconnect { duration: None }),
         17 => ping(alloc, draw, client),
-        18 => Ok(odd(draw)),
-        _ => Ok(Frame::Disconnect {
+        other => Ok(plain_frame(draw, other)),
+    }
+}
+
+/// A frame without octets of its own, by the number that was drawn.
+fn plain_frame(draw: &mut Draw, drawn: u8) -> Frame {
+    match drawn {
+        16 => Frame::Disconnect { duration: None },
+        18 => odd(draw),
+        _ => Frame::Disconnect {
             duration: Some(silence(draw)),
-        }),
+        },
     }
 }
 
@@ -151,11 +158,12 @@ fn register(alloc: Global, draw: &mut Draw) -> Result<Frame, NoMemory> {
 /// name.
 fn topic_asked(alloc: Global, draw: &mut Draw) -> Result<(Flags, Octets), NoMemory> {
     let bits = service(draw);
-    match draw.octet_below(6) {
-        0 => Ok((Flags { bits: bits | 1 }, id_octets(alloc)?)),
-        1 => Ok((Flags { bits: bits | 2 }, Octets::from_slice(alloc, b"xy")?)),
-        _ => Ok((Flags { bits }, Octets::from_slice(alloc, filter(draw))?)),
-    }
+    let (kind, topic) = match draw.octet_below(6) {
+        0 => (1, id_octets(alloc)),
+        1 => (2, Octets::from_slice(alloc, b"xy")),
+        _ => (0, Octets::from_slice(alloc, filter(draw))),
+    };
+    Ok((Flags { bits: bits | kind }, topic?))
 }
 
 /// The predefined topic id as octets.
@@ -296,24 +304,31 @@ pub(crate) fn reply(
         Frame::WillMsgReq => Ok(Some(Frame::WillMsg {
             message: message(alloc, draw)?,
         })),
+        other => Ok(acknowledgement(draw, other)),
+    }
+}
+
+/// What a client acknowledges a frame by, if it does.
+fn acknowledgement(draw: &mut Draw, sent: &Frame) -> Option<Frame> {
+    match sent {
         Frame::Register {
             topic_id,
             msg_id,
             ..
-        } => Ok(Some(Frame::RegAck {
+        } => Some(Frame::RegAck {
             topic_id: *topic_id,
             msg_id: *msg_id,
             code: code(draw),
-        })),
+        }),
         Frame::Publish {
             flags,
             topic,
             msg_id,
             ..
-        } => Ok(received(draw, *flags, *topic, *msg_id)),
-        Frame::PubRec { msg_id } => Ok(Some(Frame::PubRel { msg_id: *msg_id })),
-        Frame::PubRel { msg_id } => Ok(Some(Frame::PubComp { msg_id: *msg_id })),
-        _ => Ok(None),
+        } => received(draw, *flags, *topic, *msg_id),
+        Frame::PubRec { msg_id } => Some(Frame::PubRel { msg_id: *msg_id }),
+        Frame::PubRel { msg_id } => Some(Frame::PubComp { msg_id: *msg_id }),
+        _ => None,
     }
 }
 

@@ -9,7 +9,7 @@ use gw_world::{Answer, Event, NodeFault, Out};
 use octets::{NoMemory, Octets};
 use rep_model::Replica;
 use sn_frame::{Frame, decode};
-use sn_local::Addr;
+use sn_local::{Addr, Send};
 use std::alloc::Global;
 
 /// How many rounds a script has. Between two of them it is played, so that the next can answer.
@@ -132,7 +132,9 @@ impl Invention {
         let Some(played) = field.play::<R>(alloc, events)? else {
             return Ok(false);
         };
-        self.learn_all(alloc, events, played.answers.as_slice(), seen)?;
+        let learned = self.learn_all(alloc, events, played.answers.as_slice(), seen);
+        drop(played);
+        learned?;
         Ok(true)
     }
 
@@ -202,11 +204,21 @@ impl Invention {
     /// Each client connects.
     fn arrivals(&mut self, alloc: Global, events: &mut Vec<Event>) -> Result<(), NoMemory> {
         for client in 0..self.homes.len() {
-            let client = u8::try_from(client).unwrap_or(0);
-            let gateway = self.home(client, false);
-            append(events, self.speaks(alloc, client, gateway, Kind::Connect)?)?;
+            self.arrives(alloc, events, u8::try_from(client).unwrap_or(0))?;
         }
         Ok(())
+    }
+
+    /// A client connects.
+    fn arrives(
+        &mut self,
+        alloc: Global,
+        events: &mut Vec<Event>,
+        client: u8,
+    ) -> Result<(), NoMemory> {
+        let gateway = self.home(client, false);
+        let event = self.speaks(alloc, client, gateway, Kind::Connect)?;
+        append(events, event)
     }
 
     /// A client sends a frame of this kind to a gateway.
@@ -218,7 +230,9 @@ impl Invention {
         kind: Kind,
     ) -> Result<Event, NoMemory> {
         let frame = frame_of(alloc, &mut self.draw, client, kind)?;
-        self.frame(alloc, client, gateway, &frame)
+        let event = self.frame(alloc, client, gateway, &frame);
+        drop(frame);
+        event
     }
 
     /// A client sends something of itself.
@@ -237,9 +251,15 @@ impl Invention {
     /// A round of events.
     fn round(&mut self, alloc: Global, events: &mut Vec<Event>) -> Result<(), NoMemory> {
         for _ in 0..self.draw.octet_below(LEAST).saturating_add(LEAST) {
-            append(events, self.next(alloc)?)?;
+            self.goes_on(alloc, events)?;
         }
         Ok(())
+    }
+
+    /// One more event.
+    fn goes_on(&mut self, alloc: Global, events: &mut Vec<Event>) -> Result<(), NoMemory> {
+        let event = self.next(alloc)?;
+        append(events, event)
     }
 
     /// Some time goes by.
@@ -295,17 +315,29 @@ impl Invention {
         self.wait();
         let gateway = self.gateway();
         match self.draw.octet_below(32) {
-            0..=8 => match self.replies.pop() {
-                Some(event) => Ok(event),
-                None => self.sends(alloc),
-            },
+            0..=8 => self.answers(alloc),
             9..=16 => self.sends(alloc),
             17..=25 => self.takes(alloc, gateway),
-            26 => Ok(self.asks(gateway)),
-            27 => Ok(Event::Compact { gateway }),
-            28 => Ok(self.restarts(gateway)),
-            29 => Ok(self.failed_write(gateway)),
-            _ => Ok(self.ticks(gateway)),
+            seldom => Ok(self.seldom(gateway, seldom)),
+        }
+    }
+
+    /// A client sends what it has to answer, or else something of itself.
+    fn answers(&mut self, alloc: Global) -> Result<Event, NoMemory> {
+        match self.replies.pop() {
+            Some(event) => Ok(event),
+            None => self.sends(alloc),
+        }
+    }
+
+    /// An event that is seldom, by the number that was drawn.
+    fn seldom(&mut self, gateway: u8, drawn: u8) -> Event {
+        match drawn {
+            26 => self.asks(gateway),
+            27 => Event::Compact { gateway },
+            28 => self.restarts(gateway),
+            29 => self.failed_write(gateway),
+            _ => self.ticks(gateway),
         }
     }
 
@@ -375,10 +407,7 @@ impl Invention {
     /// What an answer tells the inventor: which deltas there are, and what clients were sent.
     fn learn(&mut self, alloc: Global, event: &Event, answer: &Answer) -> Result<(), NoMemory> {
         let gateway = event.gateway();
-        let holder = event.peer().unwrap_or(gateway);
-        for _ in 0..added(answer) {
-            self.listed.add(holder)?;
-        }
+        self.list(event.peer().unwrap_or(gateway), added(answer))?;
         match answer {
             Answer::Node(Ok(out)) => self.hear(alloc, gateway, out),
             Answer::Node(Err(fault)) => {
@@ -389,17 +418,31 @@ impl Invention {
         }
     }
 
+    /// So many deltas more, which this gateway has.
+    fn list(&mut self, holder: u8, count: u64) -> Result<(), NoMemory> {
+        for _ in 0..count {
+            self.listed.add(holder)?;
+        }
+        Ok(())
+    }
+
     /// Clients make up their minds what to answer to what they were sent.
     fn hear(&mut self, alloc: Global, gateway: u8, out: &Out) -> Result<(), NoMemory> {
         if self.replies.len() > IN_MIND {
             self.replies.clear();
         }
         for send in out.sends.as_slice() {
-            if let Some(bytes) = self.reply_to(alloc, send.bytes.as_slice())? {
-                self.keep_in_mind(gateway, send.to, bytes)?;
-            }
+            self.hear_one(alloc, gateway, send)?;
         }
         Ok(())
+    }
+
+    /// A client makes up its mind what to answer to a datagram.
+    fn hear_one(&mut self, alloc: Global, gateway: u8, send: &Send) -> Result<(), NoMemory> {
+        match self.reply_to(alloc, send.bytes.as_slice())? {
+            Some(bytes) => self.keep_in_mind(gateway, send.to, bytes),
+            None => Ok(()),
+        }
     }
 
     /// A client has this to answer.
@@ -418,6 +461,8 @@ impl Invention {
     /// What a client answers to this, if it answers.
     fn reply_to(&mut self, alloc: Global, bytes: &[u8]) -> Result<Option<Octets>, NoMemory> {
         let sent = decoded(alloc, bytes)?;
-        reply_octets(alloc, &mut self.draw, &sent)
+        let reply = reply_octets(alloc, &mut self.draw, &sent);
+        drop(sent);
+        reply
     }
 }

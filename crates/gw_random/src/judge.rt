@@ -6,8 +6,9 @@ use super::seat::{Seat, are_same, has_vanished};
 use gw_world::{Answer, Event, Out};
 use octets::{NoMemory, Sequence};
 use rep_model::{ClientView, Replica};
-use rep_ops::{ClientId, Delta};
+use rep_ops::{ClientId, Delta, Retained};
 use rep_same::same_deltas;
+use sn_topic::TopicName;
 use std::alloc::Global;
 
 /// What differs.
@@ -80,17 +81,9 @@ pub(crate) fn judged<R: Replica>(
     played: &Played,
 ) -> Result<Option<Difference>, NoMemory> {
     let mut seats = Seats::empty(alloc, field.gateways)?;
-    if let Some(difference) = seats.follow_all::<R>(alloc, field, events, played)? {
-        return Ok(Some(difference));
-    }
-    let Some(what) = seats.settled(alloc, played)? else {
-        return Ok(None);
-    };
-    Ok(Some(Difference {
-        at: events.len(),
-        gateway: field.gateways,
-        what,
-    }))
+    let found = seats.judge::<R>(alloc, field, events, played);
+    drop(seats);
+    found
 }
 
 /// The delta of this number; the first has number 1.
@@ -115,6 +108,23 @@ impl Seats {
             seats.push(Seat::empty(alloc)?)?;
         }
         Ok(Seats { seats, listed: 0 })
+    }
+
+    /// Where a run differs, while it goes on or at its end.
+    fn judge<R: Replica>(
+        &mut self,
+        alloc: Global,
+        field: &Field,
+        events: &[Event],
+        played: &Played,
+    ) -> Result<Option<Difference>, NoMemory> {
+        if let Some(difference) = self.follow_all::<R>(alloc, field, events, played)? {
+            return Ok(Some(difference));
+        }
+        let at = events.len();
+        let gateway = field.gateways;
+        let settled = self.settled(alloc, played)?;
+        Ok(settled.map(|what| Difference { at, gateway, what }))
     }
 
     /// Goes on by all events, up to the first after which something differs.
@@ -157,10 +167,7 @@ impl Seats {
                 follow_fault::<R>(alloc, field, events, played, seat, at, event, fault)
             }
             Answer::Views(views, topics) => {
-                if !seat.retains(topics.as_slice()) {
-                    return Ok(Some(What::Retained));
-                }
-                follow_views(alloc, seat, played, at, views.as_slice())
+                follow_shown(alloc, seat, played, at, views.as_slice(), topics.as_slice())
             }
             Answer::Records(told) => follow_restart(alloc, seat, event, *told),
             Answer::Nothing => Ok(arranged(seat, at, event)),
@@ -248,10 +255,20 @@ fn follow_out(
     if !may_go_on(seat, event) {
         return Ok(Some(What::Halted));
     }
-    let Some(number) = seat.latest else {
-        return is_written(alloc, seat, event, None);
-    };
-    let Some(delta) = delta_at(played, number) else {
+    match seat.latest {
+        Some(number) => follow_delta(alloc, seat, event, delta_at(played, number)),
+        None => is_written(alloc, seat, event, None),
+    }
+}
+
+/// A gateway made or took this delta.
+fn follow_delta(
+    alloc: Global,
+    seat: &mut Seat,
+    event: &Event,
+    delta: Option<&Delta>,
+) -> Result<Option<What>, NoMemory> {
+    let Some(delta) = delta else {
         return Ok(Some(What::Stopped));
     };
     if seat.take(alloc, delta)? {
@@ -283,6 +300,22 @@ fn vanished(seat: &Seat, played: &Played, views: &[(ClientId, ClientView)]) -> b
     match seat.latest {
         Some(number) => has_vanished(before.as_slice(), views, delta_at(played, number)),
         None => has_vanished(before.as_slice(), views, seat.joined.as_ref()),
+    }
+}
+
+/// A gateway is shown, with what it retains of topics.
+fn follow_shown(
+    alloc: Global,
+    seat: &mut Seat,
+    played: &Played,
+    at: usize,
+    views: &[(ClientId, ClientView)],
+    topics: &[(TopicName, Retained)],
+) -> Result<Option<What>, NoMemory> {
+    if seat.retains(topics) {
+        follow_views(alloc, seat, played, at, views)
+    } else {
+        Ok(Some(What::Retained))
     }
 }
 

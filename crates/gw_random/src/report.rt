@@ -16,7 +16,7 @@ use rep_model::Replica;
 use std::alloc::{AllocError, Global};
 
 /// A script that shows something else than the definitions say.
-#[derive(Debug, Drop)]
+#[derive(Drop)]
 pub struct Found {
     /// The script, as lines that the simulator reads.
     pub script: String,
@@ -25,7 +25,7 @@ pub struct Found {
 }
 
 /// What came of the scripts of a seed.
-#[derive(Debug, Drop)]
+#[derive(Drop)]
 pub struct Report {
     /// How many events the scripts had.
     pub events: u64,

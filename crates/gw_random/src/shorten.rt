@@ -196,22 +196,30 @@ fn leave_out<R: Replica>(
     first: u64,
     count: u64,
 ) -> Result<bool, NoMemory> {
-    let mut fewer = without(alloc, short.events.as_slice(), index, first, count)?;
-    let verdict = examined::<R>(alloc, field, fewer.as_slice())?;
+    let fewer = without(alloc, short.events.as_slice(), index, first, count)?;
+    match examined::<R>(alloc, field, fewer.as_slice()) {
+        Ok(verdict) => Ok(replace(short, fewer, verdict)),
+        Err(fault) => Err(fault),
+    }
+}
+
+/// Takes these events in place of a script, if they differ in the same way. Whether they do.
+fn replace(short: &mut Short, fewer: Vec<Event>, verdict: Verdict) -> bool {
     let Verdict::Differs { events, difference } = verdict else {
-        return Ok(false);
+        return false;
     };
     if difference.what != short.difference.what {
-        return Ok(false);
+        return false;
     }
-    fewer.truncate(difference.at.saturating_add(1));
+    let mut kept = fewer;
+    kept.truncate(difference.at.saturating_add(1));
     let shorter = Short {
-        events: fewer,
+        events: kept,
         all: events,
         difference,
     };
     drop(mem::replace(short, shorter));
-    Ok(true)
+    true
 }
 
 /// The events without one, which follows so many deltas and added so many. These are taken no more,

@@ -38,18 +38,42 @@ fn event_line(alloc: Global, text: &mut String, event: &Event) -> Result<(), All
             bytes,
             now,
         } => frame_line(alloc, text, *gateway, from.port, *now, bytes.as_slice()),
-        Event::Tick { gateway, now } => writeln!(text, "tick {gateway} {now}"),
-        Event::Take { gateway, delta } => writeln!(text, "take {gateway} {delta}"),
-        Event::Answer { gateway, peer } => writeln!(text, "answer {gateway} {peer}"),
+        Event::Tick { gateway, now } => numbered_line(text, "tick", *gateway, *now),
+        Event::Take { gateway, delta } => numbered_line(text, "take", *gateway, *delta),
+        other => further_line(text, other),
+    }
+}
+
+/// The line of an event that is no datagram, no moment and no delta.
+fn further_line(text: &mut String, event: &Event) -> Result<(), AllocError> {
+    match event {
         Event::WriteFails {
             gateway,
             bytes,
             sync,
         } => fail_line(text, *gateway, *bytes, *sync),
-        Event::Compact { gateway } => writeln!(text, "compact {gateway}"),
         Event::Restart { gateway, keep } => restart_line(text, *gateway, *keep),
-        Event::Show { gateway } => writeln!(text, "show {gateway}"),
+        Event::Answer { gateway, peer } => {
+            numbered_line(text, "answer", *gateway, u64::from(*peer))
+        }
+        Event::Compact { gateway } => plain_line(text, "compact", *gateway),
+        _ => plain_line(text, "show", event.gateway()),
     }
+}
+
+/// A line of a word, a gateway and a number.
+fn numbered_line(
+    text: &mut String,
+    word: &str,
+    gateway: u8,
+    number: u64,
+) -> Result<(), AllocError> {
+    writeln!(text, "{word} {gateway} {number}")
+}
+
+/// A line of a word and a gateway.
+fn plain_line(text: &mut String, word: &str, gateway: u8) -> Result<(), AllocError> {
+    writeln!(text, "{word} {gateway}")
 }
 
 /// The line of a datagram.
@@ -77,15 +101,17 @@ fn digits_line(alloc: Global, text: &mut String, bytes: &[u8]) -> Result<(), All
 /// The line of a write that is to fail.
 fn fail_line(text: &mut String, gateway: u8, bytes: u64, sync: bool) -> Result<(), AllocError> {
     if sync {
-        return writeln!(text, "fail {gateway} sync");
+        writeln!(text, "fail {gateway} sync")
+    } else {
+        numbered_line(text, "fail", gateway, bytes)
     }
-    writeln!(text, "fail {gateway} {bytes}")
 }
 
 /// The line of a gateway that is opened again.
 fn restart_line(text: &mut String, gateway: u8, keep: u64) -> Result<(), AllocError> {
     if keep == u64::MAX {
-        return writeln!(text, "restart {gateway} all");
+        writeln!(text, "restart {gateway} all")
+    } else {
+        numbered_line(text, "restart", gateway, keep)
     }
-    writeln!(text, "restart {gateway} {keep}")
 }

@@ -16,7 +16,7 @@ use sn_topic::{TopicFault, TopicName};
 use std::alloc::{AllocError, Global};
 
 /// What a line says.
-#[derive(Debug, Drop, PartialEq, Eq)]
+#[derive(Drop, PartialEq, Eq)]
 pub enum Command {
     /// There is a gateway of this number.
     Gateway {
@@ -33,7 +33,7 @@ pub enum Command {
 }
 
 /// The first word of a line.
-#[derive(Clone, Copy, Debug, PartialEq, Eq)]
+#[derive(Clone, Copy, PartialEq, Eq)]
 pub enum Word {
     /// A gateway of the field.
     Gateway,

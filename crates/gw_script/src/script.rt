@@ -14,7 +14,7 @@ use sn_topic::{Predefined, TopicFault, TopicName};
 use std::alloc::Global;
 
 /// What a script says: which gateways there are, and then what happens.
-#[derive(Debug, Drop)]
+#[derive(Drop)]
 pub struct Script {
     /// The gateways, in the order of their lines.
     pub configs: Sequence<Config>,

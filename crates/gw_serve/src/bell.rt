@@ -56,7 +56,7 @@ pub struct Bell {
 }
 
 /// What was heard at one moment.
-#[derive(Clone, Copy, Debug)]
+#[derive(Clone, Copy)]
 pub struct Heard {
     /// How often it had rung.
     pub count: u64,

@@ -22,7 +22,7 @@ pub fn has_room(put: u64, taken: u64) -> bool
 }
 
 /// A numbered datagram.
-#[derive(Debug, Drop)]
+#[derive(Drop)]
 pub struct Datagram {
     /// Its number. The datagrams that were put into the queue are numbered from 1.
     pub number: u64,

@@ -35,7 +35,7 @@ pub enum Cause {
 }
 
 /// Why a worker ended early.
-#[derive(Clone, Copy, Debug, PartialEq, Eq)]
+#[derive(Clone, Copy, PartialEq, Eq)]
 pub enum Trouble {
     /// Memory ran out.
     Memory,
@@ -44,7 +44,7 @@ pub enum Trouble {
 }
 
 /// A datagram's number, and that of the call that it became.
-#[derive(Clone, Copy, Debug, PartialEq, Eq)]
+#[derive(Clone, Copy, PartialEq, Eq)]
 pub struct Taken {
     /// The number of the datagram.
     pub datagram: u64,
@@ -105,7 +105,7 @@ pub struct Shared<'a, T: Wait, R: Replica, D: Disk, P: Post, G: Gate> {
 }
 
 /// What became of a datagram.
-#[derive(Clone, Copy, Debug)]
+#[derive(Clone, Copy)]
 pub enum Handled {
     /// It became the call of this number.
     Stepped(u64),

@@ -22,7 +22,7 @@ use crate::rows::play_rows;
 use crate::stop::Stop;
 use crate::words::{Asked, Options, read_words};
 use gw_play::{Counted, Held, play, play_with};
-use gw_random::{Report, random_run};
+use gw_random::{Found, Report, random_run};
 use rep_model::Replica;
 use rep_plain::Plain;
 use std::alloc::Global;
@@ -107,21 +107,30 @@ fn invent_with<R: Replica, O: Write, E: Write>(
 /// Prints a report: one line where nothing differs, else the script, and on the other writer what
 /// differs.
 fn tell<O: Write, E: Write>(report: &Report, options: Options, out: &mut O, err: &mut E) -> u8 {
+    match &report.found {
+        None => tell_same(report, options, out),
+        Some(found) => {
+            tell_found(found, options, out, err);
+            1
+        }
+    }
+}
+
+/// Prints that nothing differs.
+fn tell_same<O: Write>(report: &Report, options: Options, out: &mut O) -> u8 {
     let Options { seed, gateways, .. } = options;
-    let Report {
-        events,
-        scripts,
-        found,
-    } = report;
-    let Some(found) = found else {
-        let line = writeln!(
-            out,
-            "seed {seed}, events {events}, gateways {gateways}, scripts {scripts}: no difference"
-        );
-        return if line.is_ok() { 0 } else { 1 };
-    };
+    let (events, scripts) = (report.events, report.scripts);
+    let line = writeln!(
+        out,
+        "seed {seed}, events {events}, gateways {gateways}, scripts {scripts}: no difference"
+    );
+    if line.is_ok() { 0 } else { 1 }
+}
+
+/// Prints a script, and on the other writer what differs.
+fn tell_found<O: Write, E: Write>(found: &Found, options: Options, out: &mut O, err: &mut E) {
+    let Options { seed, gateways, .. } = options;
     let _ = out.write_all(found.script.as_bytes());
     let told = found.told.as_str();
     let _ = writeln!(err, "seed {seed}, gateways {gateways}, {told}");
-    1
 }

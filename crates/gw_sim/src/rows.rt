@@ -13,11 +13,11 @@
 use crate::stop::Stop;
 use crate::words::Options;
 use gw_play::{Counted, Held, Source, play_with, read_all};
-use gw_random::{Report, random_run};
+use gw_random::{Found, Report, random_run};
 use rep_model::Replica;
 use rep_plain::Plain;
 use std::alloc::Global;
-use std::io::Write;
+use std::io::{self, Write};
 
 /// What stands in front of a name.
 const MARK: &str = "== ";
@@ -63,16 +63,21 @@ fn play_all(alloc: Global, text: &str) -> Result<Vec<u8>, Stop> {
         return Err(Stop::Name);
     };
     let mut printed = Vec::new(alloc);
+    play_each(alloc, scripts, &mut printed)?;
+    Ok(printed)
+}
+
+/// Plays these scripts.
+fn play_each(alloc: Global, scripts: &str, printed: &mut Vec<u8>) -> Result<(), Stop> {
     let mut rest = scripts;
-    for _ in 0..text.len() {
+    for _ in 0..scripts.len() {
         let Some((first, behind)) = rest.split_once(NEXT) else {
             break;
         };
-        play_row(alloc, first, &mut printed)?;
+        play_row(alloc, first, printed)?;
         rest = behind;
     }
-    play_row(alloc, rest, &mut printed)?;
-    Ok(printed)
+    play_row(alloc, rest, printed)
 }
 
 /// Plays one script, in front of which its name stands in a line.
@@ -92,12 +97,20 @@ fn play_row(alloc: Global, row: &str, printed: &mut Vec<u8>) -> Result<(), Stop>
 fn play_on_both(alloc: Global, script: &str, printed: &mut Vec<u8>) -> Result<(), Stop> {
     let folded = played::<Held>(alloc, script)?;
     let plain = played::<Plain>(alloc, script)?;
-    printed.write_all(folded.as_slice())?;
-    if folded.as_slice() != plain.as_slice() {
-        writeln!(printed, "the plain replica prints otherwise:")?;
-        printed.write_all(plain.as_slice())?;
+    let done = print_both(folded.as_slice(), plain.as_slice(), printed);
+    drop(folded);
+    drop(plain);
+    Ok(done?)
+}
+
+/// Prints what the folded replica prints, and what the plain one does where that is something else.
+fn print_both(folded: &[u8], plain: &[u8], printed: &mut Vec<u8>) -> io::Result<()> {
+    printed.write_all(folded)?;
+    if folded == plain {
+        return Ok(());
     }
-    Ok(())
+    writeln!(printed, "the plain replica prints otherwise:")?;
+    printed.write_all(plain)
 }
 
 /// What a script prints on a replica, and a line with the exit status.
@@ -120,20 +133,31 @@ fn play_random(alloc: Global, words: &str, printed: &mut Vec<u8>) -> Result<(), 
 /// Prints a report: one line where nothing differs, else the script, and what differs.
 fn print_report(report: &Report, printed: &mut Vec<u8>) -> Result<(), Stop> {
     let (events, scripts) = (report.events, report.scripts);
-    match &report.found {
-        None => writeln!(printed, "events {events}, scripts {scripts}: no difference")?,
-        Some(found) => {
-            printed.write_all(found.script.as_bytes())?;
-            writeln!(printed, "{}", found.told.as_str())?;
-        }
-    }
-    Ok(())
+    let done = match &report.found {
+        None => writeln!(printed, "events {events}, scripts {scripts}: no difference"),
+        Some(found) => print_found(found, printed),
+    };
+    Ok(done?)
+}
+
+/// Prints a script, and what differs.
+fn print_found(found: &Found, printed: &mut Vec<u8>) -> io::Result<()> {
+    printed.write_all(found.script.as_bytes())?;
+    let told = found.told.as_str();
+    writeln!(printed, "{told}")
 }
 
 /// The seed, the number of events and that of gateways.
 fn numbers(alloc: Global, words: &str) -> Result<Options, Stop> {
     let words: Vec<&str> = words.trim_end().split(' ').collect(alloc)?;
-    let [seed, events, gateways] = words.as_slice() else {
+    let options = options_of(words.as_slice());
+    drop(words);
+    options
+}
+
+/// What these words say.
+fn options_of(words: &[&str]) -> Result<Options, Stop> {
+    let [seed, events, gateways] = words else {
         return Err(Stop::Random);
     };
     Ok(Options {

@@ -3,33 +3,40 @@
 use gw_play::ReadFault;
 use gw_random::RandomFault;
 use std::alloc::AllocError;
-use std::io;
-use thiserror::Error;
+use std::{fmt, io};
 
 /// Why nothing is played.
-#[derive(Clone, Copy, Debug, Error)]
+#[derive(Clone, Copy)]
 pub(crate) enum Stop {
     /// The words of the command line do not parse, `--help` among them.
-    #[error("arguments")]
     Words,
     /// The text cannot be read.
-    #[error("{0}")]
     Read(ReadFault),
     /// The text is not UTF-8.
-    #[error("the text is not UTF-8")]
     Text,
     /// The text does not begin with a name, or ends within one.
-    #[error("a script stands behind a line == NAME")]
     Name,
     /// A script begins as one that stands for others, and does not go on so.
-    #[error("random SEED EVENTS GATEWAYS")]
     Random,
     /// Scripts from a seed are not played.
-    #[error("{0}")]
     Seed(RandomFault),
     /// Memory ran out.
-    #[error("out of memory")]
     Memory,
+}
+
+impl fmt::Display for Stop {
+    fn fmt<W: fmt::Write>(&self, f: &mut fmt::Formatter<W>) -> fmt::Result {
+        let words = match self {
+            Stop::Words => "arguments",
+            Stop::Read(fault) => return write!(f, "{fault}"),
+            Stop::Text => "the text is not UTF-8",
+            Stop::Name => "a script stands behind a line == NAME",
+            Stop::Random => "random SEED EVENTS GATEWAYS",
+            Stop::Seed(fault) => return write!(f, "{fault}"),
+            Stop::Memory => "out of memory",
+        };
+        f.write_str(words)
+    }
 }
 
 impl From<ReadFault> for Stop {

@@ -67,6 +67,11 @@ fn add_options<'a>(alloc: Global, options: &mut Vec<Arg<'a>>) -> Result<(), Allo
     add(options, plain(alloc))?;
     add(options, rows(alloc))?;
     add(options, seed(alloc))?;
+    add_bounds(alloc, options)
+}
+
+/// Adds how much there is to be of scripts from a seed.
+fn add_bounds<'a>(alloc: Global, options: &mut Vec<Arg<'a>>) -> Result<(), AllocError> {
     add(options, events(alloc)?)?;
     add(options, gateways(alloc)?)
 }

@@ -11,7 +11,7 @@ use std::time::Clock;
 pub const LONGEST_BREATH: u64 = 2_000;
 
 /// What a look at the machine's clock found, in milliseconds.
-#[derive(Clone, Copy, Debug, PartialEq, Eq)]
+#[derive(Clone, Copy, PartialEq, Eq)]
 pub struct Look {
     /// What that clock says.
     pub at: u64,

@@ -9,7 +9,7 @@ use thiserror::Error;
 pub type Tally = Failures;
 
 /// A datagram that came.
-#[derive(Clone, Copy, Debug, PartialEq, Eq)]
+#[derive(Clone, Copy, PartialEq, Eq)]
 pub struct Arrival {
     /// Its sender.
     pub from: Addr,
@@ -81,7 +81,7 @@ pub trait Gate {
 }
 
 /// A gate that lets everything pass.
-#[derive(Clone, Copy, Debug, PartialEq, Eq)]
+#[derive(Clone, Copy, PartialEq, Eq)]
 pub struct OpenGate;
 
 impl Gate for OpenGate {

@@ -9,7 +9,7 @@ use sn_topic::TopicName;
 use std::sync::Arc;
 
 /// What can happen in a field. Gateways go by their numbers.
-#[derive(Debug, Drop, PartialEq, Eq)]
+#[derive(Drop, PartialEq, Eq)]
 pub enum Event {
     /// A datagram comes to a gateway, at a moment in seconds.
     Frame {
@@ -91,7 +91,7 @@ impl Event {
 }
 
 /// The answer to an event.
-#[derive(Debug, Drop)]
+#[derive(Drop)]
 pub enum Answer {
     /// A gateway's answer to a frame, a tick, a delta or a compaction; a peer's answer to a digest,
     /// or why there is no digest.

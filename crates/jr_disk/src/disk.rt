@@ -25,7 +25,7 @@ pub struct Short {
 }
 
 /// A failure that is arranged.
-#[derive(Clone, Copy, Debug, PartialEq, Eq)]
+#[derive(Clone, Copy, PartialEq, Eq)]
 pub enum Plan {
     /// The next append fails after so many bytes, or after all where there are fewer.
     Stop { after: usize },

@@ -1,7 +1,7 @@
 //! Compacting: what a journal must keep is written into its other slot, and the journal goes on
 //! there.
 
-ghost use Rattle.std.specs.Prelude.{ℕ, ◌≡◌, ◌≤◌, ◌<◌, ◌⊎◌, ◌++◌, true, false, None, flat_map, take, IfOk, IfErr, OnOk, OnErr, IsErrOf};
+ghost use Rattle.std.specs.Prelude.{ℕ, ◌≡◌, ◌≤◌, ◌<◌, ◌⊎◌, [], ◌∷◌, ◌++◌, true, false, None, flat_map, take, IfOk, IfErr, OnOk, OnErr, IsErrOf};
 ghost use Rattle.std.specs.List.{AllByRecursion};
 ghost use Rattle.jr_disk.specs.Disk.{at, replaced, appended};
 ghost use Rattle.jr_journal.specs.Records.{header, written, base_bytes};
@@ -50,11 +50,20 @@ pub(crate) fn base_of(
     ensures readable { OnOk result (AllByRecursion IsReadable base.now) }
 {
     let mut bytes = header_of(alloc, gateway, generation)?;
-    for delta in base {
-        append_record(&mut bytes, delta)?;
-    }
-    bytes.extend_from_slice(&[SEAL])?;
+    append_base(&mut bytes, base)?;
     Ok(bytes)
+}
+
+/// Appends a base as records, and the seal. On an error a part of them may stand there.
+fn append_base(out: &mut Vec<u8>, base: &[Delta]) -> Result<(), NoMemory>
+    ensures ok { OnOk result (out.new.items
+        ≡ out.old.items ++ (flat_map written base.now ++ 83 ∷ [])) }
+    ensures readable { OnOk result (AllByRecursion IsReadable base.now) }
+{
+    for delta in base {
+        append_record(out, delta)?;
+    }
+    Ok(out.extend_from_slice(&[SEAL])?)
 }
 
 /// Writes all of a slot anew: what was in it is cut away, and the bytes go out in one append and

@@ -7,28 +7,40 @@ ghost use Rattle.jr_journal.specs.declared.fault.JournalFault.TheVariants.{Memor
 use jr_disk::Slot;
 use octets::NoMemory;
 use std::alloc::{AllocError, AllocFailed};
+use std::fmt;
 use thiserror::Error;
 
 /// Why a journal refuses.
 #[derive(Clone, Copy, Debug, PartialEq, Eq, Error)]
 pub enum JournalFault {
     /// Fault 1: the disk failed.
-    #[error("the disk failed")]
     Disk,
     /// Fault 2: the slots are no journal of this gateway; of a compaction, that no further
     /// generation can be told.
-    #[error("the slots are no journal of this gateway")]
     Foreign,
     /// Fault 3: what stands at this place of a slot is no record and no seal that may stand there.
-    #[error("no record at byte {at} of slot {slot:?}")]
     BadRecord { slot: Slot, at: usize },
     /// Fault 4: memory ran out.
-    #[error("out of memory")]
     Memory,
     /// Fault 5: the journal is halted: a write has failed since it was opened, or a try to open it
     /// again.
-    #[error("the journal is halted")]
     Halted,
+}
+
+impl fmt::Display for JournalFault {
+    /// Says why the journal refuses.
+    fn fmt<W: fmt::Write>(&self, f: &mut fmt::Formatter<W>) -> fmt::Result {
+        let words = match self {
+            JournalFault::Disk => "the disk failed",
+            JournalFault::Foreign => "the slots are no journal of this gateway",
+            JournalFault::BadRecord { at, slot } => {
+                return write!(f, "no record at byte {at} of slot {slot:?}");
+            }
+            JournalFault::Memory => "out of memory",
+            JournalFault::Halted => "the journal is halted",
+        };
+        f.write_str(words)
+    }
 }
 
 impl JournalFault {

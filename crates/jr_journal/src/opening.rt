@@ -1,7 +1,7 @@
 //! Opening a journal: sync both slots, read both, and go on in the sealed one of the greater
 //! generation, of which a torn end is cut away; or begin a new journal.
 
-ghost use Rattle.std.specs.Prelude.{◌≡◌, ◌≢◌, ◌≤◌, ◌<◌, ◌⊎◌, ◌+◌, [], true, false, length, IfOk, IfErr, OnOk, OnErr, IsErrOf, IsTrue, None, Some, if◌then◌else◌};
+ghost use Rattle.std.specs.Prelude.{◌≡◌, ◌≢◌, ◌==◌, ◌≤◌, ◌<◌, nat_lt, ◌&&◌, ◌⊎◌, ◌+◌, [], true, false, length, IfOk, IfErr, OnOk, OnErr, IsErrOf, IsTrue, None, Some, if◌then◌else◌};
 ghost use Rattle.jr_disk.specs.Disk.{at, replaced, bytes_of, image, all_synced, cut_to};
 ghost use Rattle.jr_journal.specs.inner.Disk.{is_calm};
 ghost use Rattle.jr_journal.specs.Records.{new_journal, slot_content, records};
@@ -268,6 +268,27 @@ pub(crate) fn settle<D: Disk>(
     }
 }
 
+/// What is to be done with two slots of so many bytes, or why they are no journal.
+fn opening_in(
+    first: SlotContent,
+    size: usize,
+    second: SlotContent,
+    beside: usize,
+) -> Result<Opening, JournalFault>
+    ensures ok { IfOk result (λ opening. opening ≡ opening_of first size second beside) }
+    ensures none { OnOk result (slots_fault first second (beside == 0 && nat_lt size 14) ≡ None) }
+    ensures fault { IfErr result
+        (λ fault. slots_fault first second (beside == 0 && nat_lt size 14) ≡ Some fault) }
+{
+    if let Some(fault) = fault_in(&first, &second, beside == 0 && size < SEALED_HEADER) {
+        return Err(fault);
+    }
+    if is_first_read(&first, &second) {
+        return Ok(hold(Slot::First, first, size));
+    }
+    Ok(hold(Slot::Second, second, beside))
+}
+
 /// Reads both slots: what is to be done with them.
 pub(crate) fn read_slots<D: Disk>(
     alloc: Global,
@@ -288,13 +309,7 @@ pub(crate) fn read_slots<D: Disk>(
 {
     let (first, size) = see_slot(alloc, disk, gateway, Slot::First)?;
     let (second, beside) = see_slot(alloc, disk, gateway, Slot::Second)?;
-    if let Some(fault) = fault_in(&first, &second, beside == 0 && size < SEALED_HEADER) {
-        return Err(fault);
-    }
-    if is_first_read(&first, &second) {
-        return Ok(hold(Slot::First, first, size));
-    }
-    Ok(hold(Slot::Second, second, beside))
+    opening_in(first, size, second, beside)
 }
 
 /// The deltas of a journal, with the slot in which it goes on.

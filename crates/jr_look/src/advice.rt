@@ -6,7 +6,7 @@ use jr_journal::{JournalFault, Slot};
 use jr_read::Misfit;
 use rep_model::{Limit, TakeFault};
 use rep_ops::Subject;
-use std::alloc::{AllocError, Global};
+use std::alloc::AllocError;
 
 /// What a record is told as that is none, at whatever place.
 const NO_RECORD: JournalFault = JournalFault::BadRecord {
@@ -53,44 +53,50 @@ pub(crate) fn slot_number(slot: Slot) -> u8 {
 }
 
 /// What is wrong, in words.
-pub(crate) fn words(alloc: Global, fault: &Fault) -> Result<String, AllocError> {
+pub(crate) fn words(text: &mut String, fault: &Fault) -> Result<(), AllocError> {
     match fault {
-        Fault::Journal(JournalFault::Foreign) => String::from_str(
-            alloc,
+        Fault::Journal(JournalFault::Foreign) => text.push_str(
             "no journal of this gateway: another header, no seal, or two slots of one generation",
         ),
-        Fault::Journal(JournalFault::BadRecord { slot, at }) => {
-            let number = slot_number(*slot);
-            let at = *at;
-            format!(in alloc; "neither a record nor a seal at octet {at} of slot {number}")
-        }
-        Fault::Journal(fault) => format!(in alloc; "{fault}"),
-        Fault::Record(misfit) => misfit_words(alloc, misfit),
+        Fault::Journal(JournalFault::BadRecord { slot, at }) => bad_octets(text, *slot, *at),
+        Fault::Journal(fault) => write!(text, "{fault}"),
+        Fault::Record(misfit) => misfit_words(text, misfit),
     }
 }
 
+/// Where octets are bad.
+fn bad_octets(text: &mut String, slot: Slot, at: usize) -> Result<(), AllocError> {
+    let number = slot_number(slot);
+    write!(
+        text,
+        "neither a record nor a seal at octet {at} of slot {number}"
+    )
+}
+
 /// What is wrong with a record beside those before it.
-fn misfit_words(alloc: Global, misfit: &Misfit) -> Result<String, AllocError> {
+fn misfit_words(text: &mut String, misfit: &Misfit) -> Result<(), AllocError> {
     let before = misfit.before;
     match &misfit.fault {
-        TakeFault::Conflict {
-            of: Subject::Client(client),
-        } => {
-            let client = Name(client.bytes());
-            format!(in alloc; "record {before} contradicts one in front of it, of client {client}")
-        }
-        TakeFault::Conflict {
-            of: Subject::Topic(topic),
-        } => {
-            let topic = Name(topic.bytes());
-            format!(in alloc; "record {before} contradicts one in front of it, of topic {topic}")
-        }
+        TakeFault::Conflict { of } => contradiction(text, before, of),
         TakeFault::Full { limit } => {
             let limit = limit_words(*limit);
-            format!(in alloc; "with record {before} there are too many {limit}")
+            write!(text, "with record {before} there are too many {limit}")
         }
-        TakeFault::Memory => String::from_str(alloc, "out of memory"),
+        TakeFault::Memory => text.push_str("out of memory"),
     }
+}
+
+/// Of what a record contradicts one in front of it.
+fn contradiction(text: &mut String, before: usize, of: &Subject) -> Result<(), AllocError> {
+    let (kind, name) = match of {
+        Subject::Client(client) => ("client", client.bytes()),
+        Subject::Topic(topic) => ("topic", topic.bytes()),
+    };
+    let name = Name(name);
+    write!(
+        text,
+        "record {before} contradicts one in front of it, of {kind} {name}"
+    )
 }
 
 /// What there is too much of.

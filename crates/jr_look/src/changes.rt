@@ -2,7 +2,7 @@
 
 use crate::clients::{exchange, session, will};
 use crate::shown::{Body, Name};
-use rep_ops::{Op, Put, Retained};
+use rep_ops::{Op, Put, Retained, Stamp};
 use sn_session::{Message, Outbound, Presence, SessionOp, WillTopic};
 use sn_tables::QosLevel;
 use std::alloc::AllocError;
@@ -25,10 +25,7 @@ fn operation_of(text: &mut String, op: &Op) -> Result<(), AllocError> {
             change,
             ..
         } => {
-            let epoch = stamp.epoch;
-            let gateway = stamp.gateway;
-            let counter = *counter;
-            write!(text, "stamp {epoch}.{gateway} change {counter}: ")?;
+            stamped(text, stamp, *counter)?;
             session_change(text, change)
         }
         Op::Put { put, .. } => waiting(text, put),
@@ -37,15 +34,24 @@ fn operation_of(text: &mut String, op: &Op) -> Result<(), AllocError> {
             first,
             last,
             ..
-        } => {
-            let (origin, first, last) = (*origin, *first, *last);
-            writeln!(text, "has messages {first} to {last} of gateway {origin}")
-        }
+        } => acknowledged(text, *origin, *first, *last),
         Op::Retain { topic, retained } => {
             text.push_str("  ")?;
             retains(text, topic.bytes(), retained)
         }
     }
+}
+
+/// The stamp of a session's change, and which change it is.
+fn stamped(text: &mut String, stamp: &Stamp, counter: u8) -> Result<(), AllocError> {
+    let epoch = stamp.epoch;
+    let gateway = stamp.gateway;
+    write!(text, "stamp {epoch}.{gateway} change {counter}: ")
+}
+
+/// The rest of the line of an acknowledgement.
+fn acknowledged(text: &mut String, origin: u8, first: u64, last: u64) -> Result<(), AllocError> {
+    writeln!(text, "has messages {first} to {last} of gateway {origin}")
 }
 
 /// The line of what is retained of a topic.
@@ -57,31 +63,37 @@ pub(crate) fn retains(
     let topic = Name(topic);
     let clock = retained.clock;
     let gateway = retained.gateway;
-    let qos = retained.qos.number();
-    let body = Body(retained.body.as_slice());
-    writeln!(
+    write!(
         text,
-        "topic {topic} retained under clock {clock}.{gateway}: qos {qos}, {body}"
-    )
+        "topic {topic} retained under clock {clock}.{gateway}: "
+    )?;
+    arrives(text, retained.qos, retained.body.as_slice())?;
+    text.push_str("\n")
+}
+
+/// The quality of service of a message, and its body.
+fn arrives(text: &mut String, qos: QosLevel, body: &[u8]) -> Result<(), AllocError> {
+    let qos = qos.number();
+    let body = Body(body);
+    write!(text, "qos {qos}, {body}")
 }
 
 /// The rest of the line of a message that waits.
 pub(crate) fn waiting(text: &mut String, put: &Put) -> Result<(), AllocError> {
     let seq = put.seq;
     let origin = put.origin;
-    let qos = put.qos.number();
     let topic = Name(put.topic.bytes());
-    let body = Body(put.body.as_slice());
-    let later = later_words(put.retain);
-    writeln!(
+    write!(
         text,
-        "waits for message {seq} of gateway {origin}: {topic} qos {qos}, {body}{later}"
-    )
+        "waits for message {seq} of gateway {origin}: {topic} "
+    )?;
+    arrives(text, put.qos, put.body.as_slice())?;
+    text.push_str(later_words(put.retain))
 }
 
 /// What stands after the body of a message.
 fn later_words(retain: bool) -> &'static str {
-    if retain { ", retained" } else { "" }
+    if retain { ", retained\n" } else { "\n" }
 }
 
 /// The rest of the line of a session's change.
@@ -92,21 +104,35 @@ fn session_change(text: &mut String, change: &SessionOp) -> Result<(), AllocErro
             session(text, taken)
         }
         SessionOp::Presence { presence, duration } => presence_line(text, *presence, *duration),
-        SessionOp::Register { id, name, known } => { registered(text, *id, name.bytes(), *known) }
-        SessionOp::Subscribe { filter, qos } => subscribed(text, filter.bytes(), *qos),
-        SessionOp::Unsubscribe { filter } => unsubscribed(text, filter.bytes()),
         SessionOp::WillTopic(topic) => will_topic(text, topic),
         SessionOp::WillMsg(message) => will_message(text, message),
-        SessionOp::Received { id } => {
-            let id = *id;
-            writeln!(text, "message id {id} was received")
-        }
-        SessionOp::Released { id } => {
-            let id = *id;
-            writeln!(text, "message id {id} was released")
-        }
-        SessionOp::Outbound { exchange, next_id } => exchange_line(text, exchange, *next_id),
+        other => topics_change(text, other),
     }
+}
+
+/// The rest of the line of a change of a session's topic ids and subscriptions.
+fn topics_change(text: &mut String, change: &SessionOp) -> Result<(), AllocError> {
+    match change {
+        SessionOp::Register { id, name, known } => registered(text, *id, name.bytes(), *known),
+        SessionOp::Subscribe { filter, qos } => subscribed(text, filter.bytes(), *qos),
+        SessionOp::Unsubscribe { filter } => unsubscribed(text, filter.bytes()),
+        other => delivery_change(text, other),
+    }
+}
+
+/// The rest of the line of a change of what comes from a client and goes to it; nothing of another.
+fn delivery_change(text: &mut String, change: &SessionOp) -> Result<(), AllocError> {
+    match change {
+        SessionOp::Received { id } => message_id(text, *id, "received"),
+        SessionOp::Released { id } => message_id(text, *id, "released"),
+        SessionOp::Outbound { exchange, next_id } => exchange_line(text, exchange, *next_id),
+        _ => Ok(()),
+    }
+}
+
+/// What was done with a message id.
+fn message_id(text: &mut String, id: u16, done: &str) -> Result<(), AllocError> {
+    writeln!(text, "message id {id} was {done}")
 }
 
 /// Where the client is.

@@ -3,7 +3,7 @@
 use crate::changes::{presence_word, registered, retains, subscribed, waiting};
 use crate::shown::{Body, Name};
 use rep_model::{ClientView, MOST_RETAINED, Replica};
-use rep_ops::ClientId;
+use rep_ops::{ClientId, Put, Stamp};
 use rep_state::Folded;
 use sn_session::{Outbound, Phase, Session, Will};
 use sn_tables::QosLevel;
@@ -24,9 +24,7 @@ pub(crate) fn clients(
 /// The lines of these clients.
 fn each(text: &mut String, replica: &Folded, clients: &[ClientId]) -> Result<(), AllocError> {
     for client in clients {
-        if let Some(view) = replica.view_of(client) {
-            one(text, client, view)?;
-        }
+        one(text, replica, client)?;
     }
     Ok(())
 }
@@ -45,14 +43,27 @@ pub(crate) fn retained(text: &mut String, replica: &Folded) -> Result<(), AllocE
 }
 
 /// The lines of a client.
-fn one(text: &mut String, client: &ClientId, view: &ClientView) -> Result<(), AllocError> {
+fn one(text: &mut String, replica: &Folded, client: &ClientId) -> Result<(), AllocError> {
+    let Some(view) = replica.view_of(client) else {
+        return Ok(());
+    };
     begin(text, client)?;
     owned(text, view)?;
-    for put in view.pending.as_slice() {
-        text.push_str("  ")?;
-        waiting(text, put)?;
+    waits(text, view.pending.as_slice())
+}
+
+/// A line for each message that waits.
+fn waits(text: &mut String, puts: &[Put]) -> Result<(), AllocError> {
+    for put in puts {
+        one_waiting(text, put)?;
     }
     Ok(())
+}
+
+/// The line of a message that waits.
+fn one_waiting(text: &mut String, put: &Put) -> Result<(), AllocError> {
+    text.push_str("  ")?;
+    waiting(text, put)
 }
 
 /// The begin of a client's line.
@@ -66,21 +77,33 @@ fn owned(text: &mut String, view: &ClientView) -> Result<(), AllocError> {
     let Some(stamp) = &view.stamp else {
         return text.push_str("is owned by no gateway\n");
     };
-    let epoch = stamp.epoch;
-    let gateway = stamp.gateway;
-    let prefix = view.prefix;
-    write!(
-        text,
-        "is owned by gateway {gateway} since epoch {epoch}, changes {prefix}: "
-    )?;
+    owner(text, stamp, view.prefix)?;
     match &view.session {
         None => text.push_str("no session\n"),
         Some(seen) => session(text, seen),
     }
 }
 
+/// Which gateway owns a client, since when, and how many changes there are.
+fn owner(text: &mut String, stamp: &Stamp, prefix: u16) -> Result<(), AllocError> {
+    let epoch = stamp.epoch;
+    let gateway = stamp.gateway;
+    write!(
+        text,
+        "is owned by gateway {gateway} since epoch {epoch}, changes {prefix}: "
+    )
+}
+
 /// The rest of the line of a session, and the lines of its tables.
 pub(crate) fn session(text: &mut String, seen: &Session) -> Result<(), AllocError> {
+    standing(text, seen)?;
+    topics(text, seen)?;
+    subscriptions(text, seen)?;
+    course(text, seen)
+}
+
+/// The rest of the line of a session.
+fn standing(text: &mut String, seen: &Session) -> Result<(), AllocError> {
     let presence = presence_word(seen.presence);
     let kind = if seen.clean { "clean" } else { "kept" };
     let duration = seen.duration;
@@ -88,9 +111,11 @@ pub(crate) fn session(text: &mut String, seen: &Session) -> Result<(), AllocErro
     writeln!(
         text,
         "{presence}, {kind}, {duration} seconds, the next message id is {next}"
-    )?;
-    topics(text, seen)?;
-    subscriptions(text, seen)?;
+    )
+}
+
+/// The lines of a session's will, and of what goes on.
+fn course(text: &mut String, seen: &Session) -> Result<(), AllocError> {
     last_will(text, seen.will.as_ref())?;
     received(text, seen)?;
     last_exchange(text, seen.outbound)

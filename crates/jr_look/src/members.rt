@@ -3,31 +3,37 @@
 use crate::changes::presence_word;
 use crate::clients::phase_word;
 use crate::shown::Quoted;
-use rep_ops::{ClientId, Op, Put, Retained};
+use rep_ops::{ClientId, Op, Put, Retained, Stamp};
 use sn_session::{Message, Outbound, Presence, Session, SessionOp, Will, WillTopic};
-use sn_tables::QosLevel;
+use sn_tables::{QosLevel, Subscription, TopicEntry};
 use sn_topic::{Filter, TopicName};
 use std::alloc::AllocError;
 
 /// What stands between members: nothing in front of the first.
 pub(crate) fn comma(text: &mut String, index: usize) -> Result<(), AllocError> {
-    if index > 0 {
-        text.push_str(",")
-    } else {
-        Ok(())
-    }
+    text.push_str(if index > 0 { "," } else { "" })
+}
+
+/// The begin of an object in a list, after a comma but for the first.
+pub(crate) fn open(text: &mut String, index: usize) -> Result<(), AllocError> {
+    text.push_str(if index > 0 { ",{" } else { "{" })
 }
 
 /// An operation.
 pub(crate) fn operation(text: &mut String, op: &Op) -> Result<(), AllocError> {
-    if op.is_of_client() {
-        begin(text, op.client())?;
-        text.push_str(",")?;
-    } else {
-        text.push_str("{")?;
-    }
+    whose(text, op)?;
     members(text, op)?;
     text.push_str("}")
+}
+
+/// The begin of an operation, with its client, if it has one.
+fn whose(text: &mut String, op: &Op) -> Result<(), AllocError> {
+    if op.is_of_client() {
+        begin(text, op.client())?;
+        text.push_str(",")
+    } else {
+        text.push_str("{")
+    }
 }
 
 /// The begin of an object with a client as its first member.
@@ -45,13 +51,7 @@ fn members(text: &mut String, op: &Op) -> Result<(), AllocError> {
             change,
             ..
         } => {
-            let epoch = stamp.epoch;
-            let gateway = stamp.gateway;
-            let counter = *counter;
-            write!(
-                text,
-                "\"epoch\":{epoch},\"gateway\":{gateway},\"counter\":{counter},\"change\":"
-            )?;
+            stamped(text, stamp, *counter)?;
             session_change(text, change)
         }
         Op::Put { put, .. } => {
@@ -63,15 +63,27 @@ fn members(text: &mut String, op: &Op) -> Result<(), AllocError> {
             first,
             last,
             ..
-        } => {
-            let (origin, first, last) = (*origin, *first, *last);
-            write!(
-                text,
-                "\"change\":\"ack\",\"origin\":{origin},\"first\":{first},\"last\":{last}"
-            )
-        }
+        } => acknowledged(text, *origin, *first, *last),
         Op::Retain { topic, retained } => retains(text, topic, retained),
     }
+}
+
+/// The stamp of a session's change, and which change it is.
+fn stamped(text: &mut String, stamp: &Stamp, counter: u8) -> Result<(), AllocError> {
+    let epoch = stamp.epoch;
+    let gateway = stamp.gateway;
+    write!(
+        text,
+        "\"epoch\":{epoch},\"gateway\":{gateway},\"counter\":{counter},\"change\":"
+    )
+}
+
+/// The members of an acknowledgement.
+fn acknowledged(text: &mut String, origin: u8, first: u64, last: u64) -> Result<(), AllocError> {
+    write!(
+        text,
+        "\"change\":\"ack\",\"origin\":{origin},\"first\":{first},\"last\":{last}"
+    )
 }
 
 /// The members of an operation on a topic.
@@ -97,13 +109,19 @@ pub(crate) fn kept(text: &mut String, retained: &Retained) -> Result<(), AllocEr
 pub(crate) fn waiting(text: &mut String, put: &Put) -> Result<(), AllocError> {
     let seq = put.seq;
     let origin = put.origin;
+    write!(text, "\"origin\":{origin},\"seq\":{seq},")?;
+    published(text, put)
+}
+
+/// What was published, as members of a message that waits.
+fn published(text: &mut String, put: &Put) -> Result<(), AllocError> {
     let qos = put.qos.number();
     let topic = Quoted(put.topic.bytes());
     let body = Quoted(put.body.as_slice());
     let later = later_members(put.retain);
     write!(
         text,
-        "\"origin\":{origin},\"seq\":{seq},\"topic\":{topic},\"qos\":{qos},\"body\":{body}{later}"
+        "\"topic\":{topic},\"qos\":{qos},\"body\":{body}{later}"
     )
 }
 
@@ -120,6 +138,15 @@ fn session_change(text: &mut String, change: &SessionOp) -> Result<(), AllocErro
             session_of(text, taken)
         }
         SessionOp::Presence { presence, duration } => elsewhere(text, *presence, *duration),
+        SessionOp::WillTopic(topic) => will_topic(text, topic),
+        SessionOp::WillMsg(message) => will_message(text, message),
+        other => topics_change(text, other),
+    }
+}
+
+/// A change of a session's topic ids and subscriptions, and its members.
+fn topics_change(text: &mut String, change: &SessionOp) -> Result<(), AllocError> {
+    match change {
         SessionOp::Register { id, name, known } => {
             text.push_str("\"register\",")?;
             registered(text, *id, name, *known)
@@ -129,18 +156,23 @@ fn session_change(text: &mut String, change: &SessionOp) -> Result<(), AllocErro
             subscribed(text, filter, *qos)
         }
         SessionOp::Unsubscribe { filter } => unsubscribed(text, filter),
-        SessionOp::WillTopic(topic) => will_topic(text, topic),
-        SessionOp::WillMsg(message) => will_message(text, message),
-        SessionOp::Received { id } => {
-            let id = *id;
-            write!(text, "\"received\",\"id\":{id}")
-        }
-        SessionOp::Released { id } => {
-            let id = *id;
-            write!(text, "\"released\",\"id\":{id}")
-        }
-        SessionOp::Outbound { exchange, next_id } => outbound(text, exchange, *next_id),
+        other => delivery_change(text, other),
     }
+}
+
+/// A change of what comes from a client and goes to it, and its members; nothing of another.
+fn delivery_change(text: &mut String, change: &SessionOp) -> Result<(), AllocError> {
+    match change {
+        SessionOp::Received { id } => message_id(text, "received", *id),
+        SessionOp::Released { id } => message_id(text, "released", *id),
+        SessionOp::Outbound { exchange, next_id } => outbound(text, exchange, *next_id),
+        _ => Ok(()),
+    }
+}
+
+/// What was done with a message id.
+fn message_id(text: &mut String, done: &str, id: u16) -> Result<(), AllocError> {
+    write!(text, "\"{done}\",\"id\":{id}")
 }
 
 /// The client is elsewhere.
@@ -175,15 +207,22 @@ fn will_topic(text: &mut String, topic: &Option<WillTopic>) -> Result<(), AllocE
     match topic {
         None => text.push_str("\"will_topic\",\"topic\":null"),
         Some(told) => {
-            let topic = Quoted(told.topic.bytes());
-            let qos = told.qos.number();
-            let retain = told.retain;
-            write!(
-                text,
-                "\"will_topic\",\"topic\":{topic},\"qos\":{qos},\"retain\":{retain}"
-            )
+            text.push_str("\"will_topic\",")?;
+            under(text, &told.topic, told.qos, told.retain)
         }
     }
+}
+
+/// Under which topic a will is published, and how.
+fn under(
+    text: &mut String,
+    topic: &TopicName,
+    qos: QosLevel,
+    retain: bool,
+) -> Result<(), AllocError> {
+    let topic = Quoted(topic.bytes());
+    let qos = qos.number();
+    write!(text, "\"topic\":{topic},\"qos\":{qos},\"retain\":{retain}")
 }
 
 /// The will has another message.
@@ -216,70 +255,107 @@ fn exchange(text: &mut String, begun: &Option<Outbound>) -> Result<(), AllocErro
 
 /// A session.
 pub(crate) fn session_of(text: &mut String, seen: &Session) -> Result<(), AllocError> {
+    standing(text, seen)?;
+    tables(text, seen)?;
+    course(text, seen)
+}
+
+/// The begin of a session: where its client is.
+fn standing(text: &mut String, seen: &Session) -> Result<(), AllocError> {
     let presence = presence_word(seen.presence);
     let clean = seen.clean;
     let duration = seen.duration;
     let next = seen.next_id;
     write!(
         text,
-        "{{\"presence\":\"{presence}\",\"clean\":{clean},\"duration\":{duration}"
-    )?;
-    write!(text, ",\"next_id\":{next},\"topics\":[")?;
+        "{{\"presence\":\"{presence}\",\"clean\":{clean},\"duration\":{duration},\"next_id\":{next}"
+    )
+}
+
+/// The topic ids and subscriptions of a session.
+fn tables(text: &mut String, seen: &Session) -> Result<(), AllocError> {
+    text.push_str(",\"topics\":[")?;
     topics(text, seen)?;
     text.push_str("],\"subscriptions\":[")?;
-    subscriptions(text, seen)?;
+    subscriptions(text, seen)
+}
+
+/// The end of a session: its will, and what goes on.
+fn course(text: &mut String, seen: &Session) -> Result<(), AllocError> {
     text.push_str("],\"will\":")?;
     will(text, &seen.will)?;
     text.push_str(",\"received\":[")?;
     received(text, seen)?;
+    under_way(text, &seen.outbound)
+}
+
+/// The exchange of a session, and the session's end.
+fn under_way(text: &mut String, begun: &Option<Outbound>) -> Result<(), AllocError> {
     text.push_str("],\"exchange\":")?;
-    exchange(text, &seen.outbound)?;
+    exchange(text, begun)?;
     text.push_str("}")
 }
 
 /// The topic ids of a session.
 fn topics(text: &mut String, seen: &Session) -> Result<(), AllocError> {
     for (index, entry) in seen.topics.as_slice().iter().enumerate() {
-        comma(text, index)?;
-        text.push_str("{")?;
-        registered(text, entry.id, &entry.name, entry.known)?;
-        text.push_str("}")?;
+        one_topic(text, index, entry)?;
     }
     Ok(())
+}
+
+/// A topic id of a session.
+fn one_topic(text: &mut String, index: usize, entry: &TopicEntry) -> Result<(), AllocError> {
+    open(text, index)?;
+    registered(text, entry.id, &entry.name, entry.known)?;
+    text.push_str("}")
 }
 
 /// The subscriptions of a session.
 fn subscriptions(text: &mut String, seen: &Session) -> Result<(), AllocError> {
     for (index, entry) in seen.subscriptions.as_slice().iter().enumerate() {
-        comma(text, index)?;
-        text.push_str("{")?;
-        subscribed(text, &entry.filter, entry.qos)?;
-        text.push_str("}")?;
+        one_subscription(text, index, entry)?;
     }
     Ok(())
 }
 
+/// A subscription of a session.
+fn one_subscription(
+    text: &mut String,
+    index: usize,
+    entry: &Subscription,
+) -> Result<(), AllocError> {
+    open(text, index)?;
+    subscribed(text, &entry.filter, entry.qos)?;
+    text.push_str("}")
+}
+
 /// A will.
 fn will(text: &mut String, told: &Option<Will>) -> Result<(), AllocError> {
-    let Some(told) = told else {
-        return text.push_str("null");
-    };
-    let topic = Quoted(told.topic.bytes());
-    let qos = told.qos.number();
-    let retain = told.retain;
+    match told {
+        None => text.push_str("null"),
+        Some(told) => whole_will(text, told),
+    }
+}
+
+/// A will that there is.
+fn whole_will(text: &mut String, told: &Will) -> Result<(), AllocError> {
+    text.push_str("{")?;
+    under(text, &told.topic, told.qos, told.retain)?;
     let body = Quoted(told.message.as_slice());
-    write!(
-        text,
-        "{{\"topic\":{topic},\"qos\":{qos},\"retain\":{retain},\"message\":{body}}}"
-    )
+    write!(text, ",\"message\":{body}}}")
 }
 
 /// The message ids that were received.
 fn received(text: &mut String, seen: &Session) -> Result<(), AllocError> {
     for (index, id) in seen.received.as_slice().iter().enumerate() {
-        comma(text, index)?;
-        let id = *id;
-        write!(text, "{id}")?;
+        one_id(text, index, *id)?;
     }
     Ok(())
+}
+
+/// A message id in a list.
+fn one_id(text: &mut String, index: usize, id: u16) -> Result<(), AllocError> {
+    comma(text, index)?;
+    write!(text, "{id}")
 }

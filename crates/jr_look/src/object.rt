@@ -2,13 +2,14 @@
 
 use crate::advice::{advice, number, slot_number};
 use crate::looking::{Fault, Findings, Torn};
-use crate::members::{begin, comma, kept, operation, session_of, waiting};
+use crate::members::{begin, comma, kept, open, operation, session_of, waiting};
 use crate::shown::Quoted;
 use jr_journal::JournalFault;
 use jr_read::{Misfit, Place, Reading};
 use rep_model::{ClientView, MOST_RETAINED, Replica, TakeFault};
-use rep_ops::{ClientId, Delta, Put, Retained, Subject};
+use rep_ops::{ClientId, Delta, Op, Put, Retained, Subject};
 use rep_state::Folded;
+use sn_session::Session;
 use sn_topic::TopicName;
 use std::alloc::{AllocError, Global};
 
@@ -16,47 +17,70 @@ use std::alloc::{AllocError, Global};
 pub(crate) fn report(alloc: Global, text: &mut String, seen: &Findings) -> Result<(), AllocError> {
     head(text, seen)?;
     if let Some(reading) = &seen.reading {
-        if !seen.is_fresh {
-            read_slot(text, reading)?;
-        }
-        records(text, reading)?;
+        read_part(text, reading, seen.is_fresh)?;
     }
-    if let Some(torn) = &seen.torn {
-        torn_end(text, torn)?;
-    }
-    if let Some(fault) = &seen.fault {
-        refusal(text, fault)?;
-    }
+    end(text, seen)?;
     if let Some(replica) = &seen.replica {
-        clients(alloc, text, replica)?;
-        topics(text, replica)?;
+        outcome(alloc, text, replica)?;
     }
     text.push_str("}\n")
 }
 
+/// What was read.
+fn read_part(text: &mut String, reading: &Reading, is_fresh: bool) -> Result<(), AllocError> {
+    if !is_fresh {
+        read_slot(text, reading)?;
+    }
+    records(text, reading)
+}
+
+/// What the end cuts, and why an opening refuses.
+fn end(text: &mut String, seen: &Findings) -> Result<(), AllocError> {
+    if let Some(torn) = &seen.torn {
+        torn_end(text, torn)?;
+    }
+    match &seen.fault {
+        Some(fault) => refusal(text, fault),
+        None => Ok(()),
+    }
+}
+
+/// What the records come to.
+fn outcome(alloc: Global, text: &mut String, replica: &Folded) -> Result<(), AllocError> {
+    clients(alloc, text, replica)?;
+    topics(text, replica)
+}
+
 /// Whose journal it is, and how long its slots are.
 fn head(text: &mut String, seen: &Findings) -> Result<(), AllocError> {
-    match seen.gateway {
-        Some(gateway) => write!(text, "{{\"gateway\":{gateway}")?,
-        None => text.push_str("{\"gateway\":null")?,
-    }
-    match seen.told {
-        Some(told) => write!(text, ",\"header\":{told}")?,
-        None => text.push_str(",\"header\":null")?,
-    }
-    let first = seen.first;
-    let second = seen.second;
+    whose(text, seen)?;
+    sizes(text, seen.first, seen.second)?;
+    generations(text, seen.generations)?;
     let fresh = seen.is_fresh;
-    write!(text, ",\"slots\":[{first},{second}],\"generations\":[")?;
-    let [before, behind] = seen.generations;
-    number_or_null(text, before)?;
-    text.push_str(",")?;
-    number_or_null(text, behind)?;
     write!(text, "],\"fresh\":{fresh}")
 }
 
-/// A number, where there is one.
-fn number_or_null(text: &mut String, found: Option<u64>) -> Result<(), AllocError> {
+/// Which gateway would open it, and which one a header tells.
+fn whose(text: &mut String, seen: &Findings) -> Result<(), AllocError> {
+    number_or_null(text, "{\"gateway\":", seen.gateway.map(u64::from))?;
+    number_or_null(text, ",\"header\":", seen.told.map(u64::from))
+}
+
+/// The generations of the slots.
+fn generations(text: &mut String, found: [Option<u64>; 2]) -> Result<(), AllocError> {
+    let [before, behind] = found;
+    number_or_null(text, ",\"generations\":[", before)?;
+    number_or_null(text, ",", behind)
+}
+
+/// How long the slots are.
+fn sizes(text: &mut String, first: usize, second: usize) -> Result<(), AllocError> {
+    write!(text, ",\"slots\":[{first},{second}]")
+}
+
+/// A number, where there is one, after this.
+fn number_or_null(text: &mut String, front: &str, found: Option<u64>) -> Result<(), AllocError> {
+    text.push_str(front)?;
     match found {
         Some(number) => write!(text, "{number}"),
         None => text.push_str("null"),
@@ -78,21 +102,31 @@ fn records(text: &mut String, reading: &Reading) -> Result<(), AllocError> {
     let places = reading.places.as_slice();
     text.push_str(",\"records\":[")?;
     for (index, delta) in reading.records.as_slice().iter().enumerate() {
-        comma(text, index)?;
-        place(text, places.get(index))?;
-        operations(text, delta)?;
+        one_record(text, index, places.get(index), delta)?;
     }
     text.push_str("]")
+}
+
+/// A record.
+fn one_record(
+    text: &mut String,
+    index: usize,
+    found: Option<&Place>,
+    delta: &Delta,
+) -> Result<(), AllocError> {
+    open(text, index)?;
+    place(text, found)?;
+    operations(text, delta)
 }
 
 /// Where a record stands.
 fn place(text: &mut String, found: Option<&Place>) -> Result<(), AllocError> {
     match found {
-        None => text.push_str("{"),
+        None => Ok(()),
         Some(place) => {
             let at = place.at;
             let octets = place.octets;
-            write!(text, "{{\"at\":{at},\"octets\":{octets},")
+            write!(text, "\"at\":{at},\"octets\":{octets},")
         }
     }
 }
@@ -101,10 +135,15 @@ fn place(text: &mut String, found: Option<&Place>) -> Result<(), AllocError> {
 fn operations(text: &mut String, delta: &Delta) -> Result<(), AllocError> {
     text.push_str("\"operations\":[")?;
     for (index, op) in delta.ops().iter().enumerate() {
-        comma(text, index)?;
-        operation(text, op)?;
+        one_operation(text, index, op)?;
     }
     text.push_str("]}")
+}
+
+/// An operation in a list.
+fn one_operation(text: &mut String, index: usize, op: &Op) -> Result<(), AllocError> {
+    comma(text, index)?;
+    operation(text, op)
 }
 
 /// A record that the end cuts.
@@ -118,12 +157,17 @@ fn torn_end(text: &mut String, torn: &Torn) -> Result<(), AllocError> {
 fn refusal(text: &mut String, fault: &Fault) -> Result<(), AllocError> {
     let number = number(fault);
     write!(text, ",\"fault\":{{\"number\":\"J{number}\"")?;
-    match fault {
-        Fault::Journal(fault) => bad_place(text, *fault)?,
-        Fault::Record(misfit) => bad_record(text, misfit)?,
-    }
+    bad_part(text, fault)?;
     let advice = advice(fault);
     write!(text, ",\"advice\":\"{advice}\"}}")
+}
+
+/// What is bad.
+fn bad_part(text: &mut String, fault: &Fault) -> Result<(), AllocError> {
+    match fault {
+        Fault::Journal(fault) => bad_place(text, *fault),
+        Fault::Record(misfit) => bad_record(text, misfit),
+    }
 }
 
 /// Where the octets are bad.
@@ -142,20 +186,19 @@ fn bad_record(text: &mut String, misfit: &Misfit) -> Result<(), AllocError> {
     let before = misfit.before;
     write!(text, ",\"record\":{before}")?;
     match &misfit.fault {
-        TakeFault::Conflict {
-            of: Subject::Client(client),
-        } => {
-            let client = Quoted(client.bytes());
-            write!(text, ",\"client\":{client}")
-        }
-        TakeFault::Conflict {
-            of: Subject::Topic(topic),
-        } => {
-            let topic = Quoted(topic.bytes());
-            write!(text, ",\"topic\":{topic}")
-        }
-        _ => Ok(()),
+        TakeFault::Conflict { of } => contradicted(text, of),
+        TakeFault::Full { .. } | TakeFault::Memory => Ok(()),
     }
+}
+
+/// Of what two records contradict each other.
+fn contradicted(text: &mut String, of: &Subject) -> Result<(), AllocError> {
+    let (kind, name) = match of {
+        Subject::Client(client) => ("client", client.bytes()),
+        Subject::Topic(topic) => ("topic", topic.bytes()),
+    };
+    let name = Quoted(name);
+    write!(text, ",\"{kind}\":{name}")
 }
 
 /// What the records come to for each client.
@@ -170,23 +213,42 @@ fn clients(alloc: Global, text: &mut String, replica: &Folded) -> Result<(), All
 fn each(text: &mut String, replica: &Folded, clients: &[ClientId]) -> Result<(), AllocError> {
     text.push_str(",\"clients\":[")?;
     for (index, client) in clients.iter().enumerate() {
-        comma(text, index)?;
-        if let Some(view) = replica.view_of(client) {
-            one(text, client, view)?;
-        }
+        one(text, index, replica, client)?;
     }
     text.push_str("]")
 }
 
+/// What the records come to for a client.
+fn one(
+    text: &mut String,
+    index: usize,
+    replica: &Folded,
+    client: &ClientId,
+) -> Result<(), AllocError> {
+    comma(text, index)?;
+    match replica.view_of(client) {
+        Some(view) => one_view(text, client, view),
+        None => Ok(()),
+    }
+}
+
 /// A client.
-fn one(text: &mut String, client: &ClientId, view: &ClientView) -> Result<(), AllocError> {
+fn one_view(text: &mut String, client: &ClientId, view: &ClientView) -> Result<(), AllocError> {
     begin(text, client)?;
     owner(text, view)?;
-    if let Some(session) = &view.session {
-        text.push_str(",\"session\":")?;
-        session_of(text, session)?;
-    }
+    last_session(text, &view.session)?;
     waits(text, view.pending.as_slice())
+}
+
+/// The session of a client, if it has one.
+fn last_session(text: &mut String, found: &Option<Session>) -> Result<(), AllocError> {
+    match found {
+        None => Ok(()),
+        Some(session) => {
+            text.push_str(",\"session\":")?;
+            session_of(text, session)
+        }
+    }
 }
 
 /// Who owns a client, if a gateway does.
@@ -207,12 +269,16 @@ fn owner(text: &mut String, view: &ClientView) -> Result<(), AllocError> {
 fn waits(text: &mut String, puts: &[Put]) -> Result<(), AllocError> {
     text.push_str(",\"waits\":[")?;
     for (index, put) in puts.iter().enumerate() {
-        comma(text, index)?;
-        text.push_str("{")?;
-        waiting(text, put)?;
-        text.push_str("}")?;
+        one_waiting(text, index, put)?;
     }
     text.push_str("]}")
+}
+
+/// A message that waits, in a list.
+fn one_waiting(text: &mut String, index: usize, put: &Put) -> Result<(), AllocError> {
+    open(text, index)?;
+    waiting(text, put)?;
+    text.push_str("}")
 }
 
 /// What the records come to for each topic of which something was retained.
@@ -223,17 +289,22 @@ fn topics(text: &mut String, replica: &Folded) -> Result<(), AllocError> {
         let Some((behind, topic, retained)) = replica.topic_at(place) else {
             return text.push_str("]");
         };
-        comma(text, index)?;
-        one_topic(text, topic, retained)?;
+        one_topic(text, index, topic, retained)?;
         place = behind;
     }
     text.push_str("]")
 }
 
 /// A topic.
-fn one_topic(text: &mut String, topic: &TopicName, retained: &Retained) -> Result<(), AllocError> {
+fn one_topic(
+    text: &mut String,
+    index: usize,
+    topic: &TopicName,
+    retained: &Retained,
+) -> Result<(), AllocError> {
+    open(text, index)?;
     let topic = Quoted(topic.bytes());
-    write!(text, "{{\"topic\":{topic},")?;
+    write!(text, "\"topic\":{topic},")?;
     kept(text, retained)?;
     text.push_str("}")
 }

@@ -6,47 +6,80 @@ use crate::clients::{clients, retained};
 use crate::looking::{Fault, Findings, Torn};
 use jr_read::{Place, Reading};
 use rep_ops::Delta;
+use rep_state::Folded;
 use std::alloc::{AllocError, Global};
 
 /// The report in words.
 pub(crate) fn report(alloc: Global, text: &mut String, seen: &Findings) -> Result<(), AllocError> {
     head(text, seen)?;
     if let Some(reading) = &seen.reading {
-        if !seen.is_fresh {
-            read_slot(text, reading)?;
-        }
-        records(text, reading)?;
+        read_part(text, reading, seen.is_fresh)?;
     }
+    end(text, seen)?;
+    match &seen.replica {
+        Some(replica) => outcome(alloc, text, replica),
+        None => Ok(()),
+    }
+}
+
+/// What was read.
+fn read_part(text: &mut String, reading: &Reading, is_fresh: bool) -> Result<(), AllocError> {
+    if !is_fresh {
+        read_slot(text, reading)?;
+    }
+    records(text, reading)
+}
+
+/// What the end cuts, and why an opening refuses.
+fn end(text: &mut String, seen: &Findings) -> Result<(), AllocError> {
     if let Some(torn) = &seen.torn {
         torn_end(text, torn)?;
     }
-    if let Some(fault) = &seen.fault {
-        refusal(alloc, text, fault)?;
+    match &seen.fault {
+        Some(fault) => refusal(text, fault),
+        None => Ok(()),
     }
-    if let Some(replica) = &seen.replica {
-        clients(alloc, text, replica)?;
-        retained(text, replica)?;
-    }
-    Ok(())
+}
+
+/// What the records come to.
+fn outcome(alloc: Global, text: &mut String, replica: &Folded) -> Result<(), AllocError> {
+    clients(alloc, text, replica)?;
+    retained(text, replica)
 }
 
 /// Whose journal it is, and how long its slots are.
 fn head(text: &mut String, seen: &Findings) -> Result<(), AllocError> {
-    match seen.gateway {
-        Some(gateway) => writeln!(text, "gateway {gateway}")?,
-        None => text.push_str("no gateway\n")?,
+    whose(text, seen.gateway)?;
+    told(text, seen.told)?;
+    slots(text, seen)?;
+    if seen.is_fresh {
+        text.push_str("no journal yet: an opening begins one\n")
+    } else {
+        Ok(())
     }
-    match seen.told {
-        Some(told) => writeln!(text, "the header tells gateway {told}")?,
-        None => text.push_str("no header tells a gateway\n")?,
+}
+
+/// Which gateway would open it.
+fn whose(text: &mut String, gateway: Option<u8>) -> Result<(), AllocError> {
+    match gateway {
+        Some(gateway) => writeln!(text, "gateway {gateway}"),
+        None => text.push_str("no gateway\n"),
     }
+}
+
+/// Which gateway a header tells.
+fn told(text: &mut String, told: Option<u8>) -> Result<(), AllocError> {
+    match told {
+        Some(told) => writeln!(text, "the header tells gateway {told}"),
+        None => text.push_str("no header tells a gateway\n"),
+    }
+}
+
+/// Both slots.
+fn slots(text: &mut String, seen: &Findings) -> Result<(), AllocError> {
     let [before, behind] = seen.generations;
     one_slot(text, 0, seen.first, before)?;
-    one_slot(text, 1, seen.second, behind)?;
-    if seen.is_fresh {
-        text.push_str("no journal yet: an opening begins one\n")?;
-    }
-    Ok(())
+    one_slot(text, 1, seen.second, behind)
 }
 
 /// How long a slot is, and its generation.
@@ -56,12 +89,10 @@ fn one_slot(
     octets: usize,
     generation: Option<u64>,
 ) -> Result<(), AllocError> {
+    write!(text, "slot {slot}: octets {octets}, ")?;
     match generation {
-        Some(generation) => writeln!(
-            text,
-            "slot {slot}: octets {octets}, generation {generation}"
-        ),
-        None => writeln!(text, "slot {slot}: octets {octets}, no header"),
+        Some(generation) => writeln!(text, "generation {generation}"),
+        None => text.push_str("no header\n"),
     }
 }
 
@@ -89,14 +120,19 @@ fn one_record(
     delta: &Delta,
 ) -> Result<(), AllocError> {
     if let Some(place) = place {
-        let at = place.at;
-        let octets = place.octets;
-        writeln!(text, "record {before} at {at}, octets {octets}")?;
+        record_line(text, before, place)?;
     }
     for op in delta.ops() {
         operation(text, op)?;
     }
     Ok(())
+}
+
+/// The line of a record.
+fn record_line(text: &mut String, before: usize, place: &Place) -> Result<(), AllocError> {
+    let at = place.at;
+    let octets = place.octets;
+    writeln!(text, "record {before} at {at}, octets {octets}")
 }
 
 /// A record that the end cuts.
@@ -110,10 +146,10 @@ fn torn_end(text: &mut String, torn: &Torn) -> Result<(), AllocError> {
 }
 
 /// Why an opening refuses.
-fn refusal(alloc: Global, text: &mut String, fault: &Fault) -> Result<(), AllocError> {
+fn refusal(text: &mut String, fault: &Fault) -> Result<(), AllocError> {
     let number = number(fault);
-    let words = words(alloc, fault)?;
     let advice = advice(fault);
-    writeln!(text, "refused J{number}: {words}")?;
-    writeln!(text, "advice: {advice}")
+    write!(text, "refused J{number}: ")?;
+    words(text, fault)?;
+    writeln!(text, "\nadvice: {advice}")
 }

@@ -51,17 +51,22 @@ impl fmt::Display for Name<'_> {
 
 impl fmt::Display for Body<'_> {
     fn fmt<W: fmt::Write>(&self, f: &mut fmt::Formatter<W>) -> fmt::Result {
-        let octets = self.0;
-        let count = octets.len();
+        let count = self.0.len();
         if count == 0 {
             return f.write_str("no octets");
         }
-        if count <= SHOWN {
-            let digits = Digits(octets);
-            return write!(f, "octets {count}: {digits}");
-        }
-        let (front, _) = octets.split_at(SHOWN);
+        let (front, end) = front_of(self.0);
         let digits = Digits(front);
-        write!(f, "octets {count}: {digits}..")
+        write!(f, "octets {count}: {digits}{end}")
+    }
+}
+
+/// The octets that are shown of a message, and what stands for the others.
+fn front_of(octets: &[u8]) -> (&[u8], &'static str) {
+    if octets.len() <= SHOWN {
+        (octets, "")
+    } else {
+        let (front, _) = octets.split_at(SHOWN);
+        (front, "..")
     }
 }

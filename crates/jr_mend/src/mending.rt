@@ -16,7 +16,7 @@ use std::alloc::Global;
 const SEALED: usize = 14;
 
 /// What is to be cut from one of two slots.
-#[derive(Clone, Copy, Debug, PartialEq, Eq)]
+#[derive(Clone, Copy, PartialEq, Eq)]
 pub struct Cut {
     /// The slot.
     pub slot: Slot,

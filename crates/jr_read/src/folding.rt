@@ -10,7 +10,7 @@ use rep_ops::Delta;
 use std::alloc::Global;
 
 /// A record that was not taken.
-#[derive(Debug, Drop)]
+#[derive(Drop)]
 pub struct Misfit {
     /// How many records stand before it.
     pub before: usize,

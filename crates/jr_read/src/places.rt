@@ -11,7 +11,7 @@ use rep_ops::Delta;
 use std::alloc::{AllocError, Global};
 
 /// Where a record stands in its slot.
-#[derive(Clone, Copy, Debug, PartialEq, Eq)]
+#[derive(Clone, Copy, PartialEq, Eq)]
 pub struct Place {
     /// Its first octet.
     pub at: usize,

@@ -1,118 +1,101 @@
 //! Lines that ask the gateway what it retains, for its digest, and for its answer to a digest.
 
-use crate::calls::call;
-use crate::links::{print_known, said_digest};
-use crate::names::Names;
-use crate::printing::{print_delta, print_digest, print_refusal, print_retained};
-use crate::stop::{Stop, check_memory};
+use crate::calls::{call, retained};
+use crate::page::Page;
+use crate::printing::{
+    print_delta, print_digest, print_known, print_length, print_refusal, print_retained,
+};
+use crate::stop::{Stop, is_short};
+use crate::words::Words;
 use gw_node::{Answer, Node, Out, Step};
 use jr_journal::MemoryDisk;
-use octets::NoMemory;
-use rep_digest::Digest;
 use rep_model::Replica;
 use rep_ops::{Delta, Retained};
 use sn_topic::TopicName;
-use std::alloc::{AllocError, Global};
 
 /// `ask WHAT`: what the gateway says, and changes nothing.
-pub(crate) fn ask<R: Replica>(
-    alloc: Global,
-    text: &mut String,
-    names: &Names,
-    node: &mut Node<R, MemoryDisk>,
-    fields: &[&str],
-) -> Result<(), Stop> {
-    match fields {
-        ["retained"] => ask_retained(alloc, text, node),
-        ["digest"] => ask_step(alloc, text, node, Step::Digest),
-        ["answer", rest @ ..] => {
-            let digest = said_digest(alloc, names, rest)?;
-            ask_step(alloc, text, node, Step::Answer { digest })
+pub(crate) fn ask<R: Replica>(page: &mut Page, node: &mut Node<R, MemoryDisk>, words: &mut Words) {
+    match words.word() {
+        "retained" => ask_retained(page, node, words),
+        "digest" => ask_step(page, node, Step::Digest, words),
+        what => {
+            words.require(what == "answer");
+            ask_step(page, node, answer_step(words), words)
         }
-        _ => Err(Stop::Line),
     }
 }
 
-/// What the gateway retains. Of the call nothing is said here, so that who makes it carries no
-/// clause on.
-fn retained_by<R: Replica>(
-    alloc: Global,
-    node: &Node<R, MemoryDisk>,
-) -> Result<Vec<(TopicName, Retained)>, NoMemory> {
-    node.retained(alloc)
-}
-
-/// `ask retained`: what the gateway retains of each topic.
-fn ask_retained<R: Replica>(
-    alloc: Global,
-    text: &mut String,
-    node: &Node<R, MemoryDisk>,
-) -> Result<(), Stop> {
-    let all = retained_by(alloc, node)?;
-    Ok(print_all(text, all.as_slice())?)
+/// What the gateway retains of each topic.
+fn ask_retained<R: Replica>(page: &mut Page, node: &Node<R, MemoryDisk>, words: &mut Words) {
+    if words.end(page) {
+        match retained(page.alloc(), node) {
+            Ok(all) => {
+                print_all(page, all.as_slice());
+                drop(all);
+            }
+            Err(_) => page.stop(Stop::Memory),
+        }
+    }
 }
 
 /// What is retained of topics, after a line with their number.
-fn print_all(text: &mut String, all: &[(TopicName, Retained)]) -> Result<(), AllocError> {
-    let count = all.len();
-    writeln!(text, "retained {count}")?;
+fn print_all(page: &mut Page, all: &[(TopicName, Retained)]) {
+    print_length(page, "retained ", all.len());
     for (topic, retained) in all {
-        print_retained(text, topic, retained)?;
+        print_retained(page, topic, retained);
     }
-    Ok(())
 }
 
-/// `ask digest` and `ask answer OCTETS ..`: a call of the gateway, and what it says.
+/// The call for an answer to the digest that the words spell.
+fn answer_step(words: &mut Words) -> Step {
+    match words.digest() {
+        Some(digest) => Step::Answer { digest },
+        None => Step::Digest,
+    }
+}
+
+/// A call of the gateway, and what it says.
 fn ask_step<R: Replica>(
-    alloc: Global,
-    text: &mut String,
+    page: &mut Page,
     node: &mut Node<R, MemoryDisk>,
     step: Step,
-) -> Result<(), Stop> {
-    let answer = call(alloc, node, &step);
+    words: &mut Words,
+) {
+    if words.end(page) {
+        let answer = call(page.alloc(), node, &step);
+        print_said(page, &answer, node.starved());
+        drop(answer);
+    }
     drop(step);
-    let printed = print_said(alloc, text, &answer, node.starved());
-    drop(answer);
-    printed
 }
 
-/// What a gateway said, unless memory ran out.
-fn print_said(
-    alloc: Global,
-    text: &mut String,
-    answer: &Answer,
-    is_starved: bool,
-) -> Result<(), Stop> {
-    check_memory(answer, is_starved)?;
+/// What a gateway said.
+fn print_said(page: &mut Page, answer: &Answer, is_starved: bool) {
+    page.stop_if_short(is_short(answer, is_starved));
     match answer {
-        Ok(out) => print_told(alloc, text, out),
+        Ok(out) => print_told(page, out),
         Err(fault) => {
-            print_refusal(text, fault)?;
-            Ok(text.push('\n')?)
+            print_refusal(page, fault);
+            page.end();
         }
     }
 }
 
-/// The digest of an answer, or else its deltas.
-fn print_told(alloc: Global, text: &mut String, out: &Out) -> Result<(), Stop> {
+/// The octets of an answer's digest and of what it is, or else its deltas.
+fn print_told(page: &mut Page, out: &Out) {
     match &out.digest {
-        Some(digest) => print_own(alloc, text, digest),
-        None => print_deltas(alloc, text, out.answer.as_slice()),
+        Some(digest) => {
+            print_digest(page, digest);
+            print_known(page, digest);
+        }
+        None => print_deltas(page, out.answer.as_slice()),
     }
-}
-
-/// The octets of a digest, and of what it is.
-fn print_own(alloc: Global, text: &mut String, digest: &Digest) -> Result<(), Stop> {
-    print_digest(alloc, text, digest)?;
-    print_known(text, digest)
 }
 
 /// The octets of deltas, after a line with their number.
-fn print_deltas(alloc: Global, text: &mut String, deltas: &[Delta]) -> Result<(), Stop> {
-    let count = deltas.len();
-    writeln!(text, "answered in {count}")?;
+fn print_deltas(page: &mut Page, deltas: &[Delta]) {
+    print_length(page, "answered in ", deltas.len());
     for delta in deltas {
-        print_delta(alloc, text, delta)?;
+        print_delta(page, delta);
     }
-    Ok(())
 }

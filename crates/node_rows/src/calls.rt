@@ -1,91 +1,100 @@
-//! Lines that are calls of the gateway.
+//! Calls of the libraries. These functions say nothing of them: what a library promises would stay
+//! in view of who makes the call, and no row needs it.
 
-use crate::fields::{client, number};
-use crate::gateways::address;
-use crate::names::{Names, octets};
-use crate::printing::print_answer;
-use crate::stop::{Stop, check_memory};
-use gw_node::{Answer, Node, Step};
-use jr_journal::MemoryDisk;
-use octets::Octets;
-use rep_model::Replica;
-use rep_ops::{Delta, OpsFault};
+use gw_node::{Answer, Node, NodeFault, Step};
+use gw_shift::{CallFault, CloseFault, Closed, Ended, Pass, Shift};
+use jr_journal::{Disk, Journal, JournalFault, MemoryDisk, Slot};
+use octets::{NoMemory, Sequence};
+use rep_digest::Digest;
+use rep_model::{Replica, TakeFault};
+use rep_ops::{ClientId, Delta, Op, OpsFault, Retained};
+use rep_plain::Plain;
+use sn_frame::{Frame, FrameFault};
+use sn_local::{Addr, Config};
+use sn_topic::{Predefined, TopicName};
 use std::alloc::Global;
+use std::sync::{Arc, Wait};
 
-/// The call that a line says.
-pub(crate) fn step(alloc: Global, names: &Names, words: &[&str]) -> Result<Step, Stop> {
-    match words {
-        ["frame", port, moment, rest @ ..] => frame(alloc, names, port, moment, rest),
-        ["take", rest @ ..] => Ok(Step::Take {
-            delta: delta(alloc, names, rest)?,
-        }),
-        ["tick", moment] => Ok(Step::Tick {
-            now: u64::from(number(moment)?),
-        }),
-        ["view", name] => Ok(Step::View {
-            client: client(alloc, name)?,
-        }),
-        ["compact"] => Ok(Step::Compact),
-        ["reopen"] => Ok(Step::Reopen),
-        _ => Err(Stop::Line),
-    }
-}
-
-/// A datagram comes.
-fn frame(
-    alloc: Global,
-    names: &Names,
-    port: &str,
-    moment: &str,
-    rest: &[&str],
-) -> Result<Step, Stop> {
-    let from = address(port)?;
-    let now = u64::from(number(moment)?);
-    let bytes = body(alloc, names, rest)?;
-    Ok(Step::Frame { from, bytes, now })
-}
-
-/// The octets of a datagram.
-fn body(alloc: Global, names: &Names, fields: &[&str]) -> Result<Octets, Stop> {
-    let bytes = octets(alloc, names, fields)?;
-    Ok(Octets::from_slice(alloc, &bytes)?)
+/// The client of this name: a copy of it, so that a row that names a client runs that call too.
+pub(crate) fn read_client(alloc: Global, name: &[u8]) -> Result<ClientId, OpsFault> {
+    let client = ClientId::new(alloc, name)?;
+    client.copy(alloc)
 }
 
 /// The delta that octets spell.
-pub(crate) fn delta(alloc: Global, names: &Names, fields: &[&str]) -> Result<Delta, Stop> {
-    let bytes = octets(alloc, names, fields)?;
-    match read(alloc, &bytes) {
-        Ok(delta) => Ok(delta),
-        Err(OpsFault::Memory) => Err(Stop::Memory),
-        Err(_) => Err(Stop::Line),
+pub(crate) fn read_delta(alloc: Global, octets: &[u8]) -> Result<Delta, OpsFault> {
+    Delta::decode(alloc, octets)
+}
+
+/// The digest that octets spell.
+pub(crate) fn read_digest(alloc: Global, octets: &[u8]) -> Result<Digest, OpsFault> {
+    Digest::decode(alloc, octets)
+}
+
+/// The frame that octets spell.
+pub(crate) fn read_frame(alloc: Global, octets: &[u8]) -> Result<Frame, FrameFault> {
+    sn_frame::decode(alloc, octets)
+}
+
+/// The delta of operations.
+pub(crate) fn delta_of(alloc: Global, ops: Vec<Op>) -> Result<Delta, OpsFault> {
+    Delta::from_ops(alloc, ops)
+}
+
+/// Puts the octets of a delta after those that are there.
+pub(crate) fn write_delta(alloc: Global, delta: &Delta, out: &mut Vec<u8>) -> Result<(), OpsFault> {
+    delta.encode(alloc, out)
+}
+
+/// Puts the octets of a digest after those that are there.
+pub(crate) fn write_digest(
+    alloc: Global,
+    digest: &Digest,
+    out: &mut Vec<u8>,
+) -> Result<(), OpsFault> {
+    digest.encode(alloc, out)
+}
+
+/// What a gateway of this number is told that knows no topic id beforehand: a copy of it, so that
+/// each opening runs that call too. Nothing if memory ran out.
+pub(crate) fn told(
+    alloc: Global,
+    gateway: u8,
+    advertise: u16,
+    field: Sequence<Addr>,
+) -> Option<Config> {
+    let predefined = no_predefined(alloc)?;
+    let config = Config {
+        gateway,
+        advertise,
+        field,
+        predefined,
+    };
+    config.copy(alloc).ok()
+}
+
+/// The octets that stand in a slot; nothing if memory ran out.
+pub(crate) fn slot_octets(alloc: Global, disk: &mut MemoryDisk, slot: Slot) -> Option<Vec<u8>> {
+    let size = disk.len(slot).ok()?;
+    let mut octets = vec![in alloc; 0u8; size].ok()?;
+    match disk.read_at(slot, 0, &mut octets) {
+        Ok(()) => Some(octets),
+        Err(_) => None,
     }
 }
 
-/// The delta that octets spell, of which nothing more is said.
-fn read(alloc: Global, bytes: &[u8]) -> Result<Delta, OpsFault> {
-    Delta::decode(alloc, bytes)
+/// No topic id is known beforehand; nothing if memory ran out.
+pub(crate) fn no_predefined(alloc: Global) -> Option<Predefined> {
+    Predefined::new(alloc, Vec::new(alloc)).ok()
 }
 
-/// A call of the gateway, and its answer.
-pub(crate) fn call_once<R: Replica>(
+/// A gateway is opened.
+pub(crate) fn open_node<R: Replica>(
     alloc: Global,
-    text: &mut String,
-    names: &Names,
-    node: &mut Node<R, MemoryDisk>,
-    words: &[&str],
-) -> Result<(), Stop> {
-    let step = step(alloc, names, words)?;
-    let answer = call(alloc, node, &step);
-    drop(step);
-    let printed = print_called(text, &answer, node.starved());
-    drop(answer);
-    printed
-}
-
-/// What a gateway answered, unless memory ran out.
-fn print_called(text: &mut String, answer: &Answer, is_starved: bool) -> Result<(), Stop> {
-    check_memory(answer, is_starved)?;
-    Ok(print_answer(text, answer)?)
+    config: Config,
+    disk: MemoryDisk,
+) -> Result<Node<R, MemoryDisk>, (MemoryDisk, NodeFault)> {
+    Node::open(alloc, config, disk)
 }
 
 /// The call of the method that a call as a value stands for.
@@ -96,34 +105,25 @@ pub(crate) fn call<R: Replica>(
 ) -> Answer {
     match step {
         Step::Frame { from, bytes, now } => node.frame(alloc, *from, bytes.as_slice(), *now),
-        Step::Take { delta } => node.take(alloc, delta),
         Step::Tick { now } => node.tick(alloc, *now),
-        Step::View { client } => node.view(alloc, client),
-        Step::Digest => node.digest(alloc),
-        Step::Answer { digest } => node.answer(alloc, digest),
         Step::Compact => node.compact(alloc),
         Step::Reopen => node.reopen(alloc),
+        step => look(alloc, node, step),
     }
 }
 
-/// `thrice CALL`: a call as a value, with its answer three times.
-pub(crate) fn call_thrice<R: Replica>(
-    alloc: Global,
-    text: &mut String,
-    names: &Names,
-    node: &mut Node<R, MemoryDisk>,
-    words: &[&str],
-) -> Result<(), Stop> {
-    let step = step(alloc, names, words)?;
-    let answers = thrice(alloc, node, &step);
-    drop(step);
-    let printed = print_answers(text, &answers, node.starved());
-    drop(answers);
-    printed
+/// The same of the calls that bring or ask for what gateways tell one another.
+fn look<R: Replica>(alloc: Global, node: &mut Node<R, MemoryDisk>, step: &Step) -> Answer {
+    match step {
+        Step::Take { delta } => node.take(alloc, delta),
+        Step::View { client } => node.view(alloc, client),
+        Step::Answer { digest } => node.answer(alloc, digest),
+        _ => node.digest(alloc),
+    }
 }
 
 /// A call as a value, with its answer three times.
-fn thrice<R: Replica>(
+pub(crate) fn call_thrice<R: Replica>(
     alloc: Global,
     node: &mut Node<R, MemoryDisk>,
     step: &Step,
@@ -131,14 +131,100 @@ fn thrice<R: Replica>(
     node.step(alloc, step)
 }
 
-/// What a gateway answered, three times, unless memory ran out.
-fn print_answers(
-    text: &mut String,
-    answers: &(Answer, Answer, Answer),
-    is_starved: bool,
-) -> Result<(), Stop> {
-    let (first, second, third) = answers;
-    print_called(text, first, is_starved)?;
-    print_called(text, second, is_starved)?;
-    print_called(text, third, is_starved)
+/// The answer with a client's view.
+pub(crate) fn view<R: Replica>(
+    alloc: Global,
+    node: &Node<R, MemoryDisk>,
+    client: &ClientId,
+) -> Answer {
+    node.view(alloc, client)
+}
+
+/// What a gateway retains of each topic.
+pub(crate) fn retained<R: Replica>(
+    alloc: Global,
+    node: &Node<R, MemoryDisk>,
+) -> Result<Vec<(TopicName, Retained)>, NoMemory> {
+    node.retained(alloc)
+}
+
+/// The clients that a gateway knows.
+pub(crate) fn clients<R: Replica>(
+    alloc: Global,
+    node: &Node<R, MemoryDisk>,
+) -> Result<Vec<ClientId>, NoMemory> {
+    node.clients(alloc)
+}
+
+/// The deltas of the calls of a shift above a number, at most so many.
+pub(crate) fn after<W: Wait, R: Replica>(
+    rt: &W,
+    alloc: Global,
+    shift: &Shift<R, MemoryDisk>,
+    pass: &Pass,
+    number: u64,
+    most: usize,
+) -> Result<Vec<(u64, Delta)>, CallFault> {
+    shift.after(rt, alloc, pass, number, most)
+}
+
+/// A shift is over.
+pub(crate) fn over<R: Replica>(shift: Shift<R, MemoryDisk>) -> Ended<R, MemoryDisk> {
+    shift.end()
+}
+
+/// A shift that is over is closed with passes, or comes back with them.
+pub(crate) fn close_by<R: Replica>(
+    over: Ended<R, MemoryDisk>,
+    passes: Vec<Pass>,
+) -> Result<Closed<R, MemoryDisk>, (Ended<R, MemoryDisk>, Vec<Pass>, CloseFault)> {
+    over.close(passes)
+}
+
+/// A journal is opened on a disk.
+pub(crate) fn open_journal(
+    alloc: Global,
+    disk: MemoryDisk,
+    gateway: u8,
+) -> Result<(Journal<MemoryDisk>, Vec<Delta>), (MemoryDisk, JournalFault)> {
+    Journal::open(alloc, disk, gateway)
+}
+
+/// A delta is a new record of a journal.
+pub(crate) fn append(
+    alloc: Global,
+    journal: &mut Journal<MemoryDisk>,
+    delta: &Delta,
+) -> Result<(), JournalFault> {
+    journal.append(alloc, delta)
+}
+
+/// A replica takes a delta.
+pub(crate) fn take_delta(
+    alloc: Global,
+    replica: &mut Plain,
+    delta: &Delta,
+) -> Result<(), TakeFault> {
+    let staged = replica.prepare(alloc, delta)?;
+    replica.commit(staged);
+    Ok(())
+}
+
+/// The digest of what a replica has.
+pub(crate) fn digest_of(alloc: Global, replica: &Plain) -> Result<Digest, OpsFault> {
+    rep_digest::digest_of(alloc, replica)
+}
+
+/// A replica's answer to a digest.
+pub(crate) fn answer_to(
+    alloc: Global,
+    replica: &Plain,
+    asked: &Digest,
+) -> Result<Vec<Delta>, OpsFault> {
+    rep_answer::answer(alloc, replica, asked)
+}
+
+/// All that a replica holds; nothing if memory ran out.
+pub(crate) fn held_by(alloc: Global, replica: &Plain) -> Option<Vec<Delta>> {
+    replica.held(alloc).ok()
 }

@@ -1,239 +1,215 @@
 //! Lines that draft what a client is sent.
 
-use crate::fields::client;
-use crate::gateways::no_predefined;
-use crate::names::{Names, octets};
+use crate::calls::{no_predefined, read_frame, view};
+use crate::page::Page;
 use crate::printing::{print_draft, print_octets};
 use crate::stop::Stop;
-use gw_node::{Answer, Node};
+use crate::words::Words;
+use gw_node::Node;
 use jr_journal::MemoryDisk;
-use octets::Octets;
+use octets::NoMemory;
 use rep_model::{ClientView, Replica};
-use rep_ops::{ClientId, Put};
+use rep_ops::Put;
 use sn_deliver::acknowledge;
 use sn_exchange::{Peer, then_deliver, then_resend};
-use sn_frame::{Flags, Frame, FrameFault, decode};
+use sn_frame::{Flags, Frame, FrameFault};
 use sn_local::Addr;
 use sn_plan::Draft;
 use sn_publish::{Meant, pubrel, topic_meant};
 use sn_session::Session;
+use sn_topic::Predefined;
 use std::alloc::Global;
+
+/// What a line drafts from.
+#[derive(Clone, Copy)]
+struct Visit<'a> {
+    predefined: &'a Predefined,
+    peer: &'a Peer,
+    session: &'a Session,
+    /// The messages that wait.
+    pending: &'a [Put],
+}
 
 /// Plays a line about a client of the gateway.
 pub(crate) fn play<R: Replica>(
-    alloc: Global,
-    text: &mut String,
+    page: &mut Page,
     node: &Node<R, MemoryDisk>,
-    names: &Names,
     first: &str,
-    rest: &[&str],
-) -> Result<(), Stop> {
-    let Some((name, rest)) = rest.split_first() else {
-        return Err(Stop::Line);
-    };
-    let peer = peer(alloc, name)?;
-    let bytes = octets(alloc, names, rest)?;
-    play_for(alloc, text, node, &peer, first, &bytes)
-}
-
-/// Plays a line about this client.
-fn play_for<R: Replica>(
-    alloc: Global,
-    text: &mut String,
-    node: &Node<R, MemoryDisk>,
-    peer: &Peer,
-    first: &str,
-    bytes: &[u8],
-) -> Result<(), Stop> {
-    let answer = seen(alloc, node, &peer.client);
-    let played = match &answer {
-        Ok(out) => play_seen(alloc, text, peer, &out.view, first, bytes),
-        Err(_) => Err(Stop::Memory),
-    };
-    drop(answer);
-    played
-}
-
-/// The answer with a client's view. Of the call nothing is said here, so that who makes it carries
-/// no clause on.
-fn seen<R: Replica>(alloc: Global, node: &Node<R, MemoryDisk>, client: &ClientId) -> Answer {
-    node.view(alloc, client)
+    words: &mut Words,
+) {
+    let peer = peer(words);
+    let octets = words.octets();
+    if words.end(page) {
+        if let Some(peer) = &peer {
+            play_for(page, node, peer, first, &octets);
+        }
+    }
+    drop(octets);
+    drop(peer);
 }
 
 /// The client, at port 7 of host 0 and moment 3.
-fn peer(alloc: Global, name: &str) -> Result<Peer, Stop> {
-    let client = client(alloc, name)?;
-    Ok(Peer {
+fn peer(words: &mut Words) -> Option<Peer> {
+    let client = words.client()?;
+    Some(Peer {
         address: Addr { host: 0, port: 7 },
         client,
         moment: 3,
     })
 }
 
+/// Plays a line about this client, of which the gateway has a view.
+fn play_for<R: Replica>(
+    page: &mut Page,
+    node: &Node<R, MemoryDisk>,
+    peer: &Peer,
+    first: &str,
+    octets: &[u8],
+) {
+    let answer = view(page.alloc(), node, &peer.client);
+    match &answer {
+        Ok(out) => play_view(page, peer, &out.view, first, octets),
+        Err(_) => page.stop(Stop::Memory),
+    }
+    drop(answer);
+}
+
 /// Plays a line about a client of this view, which is to have a session.
-fn play_seen(
-    alloc: Global,
-    text: &mut String,
-    peer: &Peer,
-    view: &Option<ClientView>,
-    first: &str,
-    bytes: &[u8],
-) -> Result<(), Stop> {
-    let Some(view) = view else {
-        return Err(Stop::Line);
-    };
-    let Some(session) = &view.session else {
-        return Err(Stop::Line);
-    };
-    let pending = view.pending.as_slice();
+fn play_view(page: &mut Page, peer: &Peer, view: &Option<ClientView>, first: &str, octets: &[u8]) {
+    match view {
+        Some(view) => play_session(page, peer, view, first, octets),
+        None => page.stop(Stop::Line),
+    }
+}
+
+/// Plays a line about a client of this session.
+fn play_session(page: &mut Page, peer: &Peer, view: &ClientView, first: &str, octets: &[u8]) {
+    let predefined = no_predefined(page.alloc());
+    match (&view.session, &predefined) {
+        (Some(session), Some(predefined)) => {
+            let visit = Visit {
+                predefined,
+                peer,
+                session,
+                pending: view.pending.as_slice(),
+            };
+            play_visit(page, &visit, first, octets);
+        }
+        (Some(_), None) => page.stop(Stop::Memory),
+        (None, _) => page.stop(Stop::Line),
+    }
+    drop(predefined);
+}
+
+/// Plays a line.
+fn play_visit(page: &mut Page, visit: &Visit, first: &str, octets: &[u8]) {
     match first {
-        "meaning" => meaning(alloc, text, session, bytes),
-        "hear" => hear(alloc, text, peer, session, pending, bytes),
-        _ => send(alloc, text, peer, session, pending, first),
+        "deliver" => deliver(page, visit),
+        "resend" => resend(page, visit),
+        "hear" => hear(page, visit, octets),
+        _ => meaning(page, visit, octets),
     }
 }
 
-/// `deliver CLIENT` or `resend CLIENT`: what waits goes out, or what was sent goes out again.
-fn send(
-    alloc: Global,
-    text: &mut String,
-    peer: &Peer,
-    session: &Session,
-    pending: &[Put],
-    first: &str,
-) -> Result<(), Stop> {
-    let draft = sent(alloc, peer, session, pending, first)?;
-    Ok(print_draft(alloc, text, draft)?)
+/// `deliver CLIENT`: what waits goes out.
+fn deliver(page: &mut Page, visit: &Visit) {
+    let mut draft = Draft::new(page.alloc());
+    let (predefined, peer) = (visit.predefined, visit.peer);
+    let (session, pending) = (visit.session, visit.pending);
+    let is_short = then_deliver(
+        page.alloc(),
+        predefined,
+        peer,
+        session,
+        pending,
+        &mut draft,
+    ).is_err();
+    page.stop_if_short(is_short);
+    print_draft(page, draft);
 }
 
-/// What is drafted where messages go out, or go out again.
-fn sent(
-    alloc: Global,
-    peer: &Peer,
-    session: &Session,
-    pending: &[Put],
-    first: &str,
-) -> Result<Draft, Stop> {
-    let mut draft = Draft::new(alloc);
-    match first {
-        "deliver" => deliver(alloc, peer, session, pending, &mut draft)?,
-        _ => resend(alloc, peer, session, pending, &mut draft)?,
-    }
-    Ok(draft)
-}
-
-/// Drafts what waits.
-fn deliver(
-    alloc: Global,
-    peer: &Peer,
-    session: &Session,
-    pending: &[Put],
-    draft: &mut Draft,
-) -> Result<(), Stop> {
-    let predefined = no_predefined(alloc)?;
-    match then_deliver(alloc, &predefined, peer, session, pending, draft) {
-        Ok(()) => Ok(()),
-        Err(_) => Err(Stop::Memory),
-    }
-}
-
-/// Drafts what was sent.
-fn resend(
-    alloc: Global,
-    peer: &Peer,
-    session: &Session,
-    pending: &[Put],
-    draft: &mut Draft,
-) -> Result<(), Stop> {
-    let predefined = no_predefined(alloc)?;
-    match then_resend(alloc, &predefined, peer, session, pending, draft) {
-        Ok(()) => Ok(()),
-        Err(_) => Err(Stop::Memory),
-    }
+/// `resend CLIENT`: what was sent goes out again.
+fn resend(page: &mut Page, visit: &Visit) {
+    let mut draft = Draft::new(page.alloc());
+    let (predefined, peer) = (visit.predefined, visit.peer);
+    let (session, pending) = (visit.session, visit.pending);
+    let is_short = then_resend(
+        page.alloc(),
+        predefined,
+        peer,
+        session,
+        pending,
+        &mut draft,
+    ).is_err();
+    page.stop_if_short(is_short);
+    print_draft(page, draft);
 }
 
 /// `hear CLIENT OCTETS ..`: the client answers, or releases its own message, by this frame.
-fn hear(
-    alloc: Global,
-    text: &mut String,
-    peer: &Peer,
-    session: &Session,
-    pending: &[Put],
-    bytes: &[u8],
-) -> Result<(), Stop> {
-    let draft = heard(alloc, peer, session, pending, bytes)?;
-    Ok(print_draft(alloc, text, draft)?)
+fn hear(page: &mut Page, visit: &Visit, octets: &[u8]) {
+    match read_frame(page.alloc(), octets) {
+        Ok(frame) => {
+            hear_frame(page, visit, &frame);
+            drop(frame);
+        }
+        Err(FrameFault::Memory) => page.stop(Stop::Memory),
+        Err(_) => page.stop(Stop::Line),
+    }
 }
 
 /// What is drafted where this frame is heard.
-fn heard(
-    alloc: Global,
-    peer: &Peer,
-    session: &Session,
-    pending: &[Put],
-    bytes: &[u8],
-) -> Result<Draft, Stop> {
-    let frame = frame_of(alloc, bytes)?;
-    let draft = match &frame {
-        Frame::PubRel { msg_id } => released(alloc, peer, session, *msg_id),
-        frame => acknowledged(alloc, peer, session, pending, frame),
-    };
-    drop(frame);
-    draft
-}
-
-/// The frame that octets spell, of which nothing more is said.
-fn frame_of(alloc: Global, bytes: &[u8]) -> Result<Frame, Stop> {
-    match decode(alloc, bytes) {
-        Ok(frame) => Ok(frame),
-        Err(FrameFault::Memory) => Err(Stop::Memory),
-        Err(_) => Err(Stop::Line),
+fn hear_frame(page: &mut Page, visit: &Visit, frame: &Frame) {
+    match heard(page.alloc(), visit, frame) {
+        Ok(draft) => print_draft(page, draft),
+        Err(_) => page.stop(Stop::Memory),
     }
 }
 
-/// What is drafted where the client releases its message of this id.
-fn released(alloc: Global, peer: &Peer, session: &Session, id: u16) -> Result<Draft, Stop> {
-    Ok(pubrel(alloc, peer.address, session, id)?)
-}
-
-/// What is drafted where the client acknowledges by this frame.
-fn acknowledged(
-    alloc: Global,
-    peer: &Peer,
-    session: &Session,
-    pending: &[Put],
-    frame: &Frame,
-) -> Result<Draft, Stop> {
-    let predefined = no_predefined(alloc)?;
-    Ok(acknowledge(alloc, &predefined, peer, session, pending, frame)?)
+/// The draft of a client that releases its own message by this frame, or acknowledges one.
+fn heard(alloc: Global, visit: &Visit, frame: &Frame) -> Result<Draft, NoMemory> {
+    let (predefined, peer) = (visit.predefined, visit.peer);
+    let (session, pending) = (visit.session, visit.pending);
+    match frame {
+        Frame::PubRel { msg_id } => pubrel(alloc, peer.address, session, *msg_id),
+        frame => acknowledge(alloc, predefined, peer, session, pending, frame),
+    }
 }
 
 /// `meaning CLIENT OCTETS ..`: what a publication is about with these flags and this topic field.
-fn meaning(alloc: Global, text: &mut String, session: &Session, bytes: &[u8]) -> Result<(), Stop> {
-    let [bits, high, low] = bytes else {
-        return Err(Stop::Line);
-    };
-    let flags = Flags { bits: *bits };
-    let topic = u16::from(*high) * 256 + u16::from(*low);
-    let meant = meaning_of(alloc, session, flags, topic)?;
-    print_meant(text, &meant)
-}
-
-/// The topic of these flags and this topic field.
-fn meaning_of(alloc: Global, session: &Session, flags: Flags, topic: u16) -> Result<Meant, Stop> {
-    let predefined = no_predefined(alloc)?;
-    Ok(topic_meant(alloc, &predefined, session, flags.kind(), topic)?)
-}
-
-/// What a publication is about.
-fn print_meant(text: &mut String, meant: &Meant) -> Result<(), Stop> {
-    match meant {
-        Meant::Topic(name) => Ok(print_octets(text, "topic", name.bytes())?),
-        Meant::Refused(code) => print_code(text, *code),
+fn meaning(page: &mut Page, visit: &Visit, octets: &[u8]) {
+    match octets {
+        [bits, high, low] => {
+            let flags = Flags { bits: *bits };
+            print_meaning(page, visit, flags, u16::from_be_bytes([*high, *low]));
+        }
+        _ => page.stop(Stop::Line),
     }
 }
 
-/// A return code.
-fn print_code(text: &mut String, code: u8) -> Result<(), Stop> {
-    Ok(writeln!(text, "code {code}")?)
+/// What a publication is about, unless memory ran out.
+fn print_meaning(page: &mut Page, visit: &Visit, flags: Flags, topic: u16) {
+    match topic_meant(
+        page.alloc(),
+        visit.predefined,
+        visit.session,
+        flags.kind(),
+        topic,
+    ) {
+        Ok(meant) => {
+            print_meant(page, &meant);
+            drop(meant);
+        }
+        Err(_) => page.stop(Stop::Memory),
+    }
+}
+
+/// What a publication is about.
+fn print_meant(page: &mut Page, meant: &Meant) {
+    match meant {
+        Meant::Topic(name) => print_octets(page, "topic ", name.bytes()),
+        Meant::Refused(code) => {
+            page.number("code ", u64::from(*code));
+            page.end();
+        }
+    }
 }

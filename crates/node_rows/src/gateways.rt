@@ -1,14 +1,15 @@
 //! Lines about a disk, and a gateway that is opened on it.
 
-use crate::fields::{gateway, number};
-use crate::printing::print_slot;
+use crate::calls::{clients, open_node, slot_octets, told};
+use crate::page::Page;
+use crate::printing::{print_length, print_octets};
 use crate::stop::Stop;
+use crate::words::Words;
 use gw_node::{Node, NodeFault};
 use jr_journal::{MemoryDisk, Slot};
 use octets::Sequence;
 use rep_model::Replica;
-use sn_local::{Addr, Config};
-use sn_topic::Predefined;
+use sn_local::Config;
 use std::alloc::Global;
 use std::mem;
 
@@ -17,190 +18,110 @@ use std::mem;
 pub(crate) struct Store<R: Replica> {
     /// The disk while no gateway is open on it.
     disk: MemoryDisk,
-    node: Option<Node<R, MemoryDisk>>,
+    pub(crate) node: Option<Node<R, MemoryDisk>>,
 }
 
-/// An empty disk.
-pub(crate) fn empty<R: Replica>(alloc: Global) -> Store<R> {
-    Store {
-        disk: MemoryDisk::new(alloc),
-        node: None,
+impl<R: Replica> Store<R> {
+    /// An empty disk.
+    pub(crate) fn new(alloc: Global) -> Store<R> {
+        Store {
+            disk: MemoryDisk::new(alloc),
+            node: None,
+        }
+    }
+
+    /// The disk; a gateway that is open on it is closed.
+    fn closed(&mut self) -> &mut MemoryDisk {
+        if let Some(node) = self.node.take() {
+            self.disk = node.into_disk();
+        }
+        &mut self.disk
     }
 }
 
-/// The gateway, which is to be open.
-pub(crate) fn opened<R: Replica>(store: &mut Store<R>) -> Result<&mut Node<R, MemoryDisk>, Stop> {
-    match &mut store.node {
-        None => Err(Stop::Line),
-        Some(node) => Ok(node),
+/// `open GATEWAY` or `open GATEWAY SECONDS PORT`: a gateway is opened.
+pub(crate) fn open<R: Replica>(page: &mut Page, store: &mut Store<R>, words: &mut Words) {
+    let config = config(words);
+    if words.end(page) {
+        match config {
+            Some(config) => start(page, store, config),
+            None => page.stop(Stop::Memory),
+        }
     }
 }
 
-/// The gateway, which is to be open, and is no longer here.
-pub(crate) fn taken<R: Replica>(store: &mut Store<R>) -> Result<Node<R, MemoryDisk>, Stop> {
-    store.node.take().ok_or(Stop::Line)
-}
-
-/// This gateway is the one that is open.
-pub(crate) fn keep<R: Replica>(store: &mut Store<R>, node: Node<R, MemoryDisk>) {
-    drop(mem::replace(&mut store.node, Some(node)));
-}
-
-/// The disk; a gateway that is open on it is closed.
-fn closed<R: Replica>(store: &mut Store<R>) -> &mut MemoryDisk {
-    if let Some(node) = store.node.take() {
-        drop(mem::replace(&mut store.disk, node.into_disk()));
+/// What the gateway is told: its number, and if it advertises itself how often, and to which port.
+fn config(words: &mut Words) -> Option<Config> {
+    let gateway = words.gateway();
+    let mut advertise = 0;
+    let mut field = Sequence::empty(words.alloc());
+    if words.has_more() {
+        advertise = words.number();
+        let is_short = field.push(words.address()).is_err();
+        words.fail_if_short(is_short);
     }
-    &mut store.disk
-}
-
-/// `open GATEWAY` or `open GATEWAY SECONDS PORT`: a gateway is opened, with a copy of what it is
-/// told, so that each opening runs that call too.
-pub(crate) fn open<R: Replica>(
-    alloc: Global,
-    text: &mut String,
-    store: &mut Store<R>,
-    fields: &[&str],
-) -> Result<(), Stop> {
-    let config = config(alloc, fields)?;
-    let copy = copy_of(alloc, &config);
-    drop(config);
-    start(alloc, text, store, copy?)
-}
-
-/// A copy of what a gateway is told.
-fn copy_of(alloc: Global, config: &Config) -> Result<Config, Stop> {
-    match config.copy(alloc) {
-        Ok(copy) => Ok(copy),
-        Err(_) => Err(Stop::Memory),
-    }
+    told(words.alloc(), gateway, advertise, field)
 }
 
 /// Opens a gateway on the disk, and prints the records that it read, or the number of its refusal.
-fn start<R: Replica>(
-    alloc: Global,
-    text: &mut String,
-    store: &mut Store<R>,
-    config: Config,
-) -> Result<(), Stop> {
-    let disk = mem::replace(closed(store), MemoryDisk::new(alloc));
-    match node_on(alloc, config, disk) {
+fn start<R: Replica>(page: &mut Page, store: &mut Store<R>, config: Config) {
+    let disk = mem::replace(store.closed(), MemoryDisk::new(page.alloc()));
+    match open_node(page.alloc(), config, disk) {
         Ok(node) => {
-            let records = node.records();
-            keep(store, node);
-            Ok(writeln!(text, "records {records}")?)
+            page.number("records ", node.records());
+            page.end();
+            store.node = Some(node);
         }
         Err((disk, fault)) => {
-            drop(mem::replace(&mut store.disk, disk));
-            let printed = print_refused(text, &fault, store.disk.starved());
+            print_refused(page, &fault, disk.starved());
             drop(fault);
-            printed
+            store.disk = disk;
         }
     }
 }
 
-/// The number of a refused opening, unless memory ran out, also in its disk.
-fn print_refused(text: &mut String, fault: &NodeFault, is_starved: bool) -> Result<(), Stop> {
-    if is_starved || matches!(fault, NodeFault::Memory) {
-        return Err(Stop::Memory);
-    }
-    let number = fault.number();
-    Ok(writeln!(text, "refused N{number}")?)
-}
-
-/// A gateway is opened. Of the call nothing is said here, so that who makes it carries no clause
-/// on.
-fn node_on<R: Replica>(
-    alloc: Global,
-    config: Config,
-    disk: MemoryDisk,
-) -> Result<Node<R, MemoryDisk>, (MemoryDisk, NodeFault)> {
-    Node::open(alloc, config, disk)
-}
-
-/// What the gateway is told.
-fn config(alloc: Global, fields: &[&str]) -> Result<Config, Stop> {
-    match fields {
-        [name] => told(alloc, gateway(name)?, 0, Sequence::empty(alloc)),
-        [name, seconds, port] => advertising(alloc, name, seconds, port),
-        _ => Err(Stop::Line),
-    }
-}
-
-/// What a gateway is told that advertises itself so often, to this port.
-fn advertising(alloc: Global, name: &str, seconds: &str, port: &str) -> Result<Config, Stop> {
-    let to = address(port)?;
-    let advertise = number(seconds)?;
-    let gateway = gateway(name)?;
-    let field = only(alloc, to)?;
-    told(alloc, gateway, advertise, field)
-}
-
-/// A field of one address.
-fn only(alloc: Global, to: Addr) -> Result<Sequence<Addr>, Stop> {
-    let mut field = Sequence::empty(alloc);
-    field.push(to)?;
-    Ok(field)
-}
-
-/// A port of host 0.
-pub(crate) fn address(port: &str) -> Result<Addr, Stop> {
-    let port = number(port)?;
-    Ok(Addr { host: 0, port })
-}
-
-/// What a gateway of this number is told.
-fn told(alloc: Global, gateway: u8, advertise: u16, field: Sequence<Addr>) -> Result<Config, Stop> {
-    let predefined = no_predefined(alloc)?;
-    Ok(Config {
-        gateway,
-        advertise,
-        field,
-        predefined,
-    })
-}
-
-/// No topic id is known beforehand.
-pub(crate) fn no_predefined(alloc: Global) -> Result<Predefined, Stop> {
-    match Predefined::new(alloc, Vec::new(alloc)) {
-        Ok(table) => Ok(table),
-        Err(_) => Err(Stop::Line),
-    }
+/// The number of a refused opening.
+fn print_refused(page: &mut Page, fault: &NodeFault, is_starved: bool) {
+    page.stop_if_short(is_starved || matches!(fault, NodeFault::Memory));
+    page.number("refused N", u64::from(fault.number()));
+    page.end();
 }
 
 /// `fail COUNT` or `fail sync`: the next append goes out so far, or goes out and is not synced.
-pub(crate) fn fail<R: Replica>(store: &mut Store<R>, fields: &[&str]) -> Result<(), Stop> {
-    let disk = closed(store);
-    match fields {
-        ["sync"] => disk.fail_next(0, true),
-        [far] => disk.fail_next(usize::from(number(far)?), false),
-        _ => return Err(Stop::Line),
+pub(crate) fn fail<R: Replica>(page: &mut Page, store: &mut Store<R>, words: &mut Words) {
+    let is_sync = words.takes("sync");
+    let far = if is_sync { 0 } else { words.count() };
+    if words.end(page) {
+        store.closed().fail_next(far, is_sync);
     }
-    Ok(())
 }
 
 /// `slots`: the octets of both slots.
-pub(crate) fn slots<R: Replica>(
-    alloc: Global,
-    text: &mut String,
-    store: &mut Store<R>,
-) -> Result<(), Stop> {
-    let disk = closed(store);
-    print_slot(alloc, text, disk, "first", Slot::First)?;
-    print_slot(alloc, text, disk, "second", Slot::Second)
+pub(crate) fn slots<R: Replica>(page: &mut Page, store: &mut Store<R>, words: &mut Words) {
+    if words.end(page) {
+        let disk = store.closed();
+        print_slot(page, disk, "first ", Slot::First);
+        print_slot(page, disk, "second ", Slot::Second);
+    }
+}
+
+/// The octets of a slot.
+fn print_slot(page: &mut Page, disk: &mut MemoryDisk, text: &str, slot: Slot) {
+    match slot_octets(page.alloc(), disk, slot) {
+        Some(octets) => print_octets(page, text, &octets),
+        None => page.stop(Stop::Memory),
+    }
 }
 
 /// `state`: the records of the opening, whether the gateway has halted, and how many clients it
 /// knows.
-pub(crate) fn state<R: Replica>(
-    alloc: Global,
-    text: &mut String,
-    node: &Node<R, MemoryDisk>,
-) -> Result<(), Stop> {
-    let (records, halted) = (node.records(), node.is_halted());
-    let Ok(clients) = node.clients(alloc) else {
-        return Err(Stop::Memory);
-    };
-    let count = clients.len();
-    Ok(writeln!(text, "records {records}, halted: {halted}, clients {count}")?)
+pub(crate) fn state<R: Replica>(page: &mut Page, node: &Node<R, MemoryDisk>, words: &mut Words) {
+    if words.end(page) {
+        page.number("records ", node.records());
+        page.shown(", halted: ", &node.is_halted());
+        match clients(page.alloc(), node) {
+            Ok(clients) => print_length(page, ", clients ", clients.len()),
+            Err(_) => page.stop(Stop::Memory),
+        }
+    }
 }

@@ -1,14 +1,13 @@
 //! Lines about digests, and about a link.
 
-use crate::calls::delta;
-use crate::fields::{gateway, number};
-use crate::names::{Names, octets};
-use crate::printing::{print_fault, print_message, print_octets, print_topic};
+use crate::calls::read_digest;
+use crate::page::Page;
+use crate::printing::{print_delta, print_digest, print_known, print_length, print_octets};
 use crate::stop::Stop;
+use crate::words::Words;
 use gw_net::{Fed, LinkFault, LinkIn, LinkMessage, LinkOutFault, link_out};
-use rep_digest::{Digest, RetainedEntry};
 use rep_ops::OpsFault;
-use std::alloc::{AllocError, Global};
+use std::alloc::Global;
 use std::fmt::Display;
 use std::io::{self, Write};
 
@@ -34,91 +33,69 @@ impl Write for Full {
 }
 
 /// `digest OCTETS ..`: of how many clients they spell a digest, and of what topics.
-pub(crate) fn digest(
-    alloc: Global,
-    text: &mut String,
-    names: &Names,
-    fields: &[&str],
-) -> Result<(), Stop> {
-    let bytes = octets(alloc, names, fields)?;
-    read_digest(alloc, text, &bytes)
+pub(crate) fn digest(page: &mut Page, words: &mut Words) {
+    let octets = words.octets();
+    if words.end(page) {
+        print_spelled(page, &octets);
+    }
 }
 
 /// `beginnings OCTETS ..`: the same of each beginning of them but the whole.
-pub(crate) fn beginnings(
-    alloc: Global,
-    text: &mut String,
-    names: &Names,
-    fields: &[&str],
-) -> Result<(), Stop> {
-    let bytes = octets(alloc, names, fields)?;
-    read_beginnings(alloc, text, &bytes)
+pub(crate) fn beginnings(page: &mut Page, words: &mut Words) {
+    let octets = words.octets();
+    if words.end(page) {
+        print_beginnings(page, &octets);
+    }
 }
 
 /// The digests that the beginnings of octets spell.
-fn read_beginnings(alloc: Global, text: &mut String, bytes: &[u8]) -> Result<(), Stop> {
-    for end in 0..bytes.len() {
-        write!(text, "{end}: ")?;
-        read_digest(alloc, text, &bytes[..end])?;
+fn print_beginnings(page: &mut Page, octets: &[u8]) {
+    for end in 0..octets.len() {
+        page.length("", end);
+        page.text(": ");
+        print_spelled(page, &octets[..end]);
     }
-    Ok(())
 }
 
 /// The digest that octets spell.
-fn read_digest(alloc: Global, text: &mut String, bytes: &[u8]) -> Result<(), Stop> {
-    match decoded(alloc, bytes) {
-        Ok(digest) => print_known(text, &digest),
-        Err(OpsFault::Memory) => Err(Stop::Memory),
-        Err(fault) => print_refused(text, &fault),
+fn print_spelled(page: &mut Page, octets: &[u8]) {
+    match read_digest(page.alloc(), octets) {
+        Ok(digest) => {
+            print_known(page, &digest);
+            drop(digest);
+        }
+        Err(OpsFault::Memory) => page.stop(Stop::Memory),
+        Err(fault) => print_refused(page, &fault),
     }
-}
-
-/// The digest that octets spell, of which nothing more is said.
-fn decoded(alloc: Global, bytes: &[u8]) -> Result<Digest, OpsFault> {
-    Digest::decode(alloc, bytes)
-}
-
-/// Of how many clients a digest is, and of what topics.
-pub(crate) fn print_known(text: &mut String, digest: &Digest) -> Result<(), Stop> {
-    let count = digest.clients().len();
-    writeln!(text, "digest of {count}")?;
-    Ok(print_topics(text, digest.topics())?)
-}
-
-/// What a digest has of topics.
-fn print_topics(text: &mut String, entries: &[RetainedEntry]) -> Result<(), AllocError> {
-    for entry in entries {
-        print_topic(text, entry)?;
-    }
-    Ok(())
 }
 
 /// Why something is refused.
-fn print_refused<F: Display>(text: &mut String, fault: &F) -> Result<(), Stop> {
-    Ok(writeln!(text, "refused: {fault}")?)
+fn print_refused<F: Display>(page: &mut Page, fault: &F) {
+    page.shown("refused: ", fault);
+    page.end();
 }
 
-/// The message that fields say.
-fn message(alloc: Global, names: &Names, fields: &[&str]) -> Result<LinkMessage, Stop> {
-    match fields {
-        ["hello", name] => Ok(LinkMessage::Hello(gateway(name)?)),
-        ["delta", rest @ ..] => Ok(LinkMessage::Delta(delta(alloc, names, rest)?)),
-        ["digest", rest @ ..] => Ok(LinkMessage::Digest(said_digest(alloc, names, rest)?)),
-        _ => Err(Stop::Line),
+/// The message that words say; a hello of gateway 0, which nobody may say, where they say none.
+fn message(words: &mut Words) -> LinkMessage {
+    match words.word() {
+        "hello" => LinkMessage::Hello(words.gateway()),
+        "delta" => LinkMessage::Delta(words.delta()),
+        kind => {
+            words.require(kind == "digest");
+            digest_message(words)
+        }
     }
 }
 
-/// The digest that fields say.
-pub(crate) fn said_digest(alloc: Global, names: &Names, fields: &[&str]) -> Result<Digest, Stop> {
-    let bytes = octets(alloc, names, fields)?;
-    match decoded(alloc, &bytes) {
-        Ok(digest) => Ok(digest),
-        Err(OpsFault::Memory) => Err(Stop::Memory),
-        Err(_) => Err(Stop::Line),
+/// The digest that words say.
+fn digest_message(words: &mut Words) -> LinkMessage {
+    match words.digest() {
+        Some(digest) => LinkMessage::Digest(digest),
+        None => LinkMessage::Hello(0),
     }
 }
 
-/// A message goes out; nothing for a hello of gateway 0, which nobody may say.
+/// A message goes out; nothing for a hello of gateway 0.
 fn go_out<W: Write>(
     alloc: Global,
     writer: &mut W,
@@ -133,96 +110,79 @@ fn go_out<W: Write>(
 }
 
 /// `say MESSAGE`: it goes out after what went out before.
-pub(crate) fn say(
-    alloc: Global,
-    text: &mut String,
-    names: &Names,
-    said: &mut Vec<u8>,
-    fields: &[&str],
-) -> Result<(), Stop> {
-    let message = message(alloc, names, fields)?;
-    let gone = go_out(alloc, said, &message);
-    print_said(text, said, gone)
-}
-
-/// All that went out, if the latest message did.
-fn print_said(
-    text: &mut String,
-    said: &[u8],
-    gone: Option<Result<(), LinkOutFault>>,
-) -> Result<(), Stop> {
-    match gone {
-        None => Err(Stop::Line),
-        Some(Ok(())) => Ok(print_octets(text, "went out", said)?),
-        Some(Err(_)) => Err(Stop::Memory),
+pub(crate) fn say(page: &mut Page, said: &mut Vec<u8>, words: &mut Words) {
+    let message = message(words);
+    if words.end(page) {
+        match go_out(page.alloc(), said, &message) {
+            None => page.stop(Stop::Line),
+            Some(Ok(())) => print_octets(page, "went out ", said),
+            Some(Err(_)) => page.stop(Stop::Memory),
+        }
     }
+    drop(message);
 }
 
 /// `within COUNT MESSAGE`: it goes to a writer that fails after so many octets.
-pub(crate) fn within(
-    alloc: Global,
-    text: &mut String,
-    names: &Names,
-    fields: &[&str],
-) -> Result<(), Stop> {
-    let Some((far, rest)) = fields.split_first() else {
-        return Err(Stop::Line);
-    };
-    let room = usize::from(number(far)?);
-    let message = message(alloc, names, rest)?;
-    let written = go_out(alloc, &mut Full { room }, &message);
+pub(crate) fn within(page: &mut Page, words: &mut Words) {
+    let room = words.count();
+    let message = message(words);
+    if words.end(page) {
+        let gone = go_out(page.alloc(), &mut Full { room }, &message);
+        print_gone(page, gone);
+    }
     drop(message);
-    print_written(text, written)
 }
 
 /// Whether a message went out.
-fn print_written(text: &mut String, gone: Option<Result<(), LinkOutFault>>) -> Result<(), Stop> {
+fn print_gone(page: &mut Page, gone: Option<Result<(), LinkOutFault>>) {
     match gone {
-        None => Err(Stop::Line),
-        Some(Ok(())) => Ok(text.push_str("went out\n")?),
-        Some(Err(LinkOutFault::Memory)) => Err(Stop::Memory),
-        Some(Err(fault)) => print_refused(text, &fault),
+        None => page.stop(Stop::Line),
+        Some(Ok(())) => page.text("went out\n"),
+        Some(Err(LinkOutFault::Memory)) => page.stop(Stop::Memory),
+        Some(Err(fault)) => print_refused(page, &fault),
     }
 }
 
 /// `feed OCTETS ..`: a piece comes in.
-pub(crate) fn feed(
-    alloc: Global,
-    text: &mut String,
-    names: &Names,
-    link: &mut LinkIn,
-    fields: &[&str],
-) -> Result<(), Stop> {
-    let bytes = octets(alloc, names, fields)?;
-    read_piece(alloc, text, link, &bytes)
+pub(crate) fn feed(page: &mut Page, link: &mut LinkIn, words: &mut Words) {
+    let octets = words.octets();
+    if words.end(page) {
+        print_piece(page, link, &octets);
+    }
 }
 
 /// What these octets give where they come in.
-fn read_piece(
-    alloc: Global,
-    text: &mut String,
-    link: &mut LinkIn,
-    bytes: &[u8],
-) -> Result<(), Stop> {
-    match link.feed(alloc, bytes) {
-        Ok(fed) => print_fed(alloc, text, &fed),
-        Err(LinkFault::Memory) => Err(Stop::Memory),
-        Err(fault) => print_refused(text, &fault),
+fn print_piece(page: &mut Page, link: &mut LinkIn, octets: &[u8]) {
+    match link.feed(page.alloc(), octets) {
+        Ok(fed) => {
+            print_fed(page, &fed);
+            drop(fed);
+        }
+        Err(LinkFault::Memory) => page.stop(Stop::Memory),
+        Err(fault) => print_refused(page, &fault),
     }
 }
 
 /// The messages that are whole now, and the fault after them.
-fn print_fed(alloc: Global, text: &mut String, fed: &Fed) -> Result<(), Stop> {
-    print_messages(alloc, text, fed.messages.as_slice())?;
-    print_fault(text, fed.fault)
+fn print_fed(page: &mut Page, fed: &Fed) {
+    print_length(page, "messages ", fed.messages.len());
+    for message in &fed.messages {
+        print_message(page, message);
+    }
+    if let Some(fault) = &fed.fault {
+        page.shown("fault: ", fault);
+        page.end();
+    }
 }
 
-/// Messages, and how many there are.
-fn print_messages(alloc: Global, text: &mut String, messages: &[LinkMessage]) -> Result<(), Stop> {
-    let count = messages.len();
-    writeln!(text, "messages {count}")?;
-    for message in messages {
-        print_message(alloc, text, message)?;
+/// What came over a link.
+fn print_message(page: &mut Page, message: &LinkMessage) {
+    match message {
+        LinkMessage::Hello(gateway) => {
+            page.number("hello ", u64::from(*gateway));
+            page.end();
+        }
+        LinkMessage::Digest(digest) => print_digest(page, digest),
+        LinkMessage::Delta(delta) => print_delta(page, delta),
     }
-    Ok(())
 }

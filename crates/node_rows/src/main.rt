@@ -74,8 +74,8 @@
 //! All these lines are played on both replicas, and a last line says that they print the same. What
 //! stands after a heading is played once, on the plain replica.
 //!
-//! Behind the heading `=== shifts` rows are of shifts. Each of the lines above may stand there, but
-//! `repeat`; and in a shift, during which the gateway is not open, those below. PLACE is where a
+//! Behind the heading `=== shifts` rows are of shifts. Each of the lines above may stand there; and
+//! in a shift, during which the gateway is not open, those below. PLACE is where a
 //! pass sits, from 0 on, in the order in which passes sat down in the row; those of an earlier
 //! shift stay in their places:
 //!
@@ -101,78 +101,130 @@
 //! The files:
 //!
 //! - `row`: what the lines of a row have brought about (`Row`), and the play of one more.
-//! - `fields`, `names`: lines that are read.
-//! - `gateways`, `calls`, `asking`, `deliveries`, `links`: lines that are played on both replicas.
-//! - `once`, `shifts`, `works`: those that are played once.
+//! - `words`, `names`: lines that are read, by a cursor over their words.
+//! - `page`, `printing`, `passing`: what is printed, and why no more is.
+//! - `gateways`, `steps`, `asking`, `deliveries`, `links`: lines that are played on both replicas.
+//! - `shifts`, `works`: those that are played once.
 //! - `seats`: passes in their seats, and calls by threads.
-//! - `printing`, `passing`: what is printed.
+//! - `calls`: calls of the libraries.
 //! - `stop`: why a line is not played.
 #![tactic(auto)]
 
 mod asking;
 mod calls;
 mod deliveries;
-mod fields;
 mod gateways;
 mod links;
 mod names;
-mod once;
+mod page;
 mod passing;
 mod printing;
 mod row;
 mod seats;
 mod shifts;
+mod steps;
 mod stop;
+mod words;
 mod works;
 
-use crate::names::Names;
-use crate::once::play_once;
-use crate::row::{Row, begin, play};
-use crate::stop::Stop;
+use crate::names::{Names, add, repeat};
+use crate::page::Page;
+use crate::row::Row;
+use crate::shifts::{Shifts, leave};
+use crate::stop::{Stop, broken};
+use crate::words::Words;
 use rep_model::Replica;
 use rep_plain::Plain;
 use rep_state::Folded;
 use std::alloc::{AllocError, Global};
 use std::io::{self, Input, Write};
-use std::mem;
 use std::process::ExitCode;
 use std::sync::Wait;
 use std::thread::Threads;
 use std::time::Clock;
 
+/// What lines may stand here.
+#[derive(Clone, Copy)]
+enum Part {
+    /// Lines that are played on both replicas.
+    Rows,
+    /// These, and lines about shifts.
+    Shifts,
+    /// Works of the benchmarks.
+    Works,
+}
+
+/// What the lines have brought about on a replica.
+#[derive(Drop)]
+struct Play<R: Replica> {
+    part: Part,
+    names: Names,
+    row: Row<R>,
+    shifts: Shifts<R>,
+}
+
 fn main(rt: HostRuntime) -> ExitCode {
-    match play_input(&rt) {
-        Ok(()) => ExitCode::SUCCESS,
-        Err(stop) => {
-            let _ = eprintln!(rt; "node_rows: {stop}");
+    let mut page = Page::new(rt.alloc());
+    play_input(&rt, &mut page);
+    write(&rt, &mut page);
+    match page.reason() {
+        None => ExitCode::SUCCESS,
+        Some(stop) => {
+            let _ = eprintln!(&rt; "node_rows: {stop}");
             ExitCode::FAILURE
         }
     }
 }
 
-/// Plays all lines of standard input, and writes what that prints.
-fn play_input<T>(rt: &T) -> Result<(), Stop>
+/// Plays all lines of standard input.
+fn play_input<T>(rt: &T, page: &mut Page)
 where
-    T: Threads + Wait + Sync + Clock + Input + Print + Eprint + AllocGlobal,
+    T: Threads + Wait + Sync + Clock + Input + Eprint + AllocGlobal,
 {
     let mut lines = Vec::new(rt.alloc());
-    read_lines(rt, &mut lines)?;
-    let mut printed = String::new(rt.alloc());
-    play_parts(rt, &mut printed, lines.as_slice())?;
-    Ok(io::writer(rt).write_all(printed.as_bytes())?)
+    match read_lines(rt, &mut lines) {
+        Ok(()) => play_parts(rt, page, lines.as_slice()),
+        Err(stop) => page.stop(stop),
+    }
+}
+
+/// The lines of standard input.
+fn read_lines<T: Input + AllocGlobal>(rt: &T, lines: &mut Vec<String>) -> Result<(), Stop> {
+    for line in rt.lines(rt.alloc()) {
+        read_line(lines, line)?;
+    }
+    Ok(())
+}
+
+/// A line after those that are there.
+fn read_line(lines: &mut Vec<String>, line: io::Result<String>) -> Result<(), Stop> {
+    match line {
+        Ok(line) => lines.push(line).map_err(|_| Stop::Memory),
+        Err(error) => Err(broken(&error)),
+    }
+}
+
+/// Writes the page, unless something else than a line ended the play.
+fn write<T: Print>(rt: &T, page: &mut Page) {
+    if page.reason().is_none() {
+        let written = io::writer(rt).write_all(page.printed().as_bytes());
+        if let Err(error) = &written {
+            page.stop(broken(error));
+        }
+    }
 }
 
 /// Plays the lines in front of the first heading on both replicas, if there are any, and those from
 /// it on once.
-fn play_parts<T>(rt: &T, text: &mut String, lines: &[String]) -> Result<(), Stop>
+fn play_parts<T>(rt: &T, page: &mut Page, lines: &[String])
 where
     T: Threads + Wait + Sync + Clock + Eprint + AllocGlobal,
 {
     let (rows, others) = lines.split_at(front(lines).min(lines.len()));
     if !rows.is_empty() {
-        print_both(rt.alloc(), text, rows)?;
+        play_both(rt, page, rows);
     }
-    play_once(rt, text, others)
+    play_lines::<T, Plain>(rt, page, others);
 }
 
 /// How many lines stand in front of the first heading.
@@ -185,111 +237,140 @@ fn front(lines: &[String]) -> usize {
     lines.len()
 }
 
-/// The lines of standard input.
-fn read_lines<T: Input + AllocGlobal>(rt: &T, lines: &mut Vec<String>) -> Result<(), Stop> {
-    for line in rt.lines(rt.alloc()) {
-        let line = line?;
-        lines.push(line)?;
+/// Plays lines on both replicas: prints what both print, which is the same, and a line that says
+/// so; where it is not, what each prints.
+fn play_both<T>(rt: &T, page: &mut Page, lines: &[String])
+where
+    T: Threads + Wait + Sync + Clock + Eprint + AllocGlobal,
+{
+    let mut plain = Page::new(rt.alloc());
+    play_lines::<T, Folded>(rt, page, lines);
+    play_lines::<T, Plain>(rt, &mut plain, lines);
+    if let Some(reason) = plain.reason() {
+        page.stop(reason);
     }
-    Ok(())
-}
-
-/// What both replicas print, which is the same, and a line that says so; where it is not, what each
-/// prints.
-fn print_both(alloc: Global, text: &mut String, lines: &[String]) -> Result<(), Stop> {
-    let mut plain = String::new(alloc);
-    play_all::<Folded>(alloc, text, lines)?;
-    play_all::<Plain>(alloc, &mut plain, lines)?;
-    Ok(print_difference(text, plain.as_str())?)
+    print_difference(page, plain.printed());
 }
 
 /// Whether the plain replica prints otherwise, and what.
-fn print_difference(text: &mut String, plain: &str) -> Result<(), AllocError> {
-    if text.as_str() == plain {
-        return text.push_str("== both replicas\nno difference\n");
+fn print_difference(page: &mut Page, plain: &str) {
+    if page.printed() == plain {
+        page.text("== both replicas\nno difference\n");
+    } else {
+        page.text("== the plain replica prints otherwise\n");
+        page.text(plain);
     }
-    text.push_str("== the plain replica prints otherwise\n")?;
-    text.push_str(plain)
 }
 
-/// Plays all lines on a replica.
-fn play_all<R: Replica>(alloc: Global, text: &mut String, lines: &[String]) -> Result<(), Stop> {
-    let mut row: Row<R> = begin(alloc);
-    let mut names = names::none(alloc);
-    let played = play_lines(alloc, text, &mut row, &mut names, lines);
-    drop(row);
-    drop(names);
-    played
-}
-
-/// Plays lines, one after the other.
-fn play_lines<R: Replica>(
-    alloc: Global,
-    text: &mut String,
-    row: &mut Row<R>,
-    names: &mut Names,
-    lines: &[String],
-) -> Result<(), Stop> {
+/// Plays lines on a replica, one after the other, until something else than a line ends the play.
+fn play_lines<T, R>(rt: &T, page: &mut Page, lines: &[String])
+where
+    T: Threads + Wait + Sync + Clock + Eprint + AllocGlobal,
+    R: Replica + Send,
+    R::Staged: Send,
+{
+    let mut play: Play<R> = begin(rt.alloc());
     for line in lines {
-        answer(alloc, text, row, names, line.as_str())?;
+        if page.reason().is_none() {
+            answer(rt, page, &mut play, line.as_str());
+        }
     }
-    Ok(())
+    leave(page, &mut play.shifts);
 }
 
-/// Plays a line; one that is none of the language is told.
-fn answer<R: Replica>(
-    alloc: Global,
-    text: &mut String,
-    row: &mut Row<R>,
-    names: &mut Names,
-    line: &str,
-) -> Result<(), Stop> {
-    if line.is_empty() || line.starts_with('#') {
-        return Ok(());
+/// No line has brought anything about.
+fn begin<R: Replica>(alloc: Global) -> Play<R> {
+    Play {
+        part: Part::Rows,
+        names: Names::new(alloc),
+        row: Row::new(alloc),
+        shifts: Shifts::new(alloc),
     }
-    match line.strip_prefix("== ") {
-        Some(name) => begin_row(alloc, text, row, name),
-        None => play_or_tell(alloc, text, row, names, line),
+}
+
+/// Plays a line; empty ones and explanations say nothing.
+fn answer<T, R>(rt: &T, page: &mut Page, play: &mut Play<R>, line: &str)
+where
+    T: Threads + Wait + Sync + Clock + Eprint + AllocGlobal,
+    R: Replica + Send,
+    R::Staged: Send,
+{
+    if !line.is_empty() && !line.starts_with('#') {
+        match line.strip_prefix("== ") {
+            Some(name) => begin_row(page, play, name),
+            None => answer_words(rt, page, play, line),
+        }
     }
 }
 
 /// A row of this name begins.
-fn begin_row<R: Replica>(
-    alloc: Global,
-    text: &mut String,
-    row: &mut Row<R>,
-    name: &str,
-) -> Result<(), Stop> {
-    drop(mem::replace(row, begin(alloc)));
-    Ok(writeln!(text, "== {name}")?)
+fn begin_row<R: Replica>(page: &mut Page, play: &mut Play<R>, name: &str) {
+    leave(page, &mut play.shifts);
+    play.row = Row::new(page.alloc());
+    play.shifts = Shifts::new(page.alloc());
+    page.text("== ");
+    page.text(name);
+    page.end();
 }
 
-/// Plays a line of words, or tells it.
-fn play_or_tell<R: Replica>(
-    alloc: Global,
-    text: &mut String,
-    row: &mut Row<R>,
-    names: &mut Names,
-    line: &str,
-) -> Result<(), Stop> {
-    match play_line(alloc, text, row, names, line) {
-        Err(Stop::Line) => Ok(writeln!(text, "no such line: {line}")?),
-        played => played,
+/// Plays a heading or a line of words; tells a line that is none of the language.
+fn answer_words<T, R>(rt: &T, page: &mut Page, play: &mut Play<R>, line: &str)
+where
+    T: Threads + Wait + Sync + Clock + Eprint + AllocGlobal,
+    R: Replica + Send,
+    R::Staged: Send,
+{
+    match line {
+        "=== shifts" => play.part = Part::Shifts,
+        "=== benchmarks" => play.part = Part::Works,
+        line => play_words(rt, page, play, line),
+    }
+    if page.forgive() {
+        page.text("no such line: ");
+        page.text(line);
+        page.end();
     }
 }
 
-/// Plays a line that is about names, or a row's.
-fn play_line<R: Replica>(
-    alloc: Global,
-    text: &mut String,
-    row: &mut Row<R>,
-    names: &mut Names,
-    line: &str,
-) -> Result<(), Stop> {
-    let words: Vec<&str> = line.split(' ').collect(alloc)?;
-    match words.as_slice() {
-        ["name", rest @ ..] => names::add(alloc, names, rest),
-        ["repeat", rest @ ..] => names::repeat(alloc, names, rest),
-        words => play(alloc, text, row, names, words),
+/// Plays a line of words.
+fn play_words<T, R>(rt: &T, page: &mut Page, play: &mut Play<R>, line: &str)
+where
+    T: Threads + Wait + Sync + Clock + Eprint + AllocGlobal,
+    R: Replica + Send,
+    R::Staged: Send,
+{
+    let words: Result<Vec<&str>, AllocError> = line.split(' ').collect(page.alloc());
+    match &words {
+        Ok(words) => play_line(rt, page, play, words.as_slice()),
+        Err(_) => page.stop(Stop::Memory),
+    }
+}
+
+/// Plays a line that is about names, or one of the part.
+fn play_line<T, R>(rt: &T, page: &mut Page, play: &mut Play<R>, words: &[&str])
+where
+    T: Threads + Wait + Sync + Clock + Eprint + AllocGlobal,
+    R: Replica + Send,
+    R::Staged: Send,
+{
+    match words {
+        ["name", fields @ ..] => add(page, &mut play.names, fields),
+        ["repeat", fields @ ..] => repeat(page, &mut play.names, fields),
+        words => {
+            let mut words = Words::new(rt.alloc(), &play.names, words);
+            let first = words.word();
+            match play.part {
+                Part::Rows => row::play(page, &mut play.row, first, &mut words),
+                Part::Shifts => shifts::play(
+                    rt,
+                    page,
+                    &mut play.row,
+                    &mut play.shifts,
+                    first,
+                    &mut words,
+                ),
+                Part::Works => works::play(rt, page, first, &mut words),
+            }
+        }
     }
 }

@@ -1,209 +1,131 @@
-//! What is printed.
+//! What is printed of answers, views, deltas and digests.
 
-use crate::stop::Stop;
-use gw_net::{LinkFault, LinkMessage};
+use crate::calls::{write_delta, write_digest};
+use crate::page::Page;
 use gw_node::{Answer, NodeFault, Out};
-use jr_journal::{Disk, MemoryDisk, Slot};
 use rep_digest::{Digest, RetainedEntry};
 use rep_model::ClientView;
 use rep_ops::{Delta, Retained};
 use sn_local::Send as Sending;
 use sn_plan::{Draft, plan_without};
 use sn_topic::TopicName;
-use std::alloc::{AllocError, Global};
-use std::fmt;
-
-/// Octets in hexadecimal digits, `-` for none.
-#[derive(Clone, Copy)]
-struct Digits<'a>(&'a [u8]);
-
-impl fmt::Display for Digits<'_> {
-    fn fmt<W: fmt::Write>(&self, f: &mut fmt::Formatter<W>) -> fmt::Result {
-        if self.0.is_empty() {
-            return f.write_str("-");
-        }
-        for octet in self.0 {
-            write!(f, "{octet:02x}")?;
-        }
-        Ok(())
-    }
-}
-
-/// The octets of a slot.
-pub(crate) fn print_slot(
-    alloc: Global,
-    text: &mut String,
-    disk: &mut MemoryDisk,
-    name: &str,
-    slot: Slot,
-) -> Result<(), Stop> {
-    let octets = slot_octets(alloc, disk, slot)?;
-    Ok(print_octets(text, name, &octets)?)
-}
-
-/// The octets that stand in a slot.
-fn slot_octets(alloc: Global, disk: &mut MemoryDisk, slot: Slot) -> Result<Vec<u8>, Stop> {
-    let Ok(size) = disk.len(slot) else {
-        return Err(Stop::Memory);
-    };
-    let mut octets = vec![in alloc; 0u8; size]?;
-    match disk.read_at(slot, 0, &mut octets) {
-        Ok(()) => Ok(octets),
-        Err(_) => Err(Stop::Memory),
-    }
-}
-
-/// A line of octets after a word.
-pub(crate) fn print_octets(text: &mut String, word: &str, octets: &[u8]) -> Result<(), AllocError> {
-    let octets = Digits(octets);
-    writeln!(text, "{word} {octets}")
-}
 
 /// What a gateway answered.
-pub(crate) fn print_answer(text: &mut String, answer: &Answer) -> Result<(), AllocError> {
+pub(crate) fn print_answer(page: &mut Page, answer: &Answer) {
     match answer {
         Ok(out) => {
-            text.push_str("answer")?;
-            print_out(text, out)?;
+            page.text("answer");
+            print_out(page, out);
         }
-        Err(fault) => print_refusal(text, fault)?,
+        Err(fault) => print_refusal(page, fault),
     }
-    text.push('\n')
+    page.end();
 }
 
 /// The number of a refusal, and the answer that it brings.
-pub(crate) fn print_refusal(text: &mut String, fault: &NodeFault) -> Result<(), AllocError> {
-    let number = fault.number();
-    write!(text, "refused N{number}")?;
-    match fault {
-        NodeFault::Disk { out } => print_out(text, out),
-        _ => Ok(()),
+pub(crate) fn print_refusal(page: &mut Page, fault: &NodeFault) {
+    page.number("refused N", u64::from(fault.number()));
+    if let NodeFault::Disk { out } = fault {
+        print_out(page, out);
     }
 }
 
 /// The parts of an answer.
-pub(crate) fn print_out(text: &mut String, out: &Out) -> Result<(), AllocError> {
-    print_sends(text, out.sends.as_slice())?;
+pub(crate) fn print_out(page: &mut Page, out: &Out) {
+    print_sends(page, out.sends.as_slice());
     if let Some(delta) = &out.made {
-        let count = delta.ops().len();
-        write!(text, ", made {count}")?;
+        page.length(", made ", delta.ops().len());
     }
-    match &out.view {
-        None => Ok(()),
-        Some(view) => print_view(text, view),
+    if let Some(view) = &out.view {
+        print_view(page, view);
     }
 }
 
 /// Datagrams, each with where it goes to.
-fn print_sends(text: &mut String, sends: &[Sending]) -> Result<(), AllocError> {
+fn print_sends(page: &mut Page, sends: &[Sending]) {
     for send in sends {
-        print_send(text, send)?;
+        page.number(", to ", u64::from(send.to.host));
+        page.number(":", u64::from(send.to.port));
+        page.octets(" ", send.bytes.as_slice());
     }
-    Ok(())
-}
-
-/// A datagram, and where it goes to.
-fn print_send(text: &mut String, send: &Sending) -> Result<(), AllocError> {
-    let (host, port) = (send.to.host, send.to.port);
-    let octets = Digits(send.bytes.as_slice());
-    write!(text, ", to {host}:{port} {octets}")
 }
 
 /// The stamp of a view, the duration of its session, and how many messages wait.
-fn print_view(text: &mut String, view: &ClientView) -> Result<(), AllocError> {
+fn print_view(page: &mut Page, view: &ClientView) {
     if let Some(stamp) = view.stamp {
-        let (epoch, gateway) = (stamp.epoch, stamp.gateway);
-        write!(text, ", stamp {epoch}.{gateway}")?;
+        page.number(", stamp ", u64::from(stamp.epoch));
+        page.number(".", u64::from(stamp.gateway));
     }
     if let Some(session) = &view.session {
-        let seconds = session.duration;
-        write!(text, ", seconds {seconds}")?;
+        page.number(", seconds ", u64::from(session.duration));
     }
-    let count = view.pending.len();
-    write!(text, ", waiting {count}")
+    page.length(", waiting ", view.pending.len());
 }
 
 /// The line of what is retained of a topic.
-pub(crate) fn print_retained(
-    text: &mut String,
-    topic: &TopicName,
-    retained: &Retained,
-) -> Result<(), AllocError> {
-    let (clock, gateway, qos) = (retained.clock, retained.gateway, retained.qos.number());
-    let topic = Digits(topic.bytes());
-    let body = Digits(retained.body.as_slice());
-    writeln!(text, "retain {clock}.{gateway} {qos} {topic} {body}")
+pub(crate) fn print_retained(page: &mut Page, topic: &TopicName, retained: &Retained) {
+    page.number("retain ", u64::from(retained.clock));
+    page.number(".", u64::from(retained.gateway));
+    page.number(" ", u64::from(retained.qos.number()));
+    page.octets(" ", topic.bytes());
+    page.octets(" ", retained.body.as_slice());
+    page.end();
+}
+
+/// Of how many clients a digest is, and what it has of topics.
+pub(crate) fn print_known(page: &mut Page, digest: &Digest) {
+    page.length("digest of ", digest.clients().len());
+    page.end();
+    for entry in digest.topics() {
+        print_topic(page, entry);
+    }
 }
 
 /// The line of what a digest has of a topic.
-pub(crate) fn print_topic(text: &mut String, entry: &RetainedEntry) -> Result<(), AllocError> {
-    let topic = Digits(entry.topic.bytes());
-    let (clock, gateway) = (entry.clock, entry.gateway);
-    writeln!(text, "topic {topic} {clock}.{gateway}")
+fn print_topic(page: &mut Page, entry: &RetainedEntry) {
+    page.octets("topic ", entry.topic.bytes());
+    page.number(" ", u64::from(entry.clock));
+    page.number(".", u64::from(entry.gateway));
+    page.end();
 }
 
 /// What is drafted.
-pub(crate) fn print_draft(
-    alloc: Global,
-    text: &mut String,
-    draft: Draft,
-) -> Result<(), AllocError> {
-    print_drafted(text, &draft)?;
-    let plan = plan_without(alloc, draft);
-    print_sends(text, plan.sends.as_slice())?;
-    text.push('\n')
-}
-
-/// How many changes there are, and the messages that are acknowledged.
-fn print_drafted(text: &mut String, draft: &Draft) -> Result<(), AllocError> {
-    let count = draft.changes().len();
-    write!(text, "changes {count}")?;
+pub(crate) fn print_draft(page: &mut Page, draft: Draft) {
+    page.length("changes ", draft.changes().len());
     for (number, origin) in draft.acks() {
-        write!(text, ", has {origin}.{number}")?;
+        page.number(", has ", u64::from(*origin));
+        page.number(".", *number);
     }
-    Ok(())
-}
-
-/// What came over a link.
-pub(crate) fn print_message(
-    alloc: Global,
-    text: &mut String,
-    message: &LinkMessage,
-) -> Result<(), Stop> {
-    match message {
-        LinkMessage::Hello(gateway) => print_hello(text, *gateway),
-        LinkMessage::Digest(digest) => print_digest(alloc, text, digest),
-        LinkMessage::Delta(delta) => print_delta(alloc, text, delta),
-    }
-}
-
-/// A hello of this gateway.
-fn print_hello(text: &mut String, gateway: u8) -> Result<(), Stop> {
-    Ok(writeln!(text, "hello {gateway}")?)
+    let plan = plan_without(page.alloc(), draft);
+    print_sends(page, plan.sends.as_slice());
+    drop(plan);
+    page.end();
 }
 
 /// The octets of a digest.
-pub(crate) fn print_digest(alloc: Global, text: &mut String, digest: &Digest) -> Result<(), Stop> {
-    let mut bytes = Vec::new(alloc);
-    match digest.encode(alloc, &mut bytes) {
-        Ok(()) => Ok(print_octets(text, "digest", &bytes)?),
-        Err(_) => Err(Stop::Memory),
-    }
+pub(crate) fn print_digest(page: &mut Page, digest: &Digest) {
+    let mut octets = Vec::new(page.alloc());
+    let is_short = write_digest(page.alloc(), digest, &mut octets).is_err();
+    page.stop_if_short(is_short);
+    print_octets(page, "digest ", &octets);
 }
 
 /// The octets of a delta.
-pub(crate) fn print_delta(alloc: Global, text: &mut String, delta: &Delta) -> Result<(), Stop> {
-    let mut bytes = Vec::new(alloc);
-    match delta.encode(alloc, &mut bytes) {
-        Ok(()) => Ok(print_octets(text, "delta", &bytes)?),
-        Err(_) => Err(Stop::Memory),
-    }
+pub(crate) fn print_delta(page: &mut Page, delta: &Delta) {
+    let mut octets = Vec::new(page.alloc());
+    let is_short = write_delta(page.alloc(), delta, &mut octets).is_err();
+    page.stop_if_short(is_short);
+    print_octets(page, "delta ", &octets);
 }
 
-/// Why a link has failed, where it has.
-pub(crate) fn print_fault(text: &mut String, fault: Option<LinkFault>) -> Result<(), Stop> {
-    match fault {
-        None => Ok(()),
-        Some(fault) => Ok(writeln!(text, "fault: {fault}")?),
-    }
+/// A line of octets after a text.
+pub(crate) fn print_octets(page: &mut Page, text: &str, octets: &[u8]) {
+    page.octets(text, octets);
+    page.end();
+}
+
+/// A line of a length after a text.
+pub(crate) fn print_length(page: &mut Page, text: &str, length: usize) {
+    page.length(text, length);
+    page.end();
 }

@@ -1,12 +1,13 @@
 //! A row: what its lines have brought about so far, and the play of one more.
 
 use crate::asking::ask;
-use crate::calls::{call_once, call_thrice};
 use crate::deliveries;
-use crate::gateways::{Store, empty, fail, open, opened, slots, state};
+use crate::gateways::{Store, fail, open, slots, state};
 use crate::links::{beginnings, digest, feed, say, within};
-use crate::names::Names;
+use crate::page::Page;
+use crate::steps::{call_as_value, call_once};
 use crate::stop::Stop;
+use crate::words::Words;
 use gw_net::LinkIn;
 use gw_node::Node;
 use jr_journal::MemoryDisk;
@@ -23,83 +24,60 @@ pub(crate) struct Row<R: Replica> {
     said: Vec<u8>,
 }
 
-/// A row without a line.
-pub(crate) fn begin<R: Replica>(alloc: Global) -> Row<R> {
-    Row {
-        store: empty(alloc),
-        link: LinkIn::new(),
-        said: Vec::new(alloc),
+impl<R: Replica> Row<R> {
+    /// A row without a line.
+    pub(crate) fn new(alloc: Global) -> Row<R> {
+        Row {
+            store: Store::new(alloc),
+            link: LinkIn::new(),
+            said: Vec::new(alloc),
+        }
     }
 }
 
-/// Plays a line.
-pub(crate) fn play<R: Replica>(
-    alloc: Global,
-    text: &mut String,
-    row: &mut Row<R>,
-    names: &Names,
-    words: &[&str],
-) -> Result<(), Stop> {
-    let Some((first, rest)) = words.split_first() else {
-        return Err(Stop::Line);
-    };
-    match *first {
-        "open" | "fail" | "slots" => play_store(alloc, text, &mut row.store, first, rest),
-        "digest" | "beginnings" => play_digest(alloc, text, names, first, rest),
-        "say" => say(alloc, text, names, &mut row.said, rest),
-        "within" => within(alloc, text, names, rest),
-        "feed" => feed(alloc, text, names, &mut row.link, rest),
-        _ => play_opened(alloc, text, names, opened(&mut row.store)?, words),
-    }
-}
-
-/// Lines about digests.
-fn play_digest(
-    alloc: Global,
-    text: &mut String,
-    names: &Names,
-    first: &str,
-    rest: &[&str],
-) -> Result<(), Stop> {
+/// Plays a line whose first word this is. Each of the functions below knows the words of some
+/// lines, and leaves all others to the next.
+pub(crate) fn play<R: Replica>(page: &mut Page, row: &mut Row<R>, first: &str, words: &mut Words) {
     match first {
-        "digest" => digest(alloc, text, names, rest),
-        _ => beginnings(alloc, text, names, rest),
+        "open" => open(page, &mut row.store, words),
+        "fail" => fail(page, &mut row.store, words),
+        "slots" => slots(page, &mut row.store, words),
+        first => play_link(page, row, first, words),
+    }
+}
+
+/// Lines about digests, and about a link.
+fn play_link<R: Replica>(page: &mut Page, row: &mut Row<R>, first: &str, words: &mut Words) {
+    match first {
+        "digest" => digest(page, words),
+        "beginnings" => beginnings(page, words),
+        "say" => say(page, &mut row.said, words),
+        "within" => within(page, words),
+        "feed" => feed(page, &mut row.link, words),
+        first => play_opened(page, &mut row.store, first, words),
+    }
+}
+
+/// Lines about the gateway, which is to be open.
+fn play_opened<R: Replica>(page: &mut Page, store: &mut Store<R>, first: &str, words: &mut Words) {
+    match &mut store.node {
+        Some(node) => play_node(page, node, first, words),
+        None => page.stop(Stop::Line),
     }
 }
 
 /// Lines about the gateway that is open.
-fn play_opened<R: Replica>(
-    alloc: Global,
-    text: &mut String,
-    names: &Names,
+fn play_node<R: Replica>(
+    page: &mut Page,
     node: &mut Node<R, MemoryDisk>,
-    words: &[&str],
-) -> Result<(), Stop> {
-    let Some((first, rest)) = words.split_first() else {
-        return Err(Stop::Line);
-    };
-    match *first {
-        "state" => state(alloc, text, node),
-        "ask" => ask(alloc, text, names, node, rest),
-        "deliver" | "resend" | "hear" | "meaning" => {
-            deliveries::play(alloc, text, node, names, first, rest)
-        }
-        "thrice" => call_thrice(alloc, text, names, node, rest),
-        _ => call_once(alloc, text, names, node, words),
-    }
-}
-
-/// Lines about a disk and what is opened on it.
-fn play_store<R: Replica>(
-    alloc: Global,
-    text: &mut String,
-    store: &mut Store<R>,
     first: &str,
-    rest: &[&str],
-) -> Result<(), Stop> {
+    words: &mut Words,
+) {
     match first {
-        "open" => open(alloc, text, store, rest),
-        "fail" => fail(store, rest),
-        _ => slots(alloc, text, store),
+        "state" => state(page, node, words),
+        "ask" => ask(page, node, words),
+        "thrice" => call_as_value(page, node, words),
+        "deliver" | "resend" | "hear" | "meaning" => deliveries::play(page, node, first, words),
+        first => call_once(page, node, first, words),
     }
 }

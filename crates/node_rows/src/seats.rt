@@ -1,7 +1,7 @@
 //! Passes in their seats, and calls that they make: one pass, or several at the same time.
 
-use crate::passing::check_call;
-use crate::stop::Stop;
+use crate::page::Page;
+use crate::passing::is_memory;
 use gw_node::{Out, Step};
 use gw_shift::{CallFault, Pass, Shift};
 use jr_journal::Disk;
@@ -14,6 +14,12 @@ use std::thread::{Threads, join};
 
 /// How often a thread looks whether the others have come too.
 const TURNS: u64 = 100_000;
+
+/// A seat, and the pass that sits in it.
+pub(crate) type Seat = Option<Pass>;
+
+/// What a call of a pass was answered, with its number, or why it has no answer.
+pub(crate) type Called = Result<(Arc<Out>, u64), CallFault>;
 
 /// Threads that begin at once, and what they note.
 #[derive(Drop)]
@@ -49,163 +55,151 @@ impl Start {
     }
 }
 
-/// What a pass made: the pass, the latest answer, its number, and the number of the call before.
-pub(crate) type Made = (Pass, Arc<Out>, u64, u64);
+/// What the calls of a pass brought, one after the other.
+#[derive(Drop)]
+pub(crate) struct Turn {
+    /// How many were answered.
+    pub(crate) answered: u64,
+    /// The number of the answered call before the latest, and that of the latest; 0 for none.
+    pub(crate) before: u64,
+    pub(crate) number: u64,
+    /// The latest answer.
+    pub(crate) out: Option<Arc<Out>>,
+    /// Memory ran out.
+    pub(crate) is_short: bool,
+}
 
-/// Two calls of a pass, and one of another.
-pub(crate) type Steps = ((Arc<Step>, Arc<Step>), Arc<Step>);
+impl Turn {
+    /// No call.
+    pub(crate) fn new() -> Turn {
+        Turn {
+            answered: 0,
+            before: 0,
+            number: 0,
+            out: None,
+            is_short: false,
+        }
+    }
+
+    /// Notes what a call brought; nothing if nobody sits there to make it.
+    fn note(&mut self, called: Option<Called>) {
+        match called {
+            Some(Ok((out, number))) => {
+                self.answered = self.answered.saturating_add(1);
+                self.before = self.number;
+                self.number = number;
+                self.out = Some(out);
+            }
+            Some(Err(fault)) => self.is_short = self.is_short || is_memory(&fault),
+            None => {}
+        }
+    }
+}
 
 /// Seats passes after those that are seated.
-pub(crate) fn seated(seats: &mut Vec<Option<Pass>>, passes: Vec<Pass>) -> Result<(), Stop> {
+pub(crate) fn seat_all(page: &mut Page, seats: &mut Vec<Seat>, passes: Vec<Pass>) {
     for pass in passes {
-        seats.push(Some(pass))?;
+        let is_short = seats.push(Some(pass)).is_err();
+        page.stop_if_short(is_short);
     }
-    Ok(())
 }
 
-/// The passes of all seats.
-pub(crate) fn risen(alloc: Global, seats: Vec<Option<Pass>>) -> Result<Vec<Pass>, Stop> {
-    let mut passes = Vec::new(alloc);
-    for seat in seats {
-        if let Some(pass) = seat {
-            passes.push(pass)?;
+/// The pass in a seat gets up.
+pub(crate) fn rise(seats: &mut [Seat], place: usize) -> Seat {
+    match seats.get_mut(place) {
+        Some(seat) => seat.take(),
+        None => None,
+    }
+}
+
+/// The pass that got up from a place sits down there again.
+pub(crate) fn sit_down(seats: &mut [Seat], place: usize, pass: Seat) {
+    if let Some(seat) = seats.get_mut(place) {
+        *seat = pass;
+    }
+}
+
+/// Whether a pass sits at a place.
+pub(crate) fn sits(seats: &[Seat], place: usize) -> bool {
+    matches!(seats.get(place), Some(Some(_)))
+}
+
+/// The pass in a seat makes a call, and sits down again. Nothing if nobody sits there.
+pub(crate) fn call<W: Wait, R: Replica, D: Disk + Drop>(
+    rt: &W,
+    alloc: Global,
+    shift: &Shift<R, D>,
+    seat: &mut Seat,
+    step: &Arc<Step>,
+) -> Option<Called> {
+    let pass = seat.take()?;
+    match step.clone() {
+        Ok(step) => Some(returned(seat, shift.call(rt, alloc, pass, step))),
+        Err(_) => {
+            *seat = Some(pass);
+            Some(Err(CallFault::Memory))
         }
     }
-    Ok(passes)
 }
 
-/// The pass makes a call, and comes back; and how many answers that brought, none if it was
-/// refused.
-fn returned<W: Wait, R: Replica, D: Disk + Drop>(
-    rt: &W,
-    alloc: Global,
-    shift: &Shift<R, D>,
-    pass: Pass,
-    step: Arc<Step>,
-) -> (Pass, Result<u64, Stop>) {
-    match shift.call(rt, alloc, pass, step) {
-        Ok((pass, _out, _number)) => (pass, Ok(1)),
-        Err((pass, fault)) => (pass, no_answer(&fault)),
+/// A pass that made a call sits down again: what the call brought.
+fn returned(seat: &mut Seat, made: Result<(Pass, Arc<Out>, u64), (Pass, CallFault)>) -> Called {
+    match made {
+        Ok((pass, out, number)) => {
+            *seat = Some(pass);
+            Ok((out, number))
+        }
+        Err((pass, fault)) => {
+            *seat = Some(pass);
+            Err(fault)
+        }
     }
 }
 
-/// No answer, unless memory ran out.
-fn no_answer(fault: &CallFault) -> Result<u64, Stop> {
-    check_call(fault)?;
-    Ok(0)
-}
-
-/// The pass in a seat makes so many calls, and sits down again. How many were answered.
-pub(crate) fn sit<W: Wait, R: Replica, D: Disk + Drop>(
+/// The pass in a seat makes a call so many times.
+pub(crate) fn call_often<W: Wait, R: Replica, D: Disk + Drop>(
     rt: &W,
     alloc: Global,
     shift: &Shift<R, D>,
-    seat: &mut Option<Pass>,
+    seat: &mut Seat,
     step: &Arc<Step>,
     calls: usize,
-) -> Result<u64, Stop> {
-    let mut answered = 0u64;
+) -> Turn {
+    let mut turn = Turn::new();
     for _ in 0..calls {
-        let Ok(step) = step.clone() else {
-            return Err(Stop::Memory);
-        };
-        if let Some(pass) = seat.take() {
-            let (pass, count) = returned(rt, alloc, shift, pass, step);
-            *seat = Some(pass);
-            answered = answered.saturating_add(count?);
-        }
+        turn.note(call(rt, alloc, shift, seat, step));
     }
-    Ok(answered)
+    turn
 }
 
 /// The same once all threads have come to this point. Notes if memory ran out.
-fn sit_at_once<W: Wait, R: Replica, D: Disk + Drop>(
+fn call_at_once<W: Wait, R: Replica, D: Disk + Drop>(
     rt: &W,
     alloc: Global,
     shift: &Shift<R, D>,
     start: &Start,
-    seat: &mut Option<Pass>,
+    seat: &mut Seat,
     step: &Arc<Step>,
     calls: usize,
 ) {
     start.wait();
-    if sit(rt, alloc, shift, seat, step, calls).is_err() {
+    let turn = call_often(rt, alloc, shift, seat, step, calls);
+    if turn.is_short {
         start.is_short.store(true, Ordering::SeqCst);
     }
+    drop(turn);
 }
 
-/// What a pass was answered. If its call was refused, that ends the line, or the program if memory
-/// ran out.
-fn made(
-    called: Result<(Pass, Arc<Out>, u64), (Pass, CallFault)>,
-) -> Result<(Pass, Arc<Out>, u64), Stop> {
-    match called {
-        Ok(made) => Ok(made),
-        Err((_pass, fault)) => {
-            check_call(&fault)?;
-            Err(Stop::Line)
-        }
-    }
-}
-
-/// Two calls of a pass, where both succeed.
-fn two_calls<W: Wait, R: Replica, D: Disk + Drop>(
-    rt: &W,
-    alloc: Global,
-    shift: &Shift<R, D>,
-    pass: Pass,
-    steps: (Arc<Step>, Arc<Step>),
-) -> Result<Made, Stop> {
-    let (pass, _out, first) = made(shift.call(rt, alloc, pass, steps.0))?;
-    let (pass, out, second) = made(shift.call(rt, alloc, pass, steps.1))?;
-    Ok((pass, out, second, first))
-}
-
-/// A call of a pass, where it succeeds.
-fn one_call<W: Wait, R: Replica, D: Disk + Drop>(
-    rt: &W,
-    alloc: Global,
-    shift: &Shift<R, D>,
-    pass: Pass,
-    step: Arc<Step>,
-) -> Result<Made, Stop> {
-    let (pass, out, number) = made(shift.call(rt, alloc, pass, step))?;
-    Ok((pass, out, number, 0))
-}
-
-/// A pass makes two calls and another pass makes one, each in a thread of its own.
-pub(crate) fn side_by_side<T, R, D>(
+/// The passes in the seats make a call so many times each, each pass in a thread of its own and all
+/// at once. Whether memory ran out.
+pub(crate) fn call_all<T, R, D>(
     rt: &T,
     alloc: Global,
     shift: &Shift<R, D>,
-    passes: (Pass, Pass),
-    steps: Steps,
-) -> (Result<Made, Stop>, Result<Made, Stop>)
-where
-    T: Threads + Wait + Sync,
-    R: Replica + Send,
-    R::Staged: Send,
-    D: Disk + Drop + Send,
-{
-    let (a, b) = passes;
-    let (two, one) = steps;
-    join(
-        rt,
-        || -> Result<Made, Stop> { two_calls(rt, alloc, shift, a, two) },
-        || -> Result<Made, Stop> { one_call(rt, alloc, shift, b, one) },
-    )
-}
-
-/// The passes in the seats make so many calls each, each pass in a thread of its own and all at
-/// once.
-pub(crate) fn sit_all<T, R, D>(
-    rt: &T,
-    alloc: Global,
-    shift: &Shift<R, D>,
-    seats: &mut [Option<Pass>],
+    seats: &mut [Seat],
     step: &Arc<Step>,
     calls: usize,
-) -> Result<(), Stop>
+) -> bool
 where
     T: Threads + Wait + Sync,
     R: Replica + Send,
@@ -215,13 +209,61 @@ where
     let threads = seats.len();
     let start = Start::new(threads);
     if threads > 0 {
-        let sit = |_place: usize, seat: &mut Option<Pass>| {
-            sit_at_once(rt, alloc, shift, &start, seat, step, calls)
+        let sit = |_place: usize, seat: &mut Seat| {
+            call_at_once(rt, alloc, shift, &start, seat, step, calls)
         };
         thread::for_each_mut(rt, seats, threads, &sit);
     }
-    if start.is_short.load(Ordering::SeqCst) {
-        return Err(Stop::Memory);
-    }
-    Ok(())
+    start.is_short.load(Ordering::SeqCst)
+}
+
+/// The pass that sat in a seat makes two calls, one after the other.
+fn two_calls<W: Wait, R: Replica, D: Disk + Drop>(
+    rt: &W,
+    alloc: Global,
+    shift: &Shift<R, D>,
+    seat: Seat,
+    first: &Arc<Step>,
+    second: &Arc<Step>,
+) -> (Seat, Turn) {
+    let mut seat = seat;
+    let mut turn = call_often(rt, alloc, shift, &mut seat, first, 1);
+    turn.note(call(rt, alloc, shift, &mut seat, second));
+    (seat, turn)
+}
+
+/// The pass that sat in a seat makes a call.
+fn one_call<W: Wait, R: Replica, D: Disk + Drop>(
+    rt: &W,
+    alloc: Global,
+    shift: &Shift<R, D>,
+    seat: Seat,
+    step: &Arc<Step>,
+) -> (Seat, Turn) {
+    let mut seat = seat;
+    let turn = call_often(rt, alloc, shift, &mut seat, step, 1);
+    (seat, turn)
+}
+
+/// A pass makes two calls and another pass makes one, each in a thread of its own.
+pub(crate) fn side_by_side<T, R, D>(
+    rt: &T,
+    alloc: Global,
+    shift: &Shift<R, D>,
+    seats: (Seat, Seat),
+    steps: (&Arc<Step>, &Arc<Step>, &Arc<Step>),
+) -> ((Seat, Turn), (Seat, Turn))
+where
+    T: Threads + Wait + Sync,
+    R: Replica + Send,
+    R::Staged: Send,
+    D: Disk + Drop + Send,
+{
+    let (a, b) = seats;
+    let (first, second, third) = steps;
+    join(
+        rt,
+        || -> (Seat, Turn) { two_calls(rt, alloc, shift, a, first, second) },
+        || -> (Seat, Turn) { one_call(rt, alloc, shift, b, third) },
+    )
 }

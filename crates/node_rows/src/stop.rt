@@ -1,9 +1,7 @@
 //! Why a line is not played.
 
 use gw_node::{Answer, NodeFault};
-use octets::NoMemory;
 use rep_ops::OpsFault;
-use std::alloc::{AllocError, AllocFailed};
 use std::{fmt, io};
 
 /// Why a line is not played.
@@ -31,46 +29,31 @@ impl fmt::Display for Stop {
     }
 }
 
-/// Ends the program if memory ran out, in a call of a gateway or in its disk.
-pub(crate) fn check_memory(answer: &Answer, is_starved: bool) -> Result<(), Stop> {
-    if is_starved || matches!(answer, Err(NodeFault::Memory)) {
-        return Err(Stop::Memory);
-    }
-    Ok(())
+/// Whether memory ran out in a call of a gateway, or in its disk.
+pub(crate) fn is_short(answer: &Answer, is_starved: bool) -> bool {
+    is_starved || matches!(answer, Err(NodeFault::Memory))
 }
 
-impl From<io::Error> for Stop {
-    fn from(error: io::Error) -> Stop {
-        match error.kind() {
-            io::ErrorKind::OutOfMemory => Stop::Memory,
-            _ => Stop::Stream,
-        }
+/// Why octets of a line are not read: memory ran out, or they spell nothing.
+pub(crate) fn misread(fault: &OpsFault) -> Stop {
+    match fault {
+        OpsFault::Memory => Stop::Memory,
+        _ => Stop::Line,
     }
 }
 
-impl From<OpsFault> for Stop {
-    fn from(fault: OpsFault) -> Stop {
-        match fault {
-            OpsFault::Memory => Stop::Memory,
-            _ => Stop::Work,
-        }
+/// Why a work stops at a refused call.
+pub(crate) fn unworked(fault: &OpsFault) -> Stop {
+    match fault {
+        OpsFault::Memory => Stop::Memory,
+        _ => Stop::Work,
     }
 }
 
-impl From<AllocError> for Stop {
-    fn from(_error: AllocError) -> Stop {
-        Stop::Memory
-    }
-}
-
-impl From<NoMemory> for Stop {
-    fn from(_error: NoMemory) -> Stop {
-        Stop::Memory
-    }
-}
-
-impl<T: Drop> From<AllocFailed<T>> for Stop {
-    fn from(_error: AllocFailed<T>) -> Stop {
-        Stop::Memory
+/// Why a stream of the program failed.
+pub(crate) fn broken(error: &io::Error) -> Stop {
+    match error.kind() {
+        io::ErrorKind::OutOfMemory => Stop::Memory,
+        _ => Stop::Stream,
     }
 }

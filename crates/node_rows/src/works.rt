@@ -16,6 +16,7 @@
 //! - `numbers`: a sequence of numbers that is the same in each run (`Numbers`, `checksum`).
 //! - `datagrams`: a mixed stream of datagrams.
 //! - `frames`: each datagram of the stream decoded and encoded again.
+//! - `making`: operations that put clients and messages there.
 //! - `operations`: the operations of a delta of about 8 MiB.
 //! - `deltas`: that delta encoded and decoded again.
 //! - `records`: one change of a session appended to a journal on a disk in memory.
@@ -28,71 +29,55 @@ mod datagrams;
 mod deltas;
 mod digests;
 mod frames;
+mod making;
 mod numbers;
 mod operations;
 mod pair;
 mod records;
 
-use crate::fields::number;
-use crate::stop::Stop;
-use rep_ops::{Delta, Op};
-use std::alloc::Global;
+use crate::page::Page;
+use crate::stop::{Stop, unworked};
+use crate::words::Words;
+use rep_ops::OpsFault;
 use std::sync::Wait;
 use std::thread::Threads;
 use std::time::Clock;
 
-/// Plays a line.
-pub(crate) fn play<T>(rt: &T, text: &mut String, words: &[&str]) -> Result<(), Stop>
+/// Plays a line whose first word this is.
+pub(crate) fn play<T>(rt: &T, page: &mut Page, name: &str, words: &mut Words)
 where
     T: Threads + Wait + Sync + Clock + Eprint + AllocGlobal,
 {
-    match words {
-        [name, rounds] => work(rt.alloc(), text, name, count(rounds)?),
-        [name, threads, rounds] => {
-            calls::run(
-                rt,
-                text,
-                name,
-                usize::from(number(threads)?),
-                number(rounds)?,
-            )
+    let count = words.large();
+    if words.has_more() {
+        let rounds = words.number();
+        words.require(count <= calls::MOST);
+        if words.end(page) {
+            calls::run(rt, page, name, count as usize, rounds);
         }
-        _ => Err(Stop::Line),
-    }
-}
-
-/// How often a work is done.
-fn count(text: &str) -> Result<u32, Stop> {
-    match text.parse::<u32>() {
-        Ok(count) => Ok(count),
-        Err(_) => Err(Stop::Line),
+    } else if words.end(page) {
+        work(page, name, count);
     }
 }
 
 /// A work that is no calls.
-fn work(alloc: Global, text: &mut String, name: &str, rounds: u32) -> Result<(), Stop> {
+fn work(page: &mut Page, name: &str, rounds: u32) {
     match name {
-        "frames" => frames::run(alloc, text, rounds),
-        "deltas" => deltas::run(alloc, text, rounds),
-        "records" => records::run(alloc, text, rounds),
-        "digests" => digests::run(alloc, text, rounds),
-        _ => Err(Stop::Line),
+        "frames" => frames::run(page, rounds),
+        "deltas" => deltas::run(page, rounds),
+        "records" => records::run(page, rounds),
+        "digests" => digests::run(page, rounds),
+        _ => page.stop(Stop::Line),
     }
 }
 
-/// The delta of operations. Of the call nothing is said here, so that who makes it carries no
-/// clause on.
-pub(crate) fn delta_of(alloc: Global, ops: Vec<Op>) -> Result<Delta, Stop> {
-    match Delta::from_ops(alloc, ops) {
-        Ok(delta) => Ok(delta),
-        Err(fault) => Err(Stop::from(fault)),
-    }
-}
-
-/// Puts the octets of a delta after those that are there.
-pub(crate) fn write_delta(alloc: Global, delta: &Delta, out: &mut Vec<u8>) -> Result<(), Stop> {
-    match delta.encode(alloc, out) {
-        Ok(()) => Ok(()),
-        Err(fault) => Err(Stop::from(fault)),
+/// What a call of a work gave; nothing if it was refused.
+fn worked<T>(page: &mut Page, given: Result<T, OpsFault>) -> Option<T> {
+    match given {
+        Ok(given) => Some(given),
+        Err(fault) => {
+            page.stop(unworked(&fault));
+            None
+        }
     }
 }

@@ -1,117 +1,137 @@
 //! How the call of a row is made, and made again.
 
 use crate::said::{Said, Stop};
-use std::alloc::Global;
+use std::alloc::AllocError;
 
 /// The calls whose rows make two of them.
-const TWICE: [&str; 11] = [
-    "decode",
-    "encode",
-    "digest_of",
-    "answer",
-    "Journal::open",
-    "Node::open",
-    "Node::frame",
-    "run",
-    "LinkIn::feed",
-    "link_out",
-    "settings",
-];
+const TWICE: &str = "
+    decode
+    encode
+    digest_of
+    answer
+    Journal::open
+    Node::open
+    Node::frame
+    run
+    LinkIn::feed
+    link_out
+    settings
+";
 
 /// The calls of some rows, with what they need.
 pub(crate) trait Calls: Drop {
-    /// Makes what a call needs, or what the second call of its row needs.
-    fn make(alloc: Global, call: &str, is_second: bool) -> Result<Self, Stop>;
-
     /// Calls, and prints what that gives. If the call is refused memory, looks at what must not
     /// have changed.
-    fn call_once(&mut self, alloc: Global, said: &mut Said, call: &str) -> Result<(), Stop>;
+    fn call_once(&mut self, said: &mut Said, call: &str);
+}
+
+/// What calls need, where nothing is asked of the system.
+pub(crate) trait Made: Calls {
+    /// Makes what a call needs, or what the second call of its row needs. There is nothing if
+    /// memory is refused.
+    fn make(said: &mut Said, call: &str, is_second: bool) -> Option<Self>;
 }
 
 /// What a call gives.
 pub(crate) trait Shown: Drop {
     /// Prints it.
-    fn show(self, alloc: Global, said: &mut Said) -> Result<(), Stop>;
+    fn show(&self, said: &mut Said);
 }
 
 /// Plays a row: its call, or its two calls.
-pub(crate) fn play<C: Calls>(alloc: Global, said: &mut Said, call: &str) -> Result<(), Stop> {
-    call_again::<C>(alloc, said, call, false)?;
-    for other in TWICE {
-        if call == other {
-            call_again::<C>(alloc, said, call, true)?;
+pub(crate) fn play<C: Made>(said: &mut Said, call: &str) {
+    play_made::<C>(said, call, false);
+    if is_one_of(call, TWICE) {
+        play_made::<C>(said, call, true);
+    }
+}
+
+/// Whether a word is one of these.
+pub(crate) fn is_one_of(word: &str, words: &str) -> bool {
+    for other in words.split_whitespace() {
+        if word == other {
+            return true;
         }
     }
-    Ok(())
+    false
+}
+
+/// Makes what a call of a row needs, and plays it.
+fn play_made<C: Made>(said: &mut Said, call: &str, is_second: bool) {
+    if let Some(mut calls) = C::make(said, call, is_second) {
+        play_call(said, &mut calls, call);
+    }
 }
 
 /// Makes a call, and makes it again if it is refused memory.
-fn call_again<C: Calls>(
-    alloc: Global,
-    said: &mut Said,
-    call: &str,
-    is_second: bool,
-) -> Result<(), Stop> {
-    let mut calls = C::make(alloc, call, is_second)?;
+pub(crate) fn play_call<C: Calls>(said: &mut Said, calls: &mut C, call: &str) {
+    said.ask();
     for _ in 0..2 {
-        match calls.call_once(alloc, said, call) {
-            Ok(()) => return Ok(()),
-            Err(stop) => said.count(stop)?,
+        if said.is_asking() {
+            calls.call_once(said, call);
         }
     }
-    Err(Stop::Other)
+    if !said.is_answered() {
+        said.stop(Stop::Other);
+    }
 }
 
 /// What a call beside gives. If that is refused, the row begins again.
-pub(crate) fn beside<T, F: Drop>(answer: Result<T, F>) -> Result<T, Stop> {
+pub(crate) fn beside<T, F: Drop>(said: &mut Said, answer: Result<T, F>) -> Option<T> {
     match answer {
-        Ok(given) => Ok(given),
-        Err(_fault) => Err(Stop::Memory),
+        Ok(given) => Some(given),
+        Err(_fault) => {
+            said.stop(Stop::Memory);
+            None
+        }
     }
 }
 
-/// What the call of a row gives. This fault is Memory.
-pub(crate) fn asked<T, F: PartialEq + Drop>(answer: Result<T, F>, memory: F) -> Result<T, Stop> {
-    match answer {
-        Ok(given) => Ok(given),
-        Err(fault) => Err(stop_of(&fault, &memory)),
-    }
-}
-
-/// Whether a fault is Memory.
-pub(crate) fn stop_of<F: PartialEq>(fault: &F, memory: &F) -> Stop {
-    if *fault == *memory {
-        Stop::Refused
-    } else {
-        Stop::Other
-    }
-}
-
-/// Prints what the call of a row gives.
+/// Prints what the call of a row gives. This fault is Memory.
 pub(crate) fn given<T: Shown, F: PartialEq + Drop>(
-    alloc: Global,
     said: &mut Said,
     answer: Result<T, F>,
     memory: F,
-) -> Result<(), Stop> {
-    let given = asked(answer, memory)?;
-    given.show(alloc, said)
+) {
+    match &answer {
+        Ok(given) => {
+            given.show(said);
+            said.answer();
+        }
+        Err(fault) => said.refuse(*fault == memory),
+    }
+}
+
+/// Octets that are made beside the call; none if that is refused.
+pub(crate) fn octets_or_none(said: &mut Said, made: Result<Vec<u8>, AllocError>) -> Vec<u8> {
+    match made {
+        Ok(octets) => octets,
+        Err(_) => {
+            said.stop(Stop::Memory);
+            Vec::new(said.alloc)
+        }
+    }
 }
 
 /// Octets to which something is appended.
-pub(crate) fn front(alloc: Global) -> Result<Vec<u8>, Stop> {
-    Ok(vec![in alloc; 1u8, 2]?)
+pub(crate) fn front(said: &mut Said) -> Vec<u8> {
+    let made = Vec::from_slice(said.alloc, b"\x01\x02");
+    octets_or_none(said, made)
 }
 
-/// Looks at these octets after something was appended, or nothing if that was refused.
+/// Whether something was appended to these octets. If it was refused, looks whether nothing was.
 pub(crate) fn written<F: PartialEq + Drop>(
     said: &mut Said,
     done: Result<(), F>,
     memory: F,
     out: &[u8],
-) -> Result<(), Stop> {
-    if done.is_err() {
-        said.keep(out == b"\x01\x02".as_slice());
+) -> bool {
+    match &done {
+        Ok(()) => said.answer(),
+        Err(fault) => {
+            said.keep(out == b"\x01\x02".as_slice());
+            said.refuse(*fault == memory);
+        }
     }
-    asked(done, memory)
+    done.is_ok()
 }

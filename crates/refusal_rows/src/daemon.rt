@@ -1,13 +1,13 @@
 //! Settings, the start of a daemon, and its files.
 
-use crate::calls::{Calls, asked, beside};
+use crate::calls::{Calls, Made, Shown, given, play_call};
 use crate::page::Page;
 use crate::said::{Said, Stop};
 use file_disk::{FileDisk, FileDiskFault};
+use gw_main::options::Settings;
 use gw_main::{SettingsFault, begin, settings};
 use jr_journal::MemoryDisk;
 use rep_state::Folded;
-use std::alloc::Global;
 use std::fs::{File, Files};
 
 /// The shortest settings.
@@ -24,82 +24,90 @@ pub(crate) struct Starts {
     text: &'static str,
 }
 
-impl Calls for Starts {
-    fn make(_alloc: Global, _call: &str, is_second: bool) -> Result<Starts, Stop> {
+impl Made for Starts {
+    fn make(_said: &mut Said, _call: &str, is_second: bool) -> Option<Starts> {
         let text = if is_second { LONG } else { SHORT };
-        Ok(Starts { text })
+        Some(Starts { text })
     }
+}
 
-    fn call_once(&mut self, alloc: Global, said: &mut Said, call: &str) -> Result<(), Stop> {
-        match call {
-            "settings" => read(alloc, said, self.text),
-            "begin" => begin_once(alloc, said),
-            _ => Err(Stop::Row),
+impl Calls for Starts {
+    fn call_once(&mut self, said: &mut Said, call: &str) {
+        if call == "settings" {
+            let read = settings(said.alloc, self.text);
+            given(said, read, SettingsFault::Memory);
+        } else {
+            match &settings(said.alloc, LONG) {
+                Ok(read) => begin_once(said, read),
+                Err(_) => said.stop(Stop::Memory),
+            }
         }
     }
 }
 
-/// Reads settings, and prints them.
-fn read(alloc: Global, said: &mut Said, text: &str) -> Result<(), Stop> {
-    let read = asked(settings(alloc, text), SettingsFault::Memory)?;
-    said.number("workers", read.workers as usize);
-    said.number("steps", read.steps as usize);
-    said.number("advertise", read.advertise as usize);
-    said.number("field", read.field.len());
-    said.number("peers", read.peers.len());
-    said.number("predefined", read.predefined.entries().len());
-    Ok(())
+impl Shown for Settings {
+    fn show(&self, said: &mut Said) {
+        said.number("workers", self.workers as usize);
+        said.number("steps", self.steps as usize);
+        said.number("advertise", self.advertise as usize);
+        said.number("field", self.field.len());
+        said.number("peers", self.peers.len());
+        said.number("predefined", self.predefined.entries().len());
+    }
 }
 
 /// Starts a gateway on an empty disk, and prints what that prints.
-fn begin_once(alloc: Global, said: &mut Said) -> Result<(), Stop> {
+fn begin_once(said: &mut Said, read: &Settings) {
     let mut out = Page::new();
     let mut err = Page::new();
-    match begun(alloc, &mut out, &mut err)? {
+    match begun(said, read, &mut out, &mut err) {
         None => {
             said.keep(err.as_slice().is_empty());
             said.page.append(out.as_slice());
-            Ok(())
+            said.answer();
         }
         Some(status) => {
             said.keep(status == 2 && out.as_slice().is_empty());
-            Err(look(said, err.as_slice()))
+            look(said, err.as_slice());
         }
     }
 }
 
 /// The status of a start that is refused.
-fn begun(alloc: Global, out: &mut Page, err: &mut Page) -> Result<Option<u8>, Stop> {
-    let read = beside(settings(alloc, LONG))?;
-    let begun = begin::<Folded, _, Page, Page>(alloc, &read, MemoryDisk::new(alloc), out, err);
-    let status = begun.err();
-    drop(read);
-    Ok(status)
+fn begun(said: &mut Said, read: &Settings, out: &mut Page, err: &mut Page) -> Option<u8> {
+    let disk = MemoryDisk::new(said.alloc);
+    begin::<Folded, _, Page, Page>(said.alloc, read, disk, out, err).err()
 }
 
 /// Looks at what a refused start prints. The disk, which begins empty, is gone then.
-fn look(said: &mut Said, line: &[u8]) -> Stop {
+fn look(said: &mut Said, line: &[u8]) {
     if line == b"sngw: journal J4\n".as_slice() {
-        return Stop::Refused;
+        said.refuse(true);
+    } else {
+        said.keep(line == b"sngw: journal J1\n".as_slice());
+        said.starve();
     }
-    said.keep(line == b"sngw: journal J1\n".as_slice());
-    Stop::Starved
 }
 
-/// Opens two files.
-pub(crate) fn play_files<T: Files<File = File>>(
-    rt: &T,
-    alloc: Global,
-    said: &mut Said,
-) -> Result<(), Stop> {
-    for _ in 0..2 {
-        match asked(FileDisk::at(rt, alloc, "j"), FileDiskFault::Memory) {
+/// The system whose files are opened.
+#[derive(Drop)]
+struct Opens<'a, T: Files<File = File>> {
+    rt: &'a T,
+}
+
+/// Plays a row of files.
+pub(crate) fn play_files<T: Files<File = File>>(rt: &T, said: &mut Said, call: &str) {
+    play_call(said, &mut Opens { rt }, call);
+}
+
+impl<'a, T: Files<File = File>> Calls for Opens<'a, T> {
+    fn call_once(&mut self, said: &mut Said, _call: &str) {
+        match &FileDisk::at(self.rt, said.alloc, "j") {
             Ok(_disk) => {
                 said.page.append(b"two files\n");
-                return Ok(());
+                said.answer();
             }
-            Err(stop) => said.count(stop)?,
+            Err(fault) => said.refuse(*fault == FileDiskFault::Memory),
         }
     }
-    Err(Stop::Other)
 }

@@ -1,9 +1,8 @@
 //! Names of clients, and deltas.
 
-use crate::calls::{Calls, Shown, beside, front, given, written};
+use crate::calls::{Calls, Made, Shown, beside, front, given, written};
 use crate::said::{Said, Stop};
 use rep_ops::{ClientId, Delta, Op, OpsFault};
-use std::alloc::Global;
 
 /// What gateway 1 makes of the first CONNECT of client s1, with a keep alive of 60 seconds.
 pub(crate) const FIRST: [&str; 2] = [
@@ -11,140 +10,173 @@ pub(crate) const FIRST: [&str; 2] = [
     "0102733100000000000000010100000001003c00010000000000000000",
 ];
 
+/// A name that is copied.
+#[derive(Drop)]
+pub(crate) struct Clients {
+    client: ClientId,
+}
+
+impl Made for Clients {
+    fn make(said: &mut Said, _call: &str, _is_second: bool) -> Option<Clients> {
+        let client = client(said)?;
+        Some(Clients { client })
+    }
+}
+
+impl Calls for Clients {
+    fn call_once(&mut self, said: &mut Said, call: &str) {
+        let made = if call == "ClientId::new" {
+            ClientId::new(said.alloc, b"s1")
+        } else {
+            self.client.copy(said.alloc)
+        };
+        given(said, made, OpsFault::Memory);
+    }
+}
+
 /// What is copied, read and written.
 #[derive(Drop)]
 pub(crate) struct Deltas {
-    client: ClientId,
     delta: Delta,
     octets: Vec<u8>,
     out: Vec<u8>,
 }
 
-impl Calls for Deltas {
-    fn make(alloc: Global, _call: &str, _is_second: bool) -> Result<Deltas, Stop> {
-        let out = front(alloc)?;
-        let octets = octets_of(alloc, &FIRST)?;
-        let client = client(alloc)?;
-        let delta = delta(alloc, &FIRST)?;
-        Ok(Deltas {
-            client,
-            delta,
-            octets,
-            out,
+impl Made for Deltas {
+    fn make(said: &mut Said, _call: &str, _is_second: bool) -> Option<Deltas> {
+        Some(Deltas {
+            delta: delta(said, &FIRST),
+            octets: octets_of(said, &FIRST),
+            out: front(said),
         })
     }
+}
 
-    fn call_once(&mut self, alloc: Global, said: &mut Said, call: &str) -> Result<(), Stop> {
-        let memory = OpsFault::Memory;
-        match call {
-            "ClientId::new" => given(alloc, said, ClientId::new(alloc, b"s1"), memory),
-            "ClientId::copy" => given(alloc, said, self.client.copy(alloc), memory),
-            "Delta::from_ops" => {
-                let ops = acks(alloc)?;
-                given(alloc, said, Delta::from_ops(alloc, ops), memory)
-            }
-            "Delta::decode" => {
-                let read = Delta::decode(alloc, self.octets.as_slice());
-                given(alloc, said, read, memory)
-            }
-            "Delta::decode_one" => {
-                let read = Delta::decode_one(alloc, self.octets.as_slice());
-                given(alloc, said, read, memory)
-            }
-            "Delta::copy" => given(alloc, said, self.delta.copy(alloc), memory),
-            "Delta::encode" => self.write(alloc, said),
-            _ => Err(Stop::Row),
+impl Calls for Deltas {
+    fn call_once(&mut self, said: &mut Said, call: &str) {
+        if call == "Delta::encode" {
+            self.write(said);
+        } else {
+            let made = self.made(said, call);
+            given(said, made, OpsFault::Memory);
         }
     }
 }
 
 impl Deltas {
+    /// Makes, reads or copies a delta.
+    fn made(&self, said: &mut Said, call: &str) -> Result<Delta, OpsFault> {
+        match call {
+            "Delta::from_ops" => {
+                let ops = acks(said);
+                Delta::from_ops(said.alloc, ops)
+            }
+            "Delta::decode" => Delta::decode(said.alloc, self.octets.as_slice()),
+            "Delta::decode_one" => Delta::decode_one(said.alloc, self.octets.as_slice()),
+            _ => self.delta.copy(said.alloc),
+        }
+    }
+
     /// Writes the delta.
-    fn write(&mut self, alloc: Global, said: &mut Said) -> Result<(), Stop> {
-        let done = self.delta.encode(alloc, &mut self.out);
-        written(said, done, OpsFault::Memory, self.out.as_slice())?;
-        said.octets(self.out.as_slice());
-        Ok(())
+    fn write(&mut self, said: &mut Said) {
+        let done = self.delta.encode(said.alloc, &mut self.out);
+        if written(said, done, OpsFault::Memory, self.out.as_slice()) {
+            said.octets(self.out.as_slice());
+        }
     }
 }
 
 impl Shown for ClientId {
-    fn show(self, _alloc: Global, said: &mut Said) -> Result<(), Stop> {
+    fn show(&self, said: &mut Said) {
         said.octets(self.bytes());
-        Ok(())
     }
 }
 
 impl Shown for Delta {
-    fn show(self, alloc: Global, said: &mut Said) -> Result<(), Stop> {
-        show(alloc, said, &self)
+    fn show(&self, said: &mut Said) {
+        let mut octets = Vec::new(said.alloc);
+        let is_short = self.append_to(&mut octets).is_err();
+        said.stop_if_short(is_short);
+        said.octets(octets.as_slice());
     }
 }
 
 /// Prints how many deltas there are, and each of them.
 impl Shown for Vec<Delta> {
-    fn show(self, alloc: Global, said: &mut Said) -> Result<(), Stop> {
+    fn show(&self, said: &mut Said) {
         said.number("deltas", self.len());
         for delta in self.as_slice() {
-            show(alloc, said, delta)?;
+            delta.show(said);
         }
-        Ok(())
     }
-}
-
-/// Prints a delta.
-pub(crate) fn show(alloc: Global, said: &mut Said, delta: &Delta) -> Result<(), Stop> {
-    let mut octets = Vec::new(alloc);
-    delta.append_to(&mut octets)?;
-    said.octets(octets.as_slice());
-    Ok(())
 }
 
 /// The octets of deltas, one after the other.
-pub(crate) fn spelled(alloc: Global, deltas: &[Delta]) -> Result<Vec<u8>, Stop> {
-    let mut octets = Vec::new(alloc);
+pub(crate) fn spelled(said: &mut Said, deltas: &[Delta]) -> Vec<u8> {
+    let mut octets = Vec::new(said.alloc);
     for delta in deltas {
-        delta.append_to(&mut octets)?;
+        let is_short = delta.append_to(&mut octets).is_err();
+        said.stop_if_short(is_short);
     }
-    Ok(octets)
+    octets
 }
 
 /// The client.
-pub(crate) fn client(alloc: Global) -> Result<ClientId, Stop> {
-    beside(ClientId::new(alloc, b"s1"))
-}
-
-/// An acknowledgement of messages of gateway 2.
-fn ack(alloc: Global, first: u64, last: u64) -> Result<Op, Stop> {
-    let client = client(alloc)?;
-    Ok(Op::Ack {
-        client,
-        origin: 2,
-        first,
-        last,
-    })
+pub(crate) fn client(said: &mut Said) -> Option<ClientId> {
+    let made = ClientId::new(said.alloc, b"s1");
+    beside(said, made)
 }
 
 /// Acknowledgements that join.
-fn acks(alloc: Global) -> Result<Vec<Op>, Stop> {
-    let mut ops = Vec::new(alloc);
-    ops.push(ack(alloc, 3, 3)?)?;
-    ops.push(ack(alloc, 1, 2)?)?;
-    Ok(ops)
+fn acks(said: &mut Said) -> Vec<Op> {
+    let mut ops = Vec::new(said.alloc);
+    add_ack(said, &mut ops, 3, 3);
+    add_ack(said, &mut ops, 1, 2);
+    ops
+}
+
+/// An acknowledgement of messages of gateway 2 comes after the others.
+fn add_ack(said: &mut Said, ops: &mut Vec<Op>, first: u64, last: u64) {
+    if let Some(client) = client(said) {
+        let ack = Op::Ack {
+            client,
+            origin: 2,
+            first,
+            last,
+        };
+        let is_short = ops.push(ack).is_err();
+        said.stop_if_short(is_short);
+    }
 }
 
 /// The octets that hexadecimal digits spell.
-pub(crate) fn octets_of(alloc: Global, parts: &[&str]) -> Result<Vec<u8>, Stop> {
-    let mut octets = Vec::new(alloc);
+pub(crate) fn octets_of(said: &mut Said, parts: &[&str]) -> Vec<u8> {
+    let mut octets = Vec::new(said.alloc);
     for part in parts {
-        let found = beside(hex::decode(alloc, part.as_bytes()))?;
-        octets.extend_from_slice(found.as_slice())?;
+        add_octets(said, &mut octets, part);
     }
-    Ok(octets)
+    octets
+}
+
+/// The octets that hexadecimal digits spell come after the others.
+fn add_octets(said: &mut Said, octets: &mut Vec<u8>, digits: &str) {
+    match &hex::decode(said.alloc, digits.as_bytes()) {
+        Ok(found) => {
+            let is_short = octets.extend_from_slice(found.as_slice()).is_err();
+            said.stop_if_short(is_short);
+        }
+        Err(_) => said.stop(Stop::Memory),
+    }
 }
 
 /// The delta that hexadecimal digits spell.
-pub(crate) fn delta(alloc: Global, parts: &[&str]) -> Result<Delta, Stop> {
-    let octets = octets_of(alloc, parts)?;
-    beside(Delta::decode(alloc, octets.as_slice()))
+pub(crate) fn delta(said: &mut Said, parts: &[&str]) -> Delta {
+    let octets = octets_of(said, parts);
+    match Delta::decode(said.alloc, octets.as_slice()) {
+        Ok(delta) => delta,
+        Err(_) => {
+            said.stop(Stop::Memory);
+            Delta::empty(said.alloc)
+        }
+    }
 }

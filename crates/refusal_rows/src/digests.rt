@@ -1,13 +1,12 @@
 //! Digests, and answers to them.
 
-use crate::calls::{Calls, Shown, beside, front, given, written};
-use crate::replicas::{filled, first, new};
-use crate::said::{Said, Stop};
+use crate::calls::{Calls, Made, Shown, beside, front, given, written};
+use crate::replicas::{new, replica_with};
+use crate::said::Said;
 use rep_answer::answer;
 use rep_digest::{Digest, digest_of};
 use rep_model::Replica;
 use rep_ops::OpsFault;
-use std::alloc::Global;
 
 /// A replica, a digest that is answered, read and written, and its octets.
 #[derive(Drop)]
@@ -18,84 +17,83 @@ pub(crate) struct Digests<R: Replica> {
     out: Vec<u8>,
 }
 
-impl<R: Replica> Calls for Digests<R> {
-    fn make(alloc: Global, call: &str, is_second: bool) -> Result<Digests<R>, Stop> {
+impl<R: Replica> Made for Digests<R> {
+    fn make(said: &mut Said, call: &str, is_second: bool) -> Option<Digests<R>> {
         let is_answer = call == "answer";
-        let replica: R = if is_answer || (call == "digest_of" && !is_second) {
-            first(alloc)?
-        } else {
-            filled(alloc)?
-        };
+        let is_small = is_answer || (call == "digest_of" && !is_second);
+        let replica: R = replica_with(said, !is_small)?;
         let digest = if is_answer && !is_second {
-            digest_of_none::<R>(alloc)
+            digest_of_none::<R>(said)
         } else {
-            digest(alloc, &replica)
-        };
-        made_of(alloc, replica, digest?)
+            digest(said, &replica)
+        }?;
+        Some(Digests {
+            replica,
+            octets: octets_of(said, &digest),
+            digest,
+            out: front(said),
+        })
     }
+}
 
-    fn call_once(&mut self, alloc: Global, said: &mut Said, call: &str) -> Result<(), Stop> {
-        let memory = OpsFault::Memory;
+impl<R: Replica> Calls for Digests<R> {
+    fn call_once(&mut self, said: &mut Said, call: &str) {
         match call {
-            "digest_of" => given(alloc, said, digest_of(alloc, &self.replica), memory),
             "answer" => {
-                let deltas = answer(alloc, &self.replica, &self.digest);
-                given(alloc, said, deltas, memory)
+                let deltas = answer(said.alloc, &self.replica, &self.digest);
+                given(said, deltas, OpsFault::Memory);
             }
-            "Digest::decode" => {
-                let read = Digest::decode(alloc, self.octets.as_slice());
-                given(alloc, said, read, memory)
+            "Digest::encode" => self.write(said),
+            call => {
+                let digest = self.made(said, call);
+                given(said, digest, OpsFault::Memory);
             }
-            "Digest::encode" => {
-                let done = self.digest.encode(alloc, &mut self.out);
-                written(said, done, memory, self.out.as_slice())?;
-                said.octets(self.out.as_slice());
-                Ok(())
-            }
-            _ => Err(Stop::Row),
         }
     }
 }
 
-/// A replica with a digest.
-fn made_of<R: Replica>(alloc: Global, replica: R, digest: Digest) -> Result<Digests<R>, Stop> {
-    let octets = octets_of(alloc, &digest)?;
-    let out = front(alloc)?;
-    Ok(Digests {
-        replica,
-        digest,
-        octets,
-        out,
-    })
-}
+impl<R: Replica> Digests<R> {
+    /// The digest of the replica, or the digest that is read.
+    fn made(&self, said: &mut Said, call: &str) -> Result<Digest, OpsFault> {
+        if call == "digest_of" {
+            digest_of(said.alloc, &self.replica)
+        } else {
+            Digest::decode(said.alloc, self.octets.as_slice())
+        }
+    }
 
-/// The digest of a replica.
-fn digest<R: Replica>(alloc: Global, replica: &R) -> Result<Digest, Stop> {
-    beside(digest_of(alloc, replica))
-}
-
-/// The digest of a replica that has taken nothing.
-fn digest_of_none<R: Replica>(alloc: Global) -> Result<Digest, Stop> {
-    let replica: R = new(alloc)?;
-    digest(alloc, &replica)
-}
-
-/// The octets of a digest.
-fn octets_of(alloc: Global, digest: &Digest) -> Result<Vec<u8>, Stop> {
-    let mut octets = Vec::new(alloc);
-    digest.append_to(&mut octets)?;
-    Ok(octets)
-}
-
-impl Shown for Digest {
-    fn show(self, alloc: Global, said: &mut Said) -> Result<(), Stop> {
-        show(alloc, said, &self)
+    /// Writes the digest.
+    fn write(&mut self, said: &mut Said) {
+        let done = self.digest.encode(said.alloc, &mut self.out);
+        if written(said, done, OpsFault::Memory, self.out.as_slice()) {
+            said.octets(self.out.as_slice());
+        }
     }
 }
 
-/// Prints a digest.
-pub(crate) fn show(alloc: Global, said: &mut Said, digest: &Digest) -> Result<(), Stop> {
-    let octets = octets_of(alloc, digest)?;
-    said.octets(octets.as_slice());
-    Ok(())
+/// The digest of a replica that has taken nothing.
+fn digest_of_none<R: Replica>(said: &mut Said) -> Option<Digest> {
+    let replica: R = new(said)?;
+    digest(said, &replica)
+}
+
+/// The digest of a replica.
+fn digest<R: Replica>(said: &mut Said, replica: &R) -> Option<Digest> {
+    let made = digest_of(said.alloc, replica);
+    beside(said, made)
+}
+
+/// The octets of a digest.
+fn octets_of(said: &mut Said, digest: &Digest) -> Vec<u8> {
+    let mut octets = Vec::new(said.alloc);
+    let is_short = digest.append_to(&mut octets).is_err();
+    said.stop_if_short(is_short);
+    octets
+}
+
+impl Shown for Digest {
+    fn show(&self, said: &mut Said) {
+        let octets = octets_of(said, self);
+        said.octets(octets.as_slice());
+    }
 }

@@ -1,8 +1,7 @@
 //! One gateway.
 
-use crate::calls::{Calls, Shown, beside, given};
-use crate::deltas::{client, delta, octets_of, show, spelled};
-use crate::digests;
+use crate::calls::{Calls, Made, Shown, beside, given};
+use crate::deltas::{client, delta, octets_of, spelled};
 use crate::locals::{HERE, config};
 use crate::said::{Said, Stop};
 use gw_node::{Answer, Node, NodeFault, Out, Step};
@@ -10,12 +9,11 @@ use jr_journal::MemoryDisk;
 use octets::{NoMemory, Octets};
 use rep_digest::Digest;
 use rep_model::Replica;
-use sn_local::Config;
 use std::alloc::Global;
 use std::mem;
 
 /// The first CONNECT of client s1, and its SUBSCRIBE to `t/#`.
-pub(crate) const CONNECT: &str = "08040401003c7331";
+const CONNECT: &str = "08040401003c7331";
 
 pub(crate) const SUBSCRIBE: &str = "0812200002742f23";
 
@@ -36,202 +34,210 @@ const RETAINED: [&str; 2] = ["0200000001", "040003742f61000000000000000101010001
 /// A gateway on a disk in memory.
 pub(crate) type Gateway<R> = Node<R, MemoryDisk>;
 
+/// A disk on which a gateway is opened, and that gateway.
+#[derive(Drop)]
+pub(crate) struct Openings<R: Replica> {
+    disk: MemoryDisk,
+    opened: Option<Gateway<R>>,
+}
+
+impl<R: Replica> Made for Openings<R> {
+    fn make(said: &mut Said, _call: &str, is_second: bool) -> Option<Openings<R>> {
+        let disk = if is_second {
+            gateway::<R>(said, true)?.into_disk()
+        } else {
+            MemoryDisk::new(said.alloc)
+        };
+        Some(Openings { disk, opened: None })
+    }
+}
+
+impl<R: Replica> Calls for Openings<R> {
+    fn call_once(&mut self, said: &mut Said, _call: &str) {
+        if let Some(config) = config(said) {
+            let disk = mem::replace(&mut self.disk, MemoryDisk::new(said.alloc));
+            match Node::open(said.alloc, config, disk) {
+                Ok(node) => {
+                    said.number("records", node.records() as usize);
+                    show_kept(said, &node);
+                    said.answer();
+                    self.opened = Some(node);
+                }
+                Err((disk, fault)) => {
+                    self.disk = disk;
+                    look_closed(said, self.disk.starved(), &fault);
+                }
+            }
+        }
+    }
+}
+
+/// Looks at a refused opening.
+fn look_closed(said: &mut Said, is_starved: bool, fault: &NodeFault) {
+    match fault {
+        NodeFault::Disk { out } => {
+            said.keep(is_starved && is_excuse(out, b""));
+            said.starve();
+        }
+        fault => said.refuse(matches!(fault, NodeFault::Memory)),
+    }
+}
+
 /// A gateway, a call of it, and what it keeps.
 #[derive(Drop)]
 pub(crate) struct Gateways<R: Replica> {
     node: Gateway<R>,
     step: Step,
     stood: Vec<u8>,
-    /// A disk on which another one is opened.
-    disk: MemoryDisk,
-    /// What is sent instead of an answer if the disk fails.
-    excuse: &'static [u8],
-    /// Whether the client is to connect.
-    is_new: bool,
+    /// Whether the client is connected.
+    is_connected: bool,
+}
+
+impl<R: Replica> Made for Gateways<R> {
+    fn make(said: &mut Said, call: &str, is_second: bool) -> Option<Gateways<R>> {
+        let is_connected = is_second || (call != "Node::frame" && call != "Node::retained");
+        let mut node = gateway(said, is_connected)?;
+        if call == "Node::retained" {
+            let retained = step_of(said, &RETAINED);
+            call_beside(said, &mut node, retained);
+        }
+        Some(Gateways {
+            stood: kept(said, &node),
+            node,
+            step: step(said, call, is_connected),
+            is_connected,
+        })
+    }
 }
 
 impl<R: Replica> Calls for Gateways<R> {
-    fn make(alloc: Global, call: &str, is_second: bool) -> Result<Gateways<R>, Stop> {
+    fn call_once(&mut self, said: &mut Said, call: &str) {
         match call {
-            "Node::frame" => {
-                if is_second {
-                    made(alloc, frame(alloc, SUBSCRIBE)?, NOT_SUBSCRIBED, false)
-                } else {
-                    made(alloc, frame(alloc, CONNECT)?, NOT_CONNECTED, true)
-                }
+            "Node::held" => {
+                let held = self.node.held(said.alloc);
+                given(said, held, NoMemory);
             }
-            "Node::step" => made(alloc, frame(alloc, SUBSCRIBE)?, NOT_SUBSCRIBED, false),
-            "Node::open" => with_disk(alloc, is_second),
-            "Node::retained" => with_topic(alloc),
-            _ => made(alloc, step(alloc, call)?, b"", false),
+            "Node::clients" => {
+                let clients = self.node.clients(said.alloc);
+                given(said, clients, NoMemory);
+            }
+            "Node::retained" => {
+                let retained = self.node.retained(said.alloc);
+                given(said, retained, NoMemory);
+            }
+            call => self.answer_once(said, call),
         }
-    }
-
-    fn call_once(&mut self, alloc: Global, said: &mut Said, call: &str) -> Result<(), Stop> {
-        match call {
-            "Node::open" => self.open(alloc, said),
-            "Node::held" => given(alloc, said, self.node.held(alloc), NoMemory),
-            "Node::clients" => given(alloc, said, self.node.clients(alloc), NoMemory),
-            "Node::retained" => given(alloc, said, self.node.retained(alloc), NoMemory),
-            "Node::step" => {
-                let answer = called_thrice(alloc, said, &mut self.node, &self.step);
-                self.look(alloc, said, answer)
-            }
-            _ => {
-                let answer = called(alloc, &mut self.node, &self.step);
-                self.look(alloc, said, answer)
-            }
-        }
-    }
-}
-
-/// A gateway for a call, with what is beside it.
-fn made<R: Replica>(
-    alloc: Global,
-    step: Step,
-    excuse: &'static [u8],
-    is_new: bool,
-) -> Result<Gateways<R>, Stop> {
-    let node = before(alloc, is_new)?;
-    let stood = kept(alloc, &node)?;
-    Ok(Gateways {
-        node,
-        step,
-        stood,
-        disk: MemoryDisk::new(alloc),
-        excuse,
-        is_new,
-    })
-}
-
-/// A gateway beside an empty disk, or beside that of another one.
-fn with_disk<R: Replica>(alloc: Global, is_second: bool) -> Result<Gateways<R>, Stop> {
-    let mut made = made(alloc, Step::Digest, b"", true)?;
-    if is_second {
-        made.put_disk(alloc)?;
-    }
-    Ok(made)
-}
-
-/// A gateway with something that is retained.
-fn with_topic<R: Replica>(alloc: Global) -> Result<Gateways<R>, Stop> {
-    let mut made = made(alloc, Step::Digest, b"", true)?;
-    take_topic(alloc, &mut made.node)?;
-    Ok(made)
-}
-
-/// Takes what is retained beside the call.
-fn take_topic<R: Replica>(alloc: Global, node: &mut Gateway<R>) -> Result<(), Stop> {
-    let step = Step::Take {
-        delta: delta(alloc, &RETAINED)?,
-    };
-    let refused = beside(called(alloc, node, &step)).err();
-    drop(step);
-    match refused {
-        None => Ok(()),
-        Some(stop) => Err(stop),
     }
 }
 
 impl<R: Replica> Gateways<R> {
-    /// Puts the disk of another gateway into the place of the empty one.
-    fn put_disk(&mut self, alloc: Global) -> Result<(), Stop> {
-        let node = connected::<R>(alloc)?;
-        drop(mem::replace(&mut self.disk, node.into_disk()));
-        Ok(())
-    }
-
-    /// Opens another gateway.
-    fn open(&mut self, alloc: Global, said: &mut Said) -> Result<(), Stop> {
-        let config = config(alloc, 1)?;
-        let disk = mem::replace(&mut self.disk, MemoryDisk::new(alloc));
-        match open::<R>(alloc, config, disk) {
-            Ok(node) => {
-                let shown = show_opened(alloc, said, &node);
-                drop(node);
-                shown
-            }
-            Err((disk, fault)) => {
-                drop(mem::replace(&mut self.disk, disk));
-                Err(look_closed(said, self.disk.starved(), fault))
-            }
-        }
-    }
-
-    /// Prints an answer and what is kept then. If the call was refused, all is as it was.
-    fn look(&mut self, alloc: Global, said: &mut Said, answer: Answer) -> Result<(), Stop> {
-        match answer {
+    /// Makes a call, and looks at the answer.
+    fn answer_once(&mut self, said: &mut Said, call: &str) {
+        let answer = if call == "Node::step" {
+            called_thrice(said, &mut self.node, &self.step)
+        } else {
+            called(said.alloc, &mut self.node, &self.step)
+        };
+        match &answer {
             Ok(out) => {
-                let shown = show_out(alloc, said, &out);
-                drop(out);
-                shown?;
-                let octets = kept(alloc, &self.node)?;
-                said.octets(octets.as_slice());
-                Ok(())
+                show_out(said, out);
+                show_kept(said, &self.node);
+                said.answer();
             }
-            Err(fault) => {
-                let stop = self.look_refused(said, fault);
-                let stands = kept(alloc, &self.node)?;
-                said.keep(stands.as_slice() == self.stood.as_slice());
-                self.revive(alloc)?;
-                Err(stop)
-            }
+            Err(fault) => self.look(said, fault),
         }
     }
 
-    /// Looks at a refusal: a gateway halts if its disk fails, and only then.
-    fn look_refused(&self, said: &mut Said, fault: NodeFault) -> Stop {
+    /// Looks at a refusal: all is as it was, but that the gateway halts if its disk fails.
+    fn look(&mut self, said: &mut Said, fault: &NodeFault) {
         match fault {
-            NodeFault::Memory => {
+            NodeFault::Disk { out } => self.look_halted(said, out),
+            fault => {
                 said.keep(!self.node.is_halted());
-                Stop::Refused
+                said.refuse(matches!(fault, NodeFault::Memory));
             }
-            NodeFault::Disk { out } => {
-                said.keep(self.node.starved() && self.node.is_halted());
-                said.keep(is_excuse(&out, self.excuse));
-                Stop::Starved
-            }
-            _ => Stop::Other,
         }
+        let stands = kept(said, &self.node);
+        said.keep(stands.as_slice() == self.stood.as_slice());
+        self.revive(said);
+    }
+
+    /// Looks at a gateway whose disk failed, and at what it answered.
+    fn look_halted(&self, said: &mut Said, out: &Out) {
+        let excuse = match &self.step {
+            Step::Frame { .. } if self.is_connected => NOT_SUBSCRIBED,
+            Step::Frame { .. } => NOT_CONNECTED,
+            _ => b"",
+        };
+        said.keep(self.node.starved() && self.node.is_halted());
+        said.keep(is_excuse(out, excuse));
+        said.starve();
     }
 
     /// Puts a gateway as it was in the place of a halted one.
-    fn revive(&mut self, alloc: Global) -> Result<(), Stop> {
+    fn revive(&mut self, said: &mut Said) {
         if self.node.is_halted() {
-            let node = before(alloc, self.is_new)?;
-            drop(mem::replace(&mut self.node, node));
+            if let Some(node) = gateway(said, self.is_connected) {
+                self.node = node;
+            }
         }
-        Ok(())
     }
 }
 
-/// A datagram from the client's address.
-pub(crate) fn frame(alloc: Global, digits: &str) -> Result<Step, Stop> {
-    let octets = octets_of(alloc, &[digits])?;
-    let bytes = Octets::from_slice(alloc, octets.as_slice())?;
-    Ok(Step::Frame {
-        from: HERE,
-        bytes,
-        now: 1,
-    })
+/// A call as a value.
+fn step(said: &mut Said, call: &str, is_connected: bool) -> Step {
+    match call {
+        "Node::frame" if !is_connected => frame(said, CONNECT),
+        "Node::frame" | "Node::step" => frame(said, SUBSCRIBE),
+        "Node::take" => step_of(said, &OTHER),
+        "Node::tick" => Step::Tick { now: 1_000 },
+        "Node::compact" => Step::Compact,
+        "Node::reopen" => Step::Reopen,
+        call => asking(said, call),
+    }
 }
 
-/// Any other call as a value.
-fn step(alloc: Global, call: &str) -> Result<Step, Stop> {
+/// A call that asks, as a value.
+fn asking(said: &mut Said, call: &str) -> Step {
     match call {
-        "Node::take" => Ok(Step::Take {
-            delta: delta(alloc, &OTHER)?,
-        }),
-        "Node::tick" => Ok(Step::Tick { now: 1_000 }),
-        "Node::view" => Ok(Step::View {
-            client: client(alloc)?,
-        }),
-        "Node::answer" => Ok(Step::Answer {
-            digest: beside(Digest::decode(alloc, b"\x01\x00\x00\x00\x00"))?,
-        }),
-        "Node::compact" => Ok(Step::Compact),
-        "Node::reopen" => Ok(Step::Reopen),
-        _ => Ok(Step::Digest),
+        "Node::view" => match client(said) {
+            Some(client) => Step::View { client },
+            None => Step::Digest,
+        },
+        "Node::answer" => match empty_digest(said) {
+            Some(digest) => Step::Answer { digest },
+            None => Step::Digest,
+        },
+        _ => Step::Digest,
+    }
+}
+
+/// The digest of a replica that has taken nothing.
+fn empty_digest(said: &mut Said) -> Option<Digest> {
+    let read = Digest::decode(said.alloc, b"\x01\x00\x00\x00\x00");
+    beside(said, read)
+}
+
+/// A datagram from the client's address.
+pub(crate) fn frame(said: &mut Said, digits: &str) -> Step {
+    let octets = octets_of(said, &[digits]);
+    match Octets::new(octets) {
+        Ok(bytes) => Step::Frame {
+            from: HERE,
+            bytes,
+            now: 1,
+        },
+        Err(_) => {
+            said.stop(Stop::Memory);
+            Step::Digest
+        }
+    }
+}
+
+/// A delta that is taken.
+fn step_of(said: &mut Said, parts: &[&str]) -> Step {
+    Step::Take {
+        delta: delta(said, parts),
     }
 }
 
@@ -250,69 +256,51 @@ fn called<R: Replica>(alloc: Global, node: &mut Gateway<R>, step: &Step) -> Answ
 }
 
 /// A call as a value, which answers three times.
-fn called_thrice<R: Replica>(
-    alloc: Global,
-    said: &mut Said,
-    node: &mut Gateway<R>,
-    step: &Step,
-) -> Answer {
-    let (first, second, third) = thrice(alloc, node, step);
+fn called_thrice<R: Replica>(said: &mut Said, node: &mut Gateway<R>, step: &Step) -> Answer {
+    let (first, second, third) = node.step(said.alloc, step);
     let is_ok = first.is_ok();
     said.keep(second.is_ok() == is_ok && third.is_ok() == is_ok);
     first
 }
 
-/// A call as a value, with its answers.
-fn thrice<R: Replica>(
-    alloc: Global,
-    node: &mut Gateway<R>,
-    step: &Step,
-) -> (Answer, Answer, Answer) {
-    node.step(alloc, step)
+/// Makes a call beside the row's.
+fn call_beside<R: Replica>(said: &mut Said, node: &mut Gateway<R>, step: Step) {
+    let answer = called(said.alloc, node, &step);
+    said.stop_if_short(answer.is_err());
 }
 
-/// Opens a gateway.
-fn open<R: Replica>(
-    alloc: Global,
-    config: Config,
-    disk: MemoryDisk,
-) -> Result<Gateway<R>, (MemoryDisk, NodeFault)> {
-    Node::open(alloc, config, disk)
+/// A gateway without clients, or one at which the client is connected.
+pub(crate) fn gateway<R: Replica>(said: &mut Said, is_connected: bool) -> Option<Gateway<R>> {
+    let mut node = new(said)?;
+    if is_connected {
+        let connect = frame(said, CONNECT);
+        call_beside(said, &mut node, connect);
+    }
+    Some(node)
 }
 
 /// A gateway without clients.
-fn new<R: Replica>(alloc: Global) -> Result<Gateway<R>, Stop> {
-    let config = config(alloc, 1)?;
-    beside(open(alloc, config, MemoryDisk::new(alloc)))
-}
-
-/// A gateway at which the client is connected.
-pub(crate) fn connected<R: Replica>(alloc: Global) -> Result<Gateway<R>, Stop> {
-    let mut node = new(alloc)?;
-    connect(alloc, &mut node)?;
-    Ok(node)
-}
-
-/// The client connects at a gateway.
-fn connect<R: Replica>(alloc: Global, node: &mut Gateway<R>) -> Result<(), Stop> {
-    let step = frame(alloc, CONNECT)?;
-    let refused = beside(called(alloc, node, &step)).err();
-    drop(step);
-    match refused {
-        None => Ok(()),
-        Some(stop) => Err(stop),
-    }
-}
-
-/// What a row begins with.
-fn before<R: Replica>(alloc: Global, is_new: bool) -> Result<Gateway<R>, Stop> {
-    if is_new { new(alloc) } else { connected(alloc) }
+fn new<R: Replica>(said: &mut Said) -> Option<Gateway<R>> {
+    let config = config(said)?;
+    let opened = Node::open(said.alloc, config, MemoryDisk::new(said.alloc));
+    beside(said, opened)
 }
 
 /// The octets of what a gateway must keep.
-pub(crate) fn kept<R: Replica>(alloc: Global, node: &Gateway<R>) -> Result<Vec<u8>, Stop> {
-    let deltas = node.held(alloc)?;
-    spelled(alloc, deltas.as_slice())
+fn kept<R: Replica>(said: &mut Said, node: &Gateway<R>) -> Vec<u8> {
+    match &node.held(said.alloc) {
+        Ok(deltas) => spelled(said, deltas.as_slice()),
+        Err(_) => {
+            said.stop(Stop::Memory);
+            Vec::new(said.alloc)
+        }
+    }
+}
+
+/// Prints the octets of what a gateway must keep.
+pub(crate) fn show_kept<R: Replica>(said: &mut Said, node: &Gateway<R>) {
+    let octets = kept(said, node);
+    said.octets(octets.as_slice());
 }
 
 /// Whether this is sent instead of the answer, and nothing else is said.
@@ -328,41 +316,25 @@ pub(crate) fn is_excuse(out: &Out, excuse: &[u8]) -> bool {
 }
 
 /// Prints what is sent and what was made, answered or asked for.
-pub(crate) fn show_out(alloc: Global, said: &mut Said, out: &Out) -> Result<(), Stop> {
+pub(crate) fn show_out(said: &mut Said, out: &Out) {
     for send in out.sends.as_slice() {
         said.octets(send.bytes.as_slice());
     }
     if let Some(delta) = &out.made {
-        show(alloc, said, delta)?;
+        delta.show(said);
     }
     for delta in out.answer.as_slice() {
-        show(alloc, said, delta)?;
+        delta.show(said);
     }
+    show_asked(said, out);
+}
+
+/// Prints what was asked for.
+fn show_asked(said: &mut Said, out: &Out) {
     if let Some(digest) = &out.digest {
-        digests::show(alloc, said, digest)?;
+        digest.show(said);
     }
     if let Some(view) = &out.view {
         said.number("pending", view.pending.as_slice().len());
-    }
-    Ok(())
-}
-
-/// Prints what an opening reads.
-fn show_opened<R: Replica>(alloc: Global, said: &mut Said, node: &Gateway<R>) -> Result<(), Stop> {
-    said.number("records", node.records() as usize);
-    let octets = kept(alloc, node)?;
-    said.octets(octets.as_slice());
-    Ok(())
-}
-
-/// Looks at a refused opening.
-fn look_closed(said: &mut Said, starved: bool, fault: NodeFault) -> Stop {
-    match fault {
-        NodeFault::Memory => Stop::Refused,
-        NodeFault::Disk { out } => {
-            said.keep(starved && is_excuse(&out, b""));
-            Stop::Starved
-        }
-        _ => Stop::Other,
     }
 }

@@ -1,10 +1,9 @@
 //! Links.
 
-use crate::calls::{Calls, Shown, asked, beside, given};
-use crate::deltas::{FIRST, delta, octets_of, show};
-use crate::digests;
+use crate::calls::{Calls, Made, Shown, given};
+use crate::deltas::{FIRST, delta, octets_of};
 use crate::page::Page;
-use crate::said::{Said, Stop};
+use crate::said::Said;
 use gw_net::{Fed, LinkFault, LinkIn, LinkMessage, LinkOutFault, link_out};
 use std::alloc::Global;
 
@@ -25,76 +24,65 @@ pub(crate) struct Links {
     message: LinkMessage,
 }
 
-impl Calls for Links {
-    fn make(alloc: Global, _call: &str, is_second: bool) -> Result<Links, Stop> {
-        let piece = octets_of(alloc, &PIECE)?;
-        let mut link = LinkIn::new();
-        if !is_second {
-            return Ok(Links {
-                link,
-                piece,
-                message: LinkMessage::Hello(2),
-            });
+impl Made for Links {
+    fn make(said: &mut Said, _call: &str, is_second: bool) -> Option<Links> {
+        let mut links = Links {
+            link: LinkIn::new(),
+            piece: octets_of(said, &PIECE),
+            message: LinkMessage::Hello(2),
+        };
+        if is_second {
+            let fed = links.link.feed(said.alloc, links.piece.as_slice());
+            said.stop_if_short(fed.is_err());
+            links.piece = octets_of(said, &REST);
+            links.message = LinkMessage::Delta(delta(said, &FIRST));
         }
-        beside(feed(alloc, &mut link, piece.as_slice()))?;
-        let piece = octets_of(alloc, &REST)?;
-        let delta = delta(alloc, &FIRST)?;
-        Ok(Links {
-            link,
-            piece,
-            message: LinkMessage::Delta(delta),
-        })
-    }
-
-    fn call_once(&mut self, alloc: Global, said: &mut Said, call: &str) -> Result<(), Stop> {
-        match call {
-            "LinkIn::feed" => {
-                let fed = feed(alloc, &mut self.link, self.piece.as_slice());
-                given(alloc, said, fed, LinkFault::Memory)
-            }
-            "link_out" => send(alloc, said, &self.message),
-            _ => Err(Stop::Row),
-        }
+        Some(links)
     }
 }
 
-/// A piece comes in.
-fn feed(alloc: Global, link: &mut LinkIn, piece: &[u8]) -> Result<Fed, LinkFault> {
-    link.feed(alloc, piece)
+impl Calls for Links {
+    fn call_once(&mut self, said: &mut Said, call: &str) {
+        if call == "link_out" {
+            send(said, &self.message);
+        } else {
+            let fed = self.link.feed(said.alloc, self.piece.as_slice());
+            given(said, fed, LinkFault::Memory);
+        }
+    }
 }
 
 impl Shown for Fed {
-    fn show(self, alloc: Global, said: &mut Said) -> Result<(), Stop> {
+    fn show(&self, said: &mut Said) {
         said.keep(self.fault.is_none());
         for message in self.messages.as_slice() {
-            show_message(alloc, said, message)?;
+            show_message(said, message);
         }
-        Ok(())
     }
 }
 
 /// Prints a message.
-fn show_message(alloc: Global, said: &mut Said, message: &LinkMessage) -> Result<(), Stop> {
+fn show_message(said: &mut Said, message: &LinkMessage) {
     match message {
-        LinkMessage::Hello(gateway) => {
-            said.number("hello", *gateway as usize);
-            Ok(())
-        }
-        LinkMessage::Digest(digest) => digests::show(alloc, said, digest),
-        LinkMessage::Delta(delta) => show(alloc, said, delta),
+        LinkMessage::Hello(gateway) => said.number("hello", *gateway as usize),
+        LinkMessage::Digest(digest) => digest.show(said),
+        LinkMessage::Delta(delta) => delta.show(said),
     }
 }
 
 /// A message goes out. If that is refused, nothing of it did.
-fn send(alloc: Global, said: &mut Said, message: &LinkMessage) -> Result<(), Stop> {
+fn send(said: &mut Said, message: &LinkMessage) {
     let mut page = Page::new();
-    let done = go_out(alloc, &mut page, message);
-    if done.is_err() {
-        said.keep(page.as_slice().is_empty());
+    match go_out(said.alloc, &mut page, message) {
+        Ok(()) => {
+            said.octets(page.as_slice());
+            said.answer();
+        }
+        Err(fault) => {
+            said.keep(page.as_slice().is_empty());
+            said.refuse(fault == LinkOutFault::Memory);
+        }
     }
-    asked(done, LinkOutFault::Memory)?;
-    said.octets(page.as_slice());
-    Ok(())
 }
 
 /// A message goes out. Nobody says a hello of gateway 0.

@@ -1,12 +1,13 @@
 //! What a gateway is told, and what it knows that is in no set of operations.
 
-use crate::calls::{Calls, Shown, given};
+use crate::calls::{Calls, Made, Shown, given};
 use crate::deltas::client;
-use crate::said::{Said, Stop};
+use crate::said::Said;
 use crate::topics::predefined;
 use octets::Sequence;
+use rep_ops::ClientId;
 use sn_local::{Addr, Config, Dialogs, LocalChange, StepFault};
-use std::alloc::{AllocError, Global};
+use std::alloc::AllocError;
 
 /// Where client s1 speaks from.
 pub(crate) const HERE: Addr = Addr { host: 0, port: 7 };
@@ -18,43 +19,44 @@ pub(crate) struct Locals {
     dialogs: Dialogs,
 }
 
-impl Calls for Locals {
-    fn make(alloc: Global, _call: &str, _is_second: bool) -> Result<Locals, Stop> {
-        let config = config(alloc, 1)?;
-        Ok(Locals {
+impl Made for Locals {
+    fn make(said: &mut Said, _call: &str, _is_second: bool) -> Option<Locals> {
+        let config = config(said)?;
+        Some(Locals {
             config,
-            dialogs: Dialogs::empty(alloc),
+            dialogs: Dialogs::empty(said.alloc),
         })
     }
+}
 
-    fn call_once(&mut self, alloc: Global, said: &mut Said, call: &str) -> Result<(), Stop> {
-        match call {
-            "Config::copy" => given(alloc, said, self.config.copy(alloc), StepFault::Memory),
-            "Dialogs::prepare" => {
-                let changes = changes(alloc)?;
-                let done = change(&mut self.dialogs, changes);
-                show(said, &self.dialogs, done)
-            }
-            _ => Err(Stop::Row),
+impl Calls for Locals {
+    fn call_once(&mut self, said: &mut Said, call: &str) {
+        if call == "Config::copy" {
+            let copy = self.config.copy(said.alloc);
+            given(said, copy, StepFault::Memory);
+        } else {
+            let changes = changes(said);
+            let done = change(&mut self.dialogs, changes);
+            show(said, self.dialogs.client_at(HERE), done.is_err());
         }
     }
 }
 
 impl Shown for Config {
-    fn show(self, _alloc: Global, said: &mut Said) -> Result<(), Stop> {
+    fn show(&self, said: &mut Said) {
         said.number("field", self.field.len());
         said.number("predefined", self.predefined.entries().len());
-        Ok(())
     }
 }
 
-/// What a gateway is told.
-pub(crate) fn config(alloc: Global, gateway: u8) -> Result<Config, Stop> {
-    let mut field = Sequence::empty(alloc);
-    field.push(Addr { host: 1, port: 2 })?;
-    let predefined = predefined(alloc)?;
-    Ok(Config {
-        gateway,
+/// What gateway 1 is told.
+pub(crate) fn config(said: &mut Said) -> Option<Config> {
+    let predefined = predefined(said)?;
+    let mut field = Sequence::empty(said.alloc);
+    let is_short = field.push(Addr { host: 1, port: 2 }).is_err();
+    said.stop_if_short(is_short);
+    Some(Config {
+        gateway: 1,
         advertise: 0,
         field,
         predefined,
@@ -62,19 +64,26 @@ pub(crate) fn config(alloc: Global, gateway: u8) -> Result<Config, Stop> {
 }
 
 /// The client speaks from its address, and was heard of.
-fn changes(alloc: Global) -> Result<Sequence<LocalChange>, Stop> {
-    let mut changes = Sequence::empty(alloc);
-    let bound = client(alloc)?;
-    changes.push(LocalChange::Bind {
-        address: HERE,
-        client: bound,
-    })?;
-    let heard = client(alloc)?;
-    changes.push(LocalChange::Heard {
-        client: heard,
-        moment: 0,
-    })?;
-    Ok(changes)
+fn changes(said: &mut Said) -> Sequence<LocalChange> {
+    let mut changes = Sequence::empty(said.alloc);
+    if let Some(client) = client(said) {
+        let bound = LocalChange::Bind {
+            address: HERE,
+            client,
+        };
+        add(said, &mut changes, bound);
+    }
+    if let Some(client) = client(said) {
+        let heard = LocalChange::Heard { client, moment: 0 };
+        add(said, &mut changes, heard);
+    }
+    changes
+}
+
+/// A change comes after the others.
+fn add(said: &mut Said, changes: &mut Sequence<LocalChange>, change: LocalChange) {
+    let is_short = changes.push(change).is_err();
+    said.stop_if_short(is_short);
 }
 
 /// Changes what a gateway knows.
@@ -92,17 +101,12 @@ pub(crate) fn change(
 }
 
 /// Prints who speaks from the address: nobody, if the change was refused.
-fn show(said: &mut Said, dialogs: &Dialogs, done: Result<(), AllocError>) -> Result<(), Stop> {
-    let found = dialogs.client_at(HERE);
-    if done.is_err() {
+fn show(said: &mut Said, found: Option<&ClientId>, is_refused: bool) {
+    if is_refused {
         said.keep(found.is_none());
-        return Err(Stop::Refused);
-    }
-    match found {
-        Some(client) => {
-            said.octets(client.bytes());
-            Ok(())
-        }
-        None => Err(Stop::Other),
+        said.refuse(true);
+    } else if let Some(client) = found {
+        said.octets(client.bytes());
+        said.answer();
     }
 }

@@ -38,117 +38,105 @@ mod steps;
 mod topics;
 mod worlds;
 
+use crate::calls::is_one_of;
 use crate::rows::{NO_GROWTH, ROWS, play_row};
 use crate::said::{Said, Stop};
-use anyhow::Result;
 use std::alloc::Global;
 use std::fs::{File, Files};
-use std::io::{self, Write};
+use std::io::{self, ErrorKind, Input, Write};
+use std::process::ExitCode;
 use std::sync::Wait;
 use std::thread::Threads;
 
-fn main(rt: HostRuntime) -> Result<()> {
-    let alloc = rt.alloc();
-    let errors = rt.stderr();
-    let mut out = io::writer(&rt);
-    let mut err = io::writer(&errors);
-    for line in rt.lines(alloc) {
-        let line = line?;
-        play_line(&rt, alloc, &mut out, &mut err, line.as_str())?;
+fn main(rt: HostRuntime) -> ExitCode {
+    match play_input(&rt) {
+        Ok(()) => ExitCode::SUCCESS,
+        Err(error) => {
+            let _ = eprintln!(&rt; "refusal_rows: {error}");
+            ExitCode::FAILURE
+        }
+    }
+}
+
+/// Plays the lines of standard input.
+fn play_input<T>(rt: &T) -> io::Result<()>
+where
+    T: Threads + Wait + Sync + Files<File = File> + Input + Print + Eprint + AllocGlobal,
+{
+    for line in rt.lines(rt.alloc()) {
+        play_line(rt, line?.as_str())?;
     }
     Ok(())
 }
 
 /// Plays a line.
-fn play_line<T, O, E>(rt: &T, alloc: Global, out: &mut O, err: &mut E, line: &str) -> Result<()>
+fn play_line<T>(rt: &T, line: &str) -> io::Result<()>
 where
-    T: Threads + Wait + Sync + Files<File = File>,
-    O: Write,
-    E: Write,
+    T: Threads + Wait + Sync + Files<File = File> + Print + Eprint + AllocGlobal,
 {
     if line == "all" {
-        return play_all(rt, alloc, out, err);
+        return play_all(rt);
     }
     match line.strip_prefix("use ") {
-        Some(count) => Ok(spend(alloc, count.parse().unwrap_or(0))?),
-        None => show(rt, alloc, out, err, line),
+        Some(count) => spend(rt.alloc(), count.parse().unwrap_or(0)),
+        None => show(rt, line),
     }
 }
 
 /// Plays each row.
-fn play_all<T, O, E>(rt: &T, alloc: Global, out: &mut O, err: &mut E) -> Result<()>
+fn play_all<T>(rt: &T) -> io::Result<()>
 where
-    T: Threads + Wait + Sync + Files<File = File>,
-    O: Write,
-    E: Write,
+    T: Threads + Wait + Sync + Files<File = File> + Print + Eprint + AllocGlobal,
 {
     for name in ROWS.split_whitespace() {
-        show(rt, alloc, out, err, name)?;
+        show(rt, name)?;
     }
     Ok(())
 }
 
 /// Makes growths.
-fn spend(alloc: Global, count: u32) -> Result<(), Stop> {
+fn spend(alloc: Global, count: u32) -> io::Result<()> {
     for _ in 0..count {
-        let _block = Box::new(alloc, 0u64)?;
+        if Box::new(alloc, 0u64).is_err() {
+            return Err(io::Error::from(ErrorKind::OutOfMemory));
+        }
     }
     Ok(())
 }
 
-/// Plays a row, again if memory was refused beside its call, and prints what it says.
-fn show<T, O, E>(rt: &T, alloc: Global, out: &mut O, err: &mut E, name: &str) -> Result<()>
+/// Plays a row, again if memory was refused beside its call, and prints what it says, and how often
+/// memory was refused to it.
+fn show<T>(rt: &T, name: &str) -> io::Result<()>
 where
-    T: Threads + Wait + Sync + Files<File = File>,
-    O: Write,
-    E: Write,
+    T: Threads + Wait + Sync + Files<File = File> + Print + Eprint + AllocGlobal,
 {
-    let mut said = Said::new();
-    let mut played = play_row(rt, alloc, &mut said, name);
-    let mut beside = 0u32;
-    if played == Err(Stop::Memory) {
-        beside = 1;
-        said.page.clear();
-        played = play_row(rt, alloc, &mut said, name);
+    let mut said = Said::new(rt.alloc());
+    play_row(rt, &mut said, name);
+    if said.begin_again() {
+        play_row(rt, &mut said, name);
     }
-    print(out, err, name, &said, beside, ending(name, played))
+    print(rt, name, &said)?;
+    let (refused, disk, beside) = (said.refused, said.disk, said.beside);
+    eprintln!(rt; "refused {refused} disk {disk} beside {beside}")
 }
 
-/// Prints what a row says, and how often memory was refused to it.
-fn print<O: Write, E: Write>(
-    out: &mut O,
-    err: &mut E,
-    name: &str,
-    said: &Said,
-    beside: u32,
-    ending: &str,
-) -> Result<()> {
+/// Prints what a row says.
+fn print<T: Print>(rt: &T, name: &str, said: &Said) -> io::Result<()> {
+    let mut out = io::writer(rt);
     out.write_all(b"== ")?;
     out.write_all(name.as_bytes())?;
     out.write_all(b"\n")?;
     out.write_all(said.page.as_slice())?;
-    out.write_all(ending.as_bytes())?;
-    let (refused, disk) = (said.refused, said.disk);
-    writeln!(err, "refused {refused} disk {disk} beside {beside}")?;
-    Ok(())
+    out.write_all(ending(name, said.reason()).as_bytes())
 }
 
-/// What stands at the end of a row.
-fn ending(name: &str, played: Result<(), Stop>) -> &'static str {
-    match played {
-        Ok(()) => note(name),
-        Err(Stop::Row) => "no such row\n",
-        Err(Stop::Memory) => "no memory\n",
-        Err(_) => "another answer\n",
+/// What stands at the end of a row, also of one whose call asks for no memory.
+fn ending(name: &str, reason: Option<Stop>) -> &'static str {
+    match reason {
+        None if is_one_of(name, NO_GROWTH) => "no growth\n",
+        None => "",
+        Some(Stop::Row) => "no such row\n",
+        Some(Stop::Memory) => "no memory\n",
+        Some(Stop::Other) => "another answer\n",
     }
-}
-
-/// What stands after a row whose call asks for no memory.
-fn note(name: &str) -> &'static str {
-    for other in NO_GROWTH.split_whitespace() {
-        if name == other {
-            return "no growth\n";
-        }
-    }
-    ""
 }

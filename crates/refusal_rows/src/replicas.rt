@@ -1,12 +1,12 @@
 //! Replicas, and views of clients.
 
-use crate::calls::{Calls, Shown, asked, beside, given, stop_of};
+use crate::calls::{Calls, Made, Shown, beside, given};
 use crate::deltas::{FIRST, client, delta, spelled};
 use crate::said::{Said, Stop};
+use crate::topics::filter;
 use rep_model::{ClientView, Replica, TakeFault};
 use rep_ops::{ClientId, Delta, OpsFault, Retained};
-use sn_topic::{Filter, TopicName};
-use std::alloc::Global;
+use sn_topic::TopicName;
 
 /// What is taken after the first connection: a subscription of client s1 and its next Take; a
 /// change of client s2, whose Take is not there; client s3, of gateway 2; a message for s1 and one
@@ -32,154 +32,163 @@ pub(crate) struct Replicas<R: Replica> {
     stood: Vec<u8>,
 }
 
-impl<R: Replica> Calls for Replicas<R> {
-    fn make(alloc: Global, call: &str, _is_second: bool) -> Result<Replicas<R>, Stop> {
-        match call {
-            "empty" => made(alloc, new(alloc)?),
-            "prepare" => made(alloc, first(alloc)?),
-            _ => made(alloc, filled(alloc)?),
-        }
+impl<R: Replica> Made for Replicas<R> {
+    fn make(said: &mut Said, call: &str, _is_second: bool) -> Option<Replicas<R>> {
+        let replica: R = replica_with(said, call != "prepare")?;
+        Some(Replicas {
+            next: delta(said, &NEXT),
+            stood: kept(said, &replica),
+            replica,
+        })
     }
+}
 
-    fn call_once(&mut self, alloc: Global, said: &mut Said, call: &str) -> Result<(), Stop> {
-        let memory = TakeFault::Memory;
+impl<R: Replica> Calls for Replicas<R> {
+    fn call_once(&mut self, said: &mut Said, call: &str) {
         match call {
-            "empty" => show_empty::<R>(alloc, said),
-            "prepare" => self.take(alloc, said),
-            "clients" => given(alloc, said, self.replica.clients(alloc), memory),
-            "held" => given(alloc, said, self.replica.held(alloc), memory),
-            "retained_matching" => match_all(alloc, said, &self.replica),
-            "ClientView::copy" => copy_view(alloc, said, &self.replica),
-            _ => Err(Stop::Row),
+            "empty" => show_empty::<R>(said),
+            "prepare" => self.take(said),
+            "ClientView::copy" => copy_view(said, &self.replica),
+            call => self.read(said, call),
         }
     }
 }
 
 impl<R: Replica> Replicas<R> {
     /// Takes the delta. If that is refused, what is kept is as it was.
-    fn take(&mut self, alloc: Global, said: &mut Said) -> Result<(), Stop> {
-        match self.replica.prepare(alloc, &self.next) {
+    fn take(&mut self, said: &mut Said) {
+        match self.replica.prepare(said.alloc, &self.next) {
             Ok(staged) => {
                 self.replica.commit(staged);
-                show(alloc, said, &self.replica)
+                show(said, &self.replica);
+                said.answer();
             }
             Err(fault) => {
-                let stands = kept(alloc, &self.replica)?;
+                let stands = kept(said, &self.replica);
                 said.keep(stands.as_slice() == self.stood.as_slice());
-                Err(stop_of(&fault, &TakeFault::Memory))
+                said.refuse(fault == TakeFault::Memory);
             }
+        }
+    }
+
+    /// Asks for the clients, for what is kept, or for what is retained of all topics.
+    fn read(&self, said: &mut Said, call: &str) {
+        match call {
+            "clients" => {
+                let clients = self.replica.clients(said.alloc);
+                given(said, clients, TakeFault::Memory);
+            }
+            "held" => {
+                let held = self.replica.held(said.alloc);
+                given(said, held, TakeFault::Memory);
+            }
+            _ => match_all(said, &self.replica),
         }
     }
 }
 
-/// A replica, with what is beside it.
-fn made<R: Replica>(alloc: Global, replica: R) -> Result<Replicas<R>, Stop> {
-    let next = delta(alloc, &NEXT)?;
-    let stood = kept(alloc, &replica)?;
-    Ok(Replicas {
-        replica,
-        next,
-        stood,
-    })
-}
-
 /// Makes an empty replica.
-fn show_empty<R: Replica>(alloc: Global, said: &mut Said) -> Result<(), Stop> {
-    let replica: R = asked(R::empty(alloc), TakeFault::Memory)?;
-    show(alloc, said, &replica)
+fn show_empty<R: Replica>(said: &mut Said) {
+    match &R::empty(said.alloc) {
+        Ok(replica) => {
+            show(said, replica);
+            said.answer();
+        }
+        Err(fault) => said.refuse(*fault == TakeFault::Memory),
+    }
 }
 
 /// Prints the octets of what a replica must keep.
-fn show<R: Replica>(alloc: Global, said: &mut Said, replica: &R) -> Result<(), Stop> {
-    let octets = kept(alloc, replica)?;
+fn show<R: Replica>(said: &mut Said, replica: &R) {
+    let octets = kept(said, replica);
     said.octets(octets.as_slice());
-    Ok(())
 }
 
 /// Prints clients.
 impl Shown for Vec<ClientId> {
-    fn show(self, _alloc: Global, said: &mut Said) -> Result<(), Stop> {
+    fn show(&self, said: &mut Said) {
         for client in self.as_slice() {
             said.octets(client.bytes());
         }
-        Ok(())
     }
 }
 
 /// Prints topics, each with what is retained of it.
 impl Shown for Vec<(TopicName, Retained)> {
-    fn show(self, _alloc: Global, said: &mut Said) -> Result<(), Stop> {
+    fn show(&self, said: &mut Said) {
         for (topic, retained) in self.as_slice() {
             said.octets(topic.bytes());
             said.octets(retained.body.as_slice());
         }
-        Ok(())
     }
 }
 
 /// Asks what is retained of all topics.
-fn match_all<R: Replica>(alloc: Global, said: &mut Said, replica: &R) -> Result<(), Stop> {
-    let asked = beside(Filter::new(alloc, b"#"))?;
-    let found = replica.retained_matching(alloc, &asked);
-    drop(asked);
-    given(alloc, said, found, TakeFault::Memory)
+fn match_all<R: Replica>(said: &mut Said, replica: &R) {
+    if let Some(all) = filter(said, b"#") {
+        let found = replica.retained_matching(said.alloc, &all);
+        given(said, found, TakeFault::Memory);
+    }
 }
 
 /// An empty replica.
-pub(crate) fn new<R: Replica>(alloc: Global) -> Result<R, Stop> {
-    beside(R::empty(alloc))
+pub(crate) fn new<R: Replica>(said: &mut Said) -> Option<R> {
+    let made = R::empty(said.alloc);
+    beside(said, made)
 }
 
-/// A replica that took the first connection.
-pub(crate) fn first<R: Replica>(alloc: Global) -> Result<R, Stop> {
-    let mut replica = new(alloc)?;
-    let delta = delta(alloc, &FIRST)?;
-    take(alloc, &mut replica, &delta)?;
-    Ok(replica)
+/// A replica that took the first connection, or more.
+pub(crate) fn replica_with<R: Replica>(said: &mut Said, has_more: bool) -> Option<R> {
+    let mut replica = new(said)?;
+    take_parts(said, &mut replica, &FIRST);
+    if has_more {
+        take_parts(said, &mut replica, &NEXT);
+    }
+    Some(replica)
 }
 
-/// A replica that took more.
-pub(crate) fn filled<R: Replica>(alloc: Global) -> Result<R, Stop> {
-    let mut replica = first(alloc)?;
-    let delta = delta(alloc, &NEXT)?;
-    take(alloc, &mut replica, &delta)?;
-    Ok(replica)
+/// Takes the delta that hexadecimal digits spell, beside the call.
+fn take_parts<R: Replica>(said: &mut Said, replica: &mut R, parts: &[&str]) {
+    let delta = delta(said, parts);
+    take(said, replica, &delta);
 }
 
 /// Takes a delta beside the call.
-pub(crate) fn take<R: Replica>(alloc: Global, replica: &mut R, delta: &Delta) -> Result<(), Stop> {
-    match replica.prepare(alloc, delta) {
-        Ok(staged) => {
-            replica.commit(staged);
-            Ok(())
-        }
-        Err(_) => Err(Stop::Memory),
+pub(crate) fn take<R: Replica>(said: &mut Said, replica: &mut R, delta: &Delta) {
+    match replica.prepare(said.alloc, delta) {
+        Ok(staged) => replica.commit(staged),
+        Err(_) => said.stop(Stop::Memory),
     }
 }
 
 /// The octets of what a replica must keep.
-fn kept<R: Replica>(alloc: Global, replica: &R) -> Result<Vec<u8>, Stop> {
-    let deltas = beside(replica.held(alloc))?;
-    spelled(alloc, deltas.as_slice())
-}
-
-/// Copies the view of the client.
-fn copy_view<R: Replica>(alloc: Global, said: &mut Said, replica: &R) -> Result<(), Stop> {
-    let client = client(alloc)?;
-    match replica.view_of(&client) {
-        Some(view) => show_copy(said, view, view.copy(alloc)),
-        None => Err(Stop::Other),
+fn kept<R: Replica>(said: &mut Said, replica: &R) -> Vec<u8> {
+    match &replica.held(said.alloc) {
+        Ok(deltas) => spelled(said, deltas.as_slice()),
+        Err(_) => {
+            said.stop(Stop::Memory);
+            Vec::new(said.alloc)
+        }
     }
 }
 
-/// Prints how many messages wait in a copy of a view.
-fn show_copy(
-    said: &mut Said,
-    view: &ClientView,
-    copy: Result<ClientView, OpsFault>,
-) -> Result<(), Stop> {
-    let copy = asked(copy, OpsFault::Memory)?;
-    said.keep(copy.session == view.session && copy.stamp == view.stamp);
-    said.number("pending", copy.pending.as_slice().len());
-    Ok(())
+/// Copies the view of the client.
+fn copy_view<R: Replica>(said: &mut Said, replica: &R) {
+    if let Some(client) = client(said) {
+        if let Some(view) = replica.view_of(&client) {
+            show_copy(said, view);
+        }
+    }
+}
+
+/// Copies a view, and prints how many messages wait in the copy.
+fn show_copy(said: &mut Said, view: &ClientView) {
+    match &view.copy(said.alloc) {
+        Ok(copy) => {
+            said.keep(copy.session == view.session && copy.stamp == view.stamp);
+            said.number("pending", copy.pending.as_slice().len());
+            said.answer();
+        }
+        Err(fault) => said.refuse(*fault == OpsFault::Memory),
+    }
 }

@@ -1,25 +1,24 @@
 //! The rows.
 
-use crate::calls::play;
+use crate::calls::{is_one_of, play};
 use crate::daemon::{self, Starts};
-use crate::deltas::Deltas;
+use crate::deltas::{Clients, Deltas};
 use crate::digests::Digests;
 use crate::frames::Frames;
-use crate::gateways::Gateways;
+use crate::gateways::{Gateways, Openings};
 use crate::journals::{Disks, Journals};
 use crate::links::Links;
 use crate::locals::Locals;
 use crate::replicas::Replicas;
 use crate::said::{Said, Stop};
-use crate::serving;
 use crate::sessions::Sessions;
-use crate::shifts::{self, Shifts};
 use crate::steps::Steps;
 use crate::topics::Topics;
 use crate::worlds::Worlds;
+use crate::{serving, shifts};
+use rep_model::Replica;
 use rep_plain::Plain;
 use rep_state::Folded;
-use std::alloc::Global;
 use std::fs::{File, Files};
 use std::sync::Wait;
 use std::thread::Threads;
@@ -118,68 +117,73 @@ pub(crate) const NO_GROWTH: &str = "
 ";
 
 /// Plays a row.
-pub(crate) fn play_row<T>(rt: &T, alloc: Global, said: &mut Said, name: &str) -> Result<(), Stop>
+pub(crate) fn play_row<T>(rt: &T, said: &mut Said, name: &str)
 where
     T: Threads + Wait + Sync + Files<File = File>,
 {
-    match name {
-        "gw_shift::Shift::open" => play::<Shifts>(alloc, said, "Shift::open"),
-        "gw_shift::Shift::call" => shifts::play(rt, alloc, said, "Shift::call"),
-        "gw_shift::Shift::after" => shifts::play(rt, alloc, said, "Shift::after"),
-        "file_disk::FileDisk::at" => daemon::play_files(rt, alloc, said),
-        "gw_serve::serve" => serving::play(rt, alloc, said),
-        _ => play_named(alloc, said, name),
-    }
-}
-
-/// Plays a row for which nothing is asked of the system.
-fn play_named(alloc: Global, said: &mut Said, name: &str) -> Result<(), Stop> {
     match name.split_once("::") {
-        Some((home, call)) => play_low(alloc, said, home, call),
-        None => Err(Stop::Row),
+        Some((home, call)) if is_one_of(name, ROWS) => play_known(rt, said, home, call),
+        _ => said.stop(Stop::Row),
     }
 }
 
-/// Plays a row of a format, a replica or the step table.
-fn play_low(alloc: Global, said: &mut Said, home: &str, call: &str) -> Result<(), Stop> {
+/// Plays a row that is there. Each of the functions below knows the rows of some crates, and leaves
+/// all others to the next.
+fn play_known<T>(rt: &T, said: &mut Said, home: &str, call: &str)
+where
+    T: Threads + Wait + Sync + Files<File = File>,
+{
     match home {
-        "sn_frame" => play::<Frames>(alloc, said, call),
-        "sn_topic" => play::<Topics>(alloc, said, call),
-        "sn_session" => play::<Sessions>(alloc, said, call),
-        "rep_op" | "rep_ops" => play::<Deltas>(alloc, said, call),
-        "rep_plain" => play::<Replicas<Plain>>(alloc, said, call),
-        "rep_state" | "rep_model" => play::<Replicas<Folded>>(alloc, said, call),
-        "sn_local" => play::<Locals>(alloc, said, call),
-        _ => play_high(alloc, said, home, call),
+        "gw_shift" => shifts::play_row(rt, said, call),
+        "file_disk" => daemon::play_files(rt, said, call),
+        "gw_serve" => serving::play_row(rt, said),
+        home => play_format(said, home, call),
     }
 }
 
-/// Plays a row of a journal, a gateway or a field.
-fn play_high(alloc: Global, said: &mut Said, home: &str, call: &str) -> Result<(), Stop> {
+/// Rows of the formats and of what they are about.
+fn play_format(said: &mut Said, home: &str, call: &str) {
     match home {
-        "jr_journal" if call == "Journal::open" => play::<Disks>(alloc, said, call),
-        "jr_journal" => play::<Journals>(alloc, said, call),
-        "gw_world" | "gw_play" => play::<Worlds>(alloc, said, call),
-        "gw_net" => play::<Links>(alloc, said, call),
-        "gw_main" => play::<Starts>(alloc, said, call),
-        _ => play_both(alloc, said, home, call),
+        "sn_frame" => play::<Frames>(said, call),
+        "sn_topic" => play::<Topics>(said, call),
+        "sn_session" => play::<Sessions>(said, call),
+        "rep_op" => play::<Clients>(said, call),
+        "rep_ops" => play::<Deltas>(said, call),
+        home => play_part(said, home, call),
     }
 }
 
-/// Plays a row on both replicas.
-fn play_both(alloc: Global, said: &mut Said, home: &str, call: &str) -> Result<(), Stop> {
+/// Rows of journals, links, settings and scripts.
+fn play_part(said: &mut Said, home: &str, call: &str) {
     match home {
-        "gw_node" => {
-            play::<Gateways<Plain>>(alloc, said, call)?;
-            play::<Gateways<Folded>>(alloc, said, call)
+        "jr_journal" if call == "Journal::open" => play::<Disks>(said, call),
+        "jr_journal" => play::<Journals>(said, call),
+        "gw_net" => play::<Links>(said, call),
+        "gw_main" => play::<Starts>(said, call),
+        "gw_world" | "gw_play" => play::<Worlds>(said, call),
+        home => play_state(said, home, call),
+    }
+}
+
+/// Rows of what a gateway knows, and of one replica.
+fn play_state(said: &mut Said, home: &str, call: &str) {
+    match home {
+        "sn_local" => play::<Locals>(said, call),
+        "rep_plain" => play::<Replicas<Plain>>(said, call),
+        "rep_state" | "rep_model" => play::<Replicas<Folded>>(said, call),
+        home => {
+            play_on::<Plain>(said, home, call);
+            play_on::<Folded>(said, home, call);
         }
-        "rep_digest" | "rep_answer" => {
-            play::<Digests<Plain>>(alloc, said, call)?;
-            play::<Digests<Folded>>(alloc, said, call)
-        }
-        _ => {
-            play::<Steps<Plain>>(alloc, said, call)?;
-            play::<Steps<Folded>>(alloc, said, call)
-        }
+    }
+}
+
+/// Rows that are played on both replicas, on one of them.
+fn play_on<R: Replica>(said: &mut Said, home: &str, call: &str) {
+    match home {
+        "gw_node" if call == "Node::open" => play::<Openings<R>>(said, call),
+        "gw_node" => play::<Gateways<R>>(said, call),
+        "rep_digest" | "rep_answer" => play::<Digests<R>>(said, call),
+        _ => play::<Steps<R>>(said, call),
     }
 }

@@ -2,7 +2,6 @@
 
 ghost use Rattle.std.specs.Prelude.{◌≤◌, ◌+◌, length, IfSome};
 
-use crate::calls::stop_of;
 use crate::said::{Said, Stop};
 use crate::shifts::begun;
 use gw_serve::{Cause, serve};
@@ -11,7 +10,6 @@ use gw_wire::{Arrival, OpenGate, Post, Tally, Unsent, Wire, WireFault};
 use jr_journal::{Disk, Failures};
 use rep_model::Replica;
 use sn_local::Addr;
-use std::alloc::Global;
 use std::mem;
 use std::sync::Wait;
 use std::thread::{self, Threads};
@@ -93,30 +91,23 @@ impl Post for Mute {
     }
 }
 
-/// Plays the row.
-pub(crate) fn play<T: Wait + Threads + Sync>(
-    rt: &T,
-    alloc: Global,
-    said: &mut Said,
-) -> Result<(), Stop> {
-    let (shift, mut passes) = begun(alloc)?;
-    for _ in 0..2 {
-        match serve_once(rt, alloc, said, &shift, &mut passes) {
-            Ok(()) => return Ok(()),
-            Err(stop) => said.count(stop)?,
+/// Plays the row. It has its own loop: what a trait's call is given is not known to be `Sync`.
+pub(crate) fn play_row<T: Wait + Threads + Sync>(rt: &T, said: &mut Said) {
+    if let Some((shift, mut passes)) = begun(said) {
+        said.ask();
+        for _ in 0..2 {
+            if said.is_asking() {
+                serve_once(rt, said, &shift, &mut passes);
+            }
+        }
+        if !said.is_answered() {
+            said.stop(Stop::Other);
         }
     }
-    Err(Stop::Other)
 }
 
 /// Serves the datagram with one worker.
-fn serve_once<T, R, D>(
-    rt: &T,
-    alloc: Global,
-    said: &mut Said,
-    shift: &Shift<R, D>,
-    passes: &mut Vec<Pass>,
-) -> Result<(), Stop>
+fn serve_once<T, R, D>(rt: &T, said: &mut Said, shift: &Shift<R, D>, passes: &mut Vec<Pass>)
 where
     T: Threads + Wait + Sync,
     R: Replica + Send,
@@ -124,26 +115,23 @@ where
     D: Disk + Drop + Send,
 {
     let mut wire = Brief::new();
-    let given = mem::replace(passes, Vec::new(alloc));
+    let given = mem::replace(passes, Vec::new(said.alloc));
     if given.is_empty() {
-        return Err(Stop::Other);
+        return said.stop(Stop::Other);
     }
-    match serve(rt, alloc, shift, given, &mut wire, &Mute, &OpenGate, 200) {
+    match serve(
+        rt, said.alloc, shift, given, &mut wire, &Mute, &OpenGate, 200,
+    ) {
         Ok(served) => {
             said.number("passes", served.passes.len());
             said.number("taken", served.taken.len());
             said.number("left", served.left.len());
-            Ok(())
+            said.answer();
         }
         Err(fault) => {
             *passes = fault.passes;
-            Err(look(said, fault.cause, passes.len()))
+            said.keep(passes.len() == 1);
+            said.refuse(fault.cause == Cause::Memory);
         }
     }
-}
-
-/// Looks at why serving ended early: the pass is back.
-fn look(said: &mut Said, cause: Cause, passes: usize) -> Stop {
-    said.keep(passes == 1);
-    stop_of(&cause, &Cause::Memory)
 }

@@ -1,12 +1,11 @@
 //! Sessions.
 
-use crate::calls::{Calls, asked, beside};
+use crate::calls::{Calls, Made, Shown, given};
 use crate::deltas::delta;
 use crate::said::{Said, Stop};
 use rep_ops::{Delta, Op};
 use sn_session::{Session, SessionOp};
 use sn_tables::SessionFault;
-use std::alloc::Global;
 
 /// Changes of each kind that adds something: a Take of a session with a subscription, a topic id,
 /// a subscription, the topic of a will, its message, and the id of a message that was received.
@@ -28,74 +27,87 @@ pub(crate) struct Sessions {
     done: usize,
 }
 
-impl Calls for Sessions {
-    fn make(alloc: Global, call: &str, _is_second: bool) -> Result<Sessions, Stop> {
-        let changes = delta(alloc, &CHANGES)?;
+impl Made for Sessions {
+    fn make(said: &mut Said, call: &str, _is_second: bool) -> Option<Sessions> {
         let mut made = Sessions {
-            session: Session::empty(alloc),
-            changes,
+            session: Session::empty(said.alloc),
+            changes: delta(said, &CHANGES),
             done: 0,
         };
         if call == "Session::copy" {
-            beside(change_all(alloc, &mut Said::new(), &mut made))?;
+            let changed = made.change_all(said);
+            said.stop_if_short(changed.is_err());
         }
-        Ok(made)
+        Some(made)
     }
+}
 
-    fn call_once(&mut self, alloc: Global, said: &mut Said, call: &str) -> Result<(), Stop> {
-        match call {
-            "Session::apply" => {
-                change_all(alloc, said, self)?;
-                show(said, &self.session);
-                Ok(())
+impl Calls for Sessions {
+    fn call_once(&mut self, said: &mut Said, call: &str) {
+        if call == "Session::copy" {
+            self.copy(said);
+        } else {
+            match self.change_all(said) {
+                Ok(()) => {
+                    self.session.show(said);
+                    said.answer();
+                }
+                Err(fault) => said.refuse(fault == SessionFault::Memory),
             }
-            "Session::copy" => copy(alloc, said, &self.session),
-            _ => Err(Stop::Row),
         }
     }
 }
 
-/// Makes the changes that are left.
-fn change_all(alloc: Global, said: &mut Said, made: &mut Sessions) -> Result<(), Stop> {
-    let ops = made.changes.ops();
-    for at in made.done..ops.len() {
-        if let Op::Session { change, .. } = &ops[at] {
-            change_once(alloc, said, &mut made.session, change)?;
+impl Sessions {
+    /// Makes the changes that are left, up to one that is refused.
+    fn change_all(&mut self, said: &mut Said) -> Result<(), SessionFault> {
+        let ops = self.changes.ops();
+        for at in self.done..ops.len() {
+            if let Op::Session { change, .. } = &ops[at] {
+                change_once(said, &mut self.session, change)?;
+            }
+            self.done = at + 1;
         }
-        made.done = at + 1;
+        Ok(())
     }
-    Ok(())
+
+    /// Copies the session.
+    fn copy(&self, said: &mut Said) {
+        let copy = self.session.copy(said.alloc);
+        if let Ok(copy) = &copy {
+            said.keep(*copy == self.session);
+        }
+        given(said, copy, SessionFault::Memory);
+    }
 }
 
 /// Makes a change. If it is refused, the session is as it was.
 fn change_once(
-    alloc: Global,
     said: &mut Said,
     session: &mut Session,
     change: &SessionOp,
-) -> Result<(), Stop> {
-    let before = beside(session.copied(alloc))?;
-    let done = session.apply(alloc, change);
-    if done.is_err() {
-        said.keep(*session == before);
+) -> Result<(), SessionFault> {
+    match session.copied(said.alloc) {
+        Ok(before) => {
+            let done = session.apply(said.alloc, change);
+            said.keep(done.is_ok() || *session == before);
+            done
+        }
+        Err(_) => {
+            said.stop(Stop::Memory);
+            Ok(())
+        }
     }
-    asked(done, SessionFault::Memory)
-}
-
-/// Copies a session.
-fn copy(alloc: Global, said: &mut Said, session: &Session) -> Result<(), Stop> {
-    let copy = asked(session.copy(alloc), SessionFault::Memory)?;
-    said.keep(copy == *session);
-    show(said, &copy);
-    Ok(())
 }
 
 /// Prints how much a session has.
-fn show(said: &mut Said, session: &Session) {
-    said.number("topics", session.topics.len());
-    said.number("subscriptions", session.subscriptions.len());
-    said.number("received", session.received.len());
-    if let Some(will) = &session.will {
-        said.octets(will.message.as_slice());
+impl Shown for Session {
+    fn show(&self, said: &mut Said) {
+        said.number("topics", self.topics.len());
+        said.number("subscriptions", self.subscriptions.len());
+        said.number("received", self.received.len());
+        if let Some(will) = &self.will {
+            said.octets(will.message.as_slice());
+        }
     }
 }

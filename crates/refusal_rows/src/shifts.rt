@@ -1,14 +1,13 @@
 //! Shifts.
 
-use crate::calls::{Calls, beside};
-use crate::gateways::{Gateway, NOT_SUBSCRIBED, SUBSCRIBE, connected, frame, is_excuse, show_out};
+use crate::calls::{Calls, beside, play_call};
+use crate::gateways::{Gateway, NOT_SUBSCRIBED, SUBSCRIBE, frame, gateway, is_excuse, show_out};
 use crate::said::{Said, Stop};
 use gw_node::{NodeFault, Step};
 use gw_shift::{CallFault, Pass, Shift, ShiftFault};
 use jr_journal::MemoryDisk;
 use rep_state::Folded;
 use std::alloc::Global;
-use std::mem;
 use std::sync::{Arc, Wait};
 
 /// A shift of a gateway on a disk in memory.
@@ -16,32 +15,23 @@ pub(crate) type Shared = Shift<Folded, MemoryDisk>;
 
 /// A gateway of which a shift is opened. While that is done, it is not here.
 #[derive(Drop)]
-pub(crate) struct Shifts {
+struct Openings {
     node: Option<Gateway<Folded>>,
 }
 
-impl Calls for Shifts {
-    fn make(alloc: Global, _call: &str, _is_second: bool) -> Result<Shifts, Stop> {
-        let node = connected(alloc)?;
-        Ok(Shifts { node: Some(node) })
-    }
-
-    fn call_once(&mut self, alloc: Global, said: &mut Said, _call: &str) -> Result<(), Stop> {
-        let Some(node) = self.node.take() else {
-            return Err(Stop::Other);
-        };
-        match open(alloc, node, 2) {
-            Ok((shift, passes)) => {
-                let count = passes.len();
-                drop(passes);
-                drop(shift);
-                said.number("passes", count);
-                Ok(())
-            }
-            Err((node, ShiftFault::Memory)) => {
-                said.keep(!node.is_halted());
-                drop(mem::replace(&mut self.node, Some(node)));
-                Err(Stop::Refused)
+impl Calls for Openings {
+    fn call_once(&mut self, said: &mut Said, _call: &str) {
+        if let Some(node) = self.node.take() {
+            match open(said.alloc, node, 2) {
+                Ok((_shift, passes)) => {
+                    said.number("passes", passes.len());
+                    said.answer();
+                }
+                Err((node, ShiftFault::Memory)) => {
+                    said.keep(!node.is_halted());
+                    said.refuse(true);
+                    self.node = Some(node);
+                }
             }
         }
     }
@@ -57,112 +47,95 @@ fn open(
 }
 
 /// A shift of one pass, with it.
-pub(crate) fn begun(alloc: Global) -> Result<(Shared, Vec<Pass>), Stop> {
-    let node = connected(alloc)?;
-    beside(open(alloc, node, 1))
+pub(crate) fn begun(said: &mut Said) -> Option<(Shared, Vec<Pass>)> {
+    let node = gateway(said, true)?;
+    let opened = open(said.alloc, node, 1);
+    beside(said, opened)
 }
 
-/// A shift, its pass unless a call has it, and how many calls its history has.
+/// A shift, the step of its calls, its pass unless a call has it, and how many calls its history
+/// has.
 #[derive(Drop)]
-struct Work {
+struct Work<'a, W: Wait> {
+    rt: &'a W,
     shift: Shared,
+    step: Arc<Step>,
     pass: Option<Pass>,
     calls: u64,
 }
 
-/// A shift without calls.
-fn at_work(alloc: Global) -> Result<Work, Stop> {
-    let (shift, mut passes) = begun(alloc)?;
-    Ok(Work {
-        shift,
-        pass: passes.pop(),
-        calls: 0,
-    })
-}
-
 /// Plays a row.
-pub(crate) fn play<W: Wait>(
-    rt: &W,
-    alloc: Global,
-    said: &mut Said,
-    call: &str,
-) -> Result<(), Stop> {
-    let mut work = at_work(alloc)?;
-    let played = play_at(rt, alloc, said, &mut work, call);
-    if played.is_ok() && call == "Shift::call" {
-        return close(alloc, said, work);
-    }
-    drop(work);
-    played
-}
-
-/// Plays a row of a shift that is opened, up to its end.
-fn play_at<W: Wait>(
-    rt: &W,
-    alloc: Global,
-    said: &mut Said,
-    work: &mut Work,
-    call: &str,
-) -> Result<(), Stop> {
-    let step = Arc::new(alloc, frame(alloc, SUBSCRIBE)?)?;
-    match call {
-        "Shift::call" => call_again(rt, alloc, said, work, &step),
-        "Shift::after" => call_before(rt, alloc, said, work, step),
-        _ => Err(Stop::Row),
+pub(crate) fn play_row<W: Wait>(rt: &W, said: &mut Said, call: &str) {
+    if call == "Shift::open" {
+        let node = gateway(said, true);
+        play_call(said, &mut Openings { node }, call);
+    } else if let Some(step) = subscribe(said) {
+        play_in_shift(rt, said, step, call);
     }
 }
 
-/// Makes a call through a shift beside the row, and asks for the deltas that it made.
-fn call_before<W: Wait>(
-    rt: &W,
-    alloc: Global,
-    said: &mut Said,
-    work: &mut Work,
-    step: Arc<Step>,
-) -> Result<(), Stop> {
-    beside(work.call(rt, alloc, &mut Said::new(), step))?;
-    work.ask_again(rt, alloc, said)
+/// The step of a call.
+fn subscribe(said: &mut Said) -> Option<Arc<Step>> {
+    let step = frame(said, SUBSCRIBE);
+    let made = Arc::new(said.alloc, step);
+    beside(said, made)
 }
 
-/// Makes a call through a shift, and makes it again if it is refused memory.
-fn call_again<W: Wait>(
-    rt: &W,
-    alloc: Global,
-    said: &mut Said,
-    work: &mut Work,
-    step: &Arc<Step>,
-) -> Result<(), Stop> {
-    for _ in 0..2 {
-        let share = beside(step.clone())?;
-        match work.call(rt, alloc, said, share) {
-            Ok(()) => return Ok(()),
-            Err(stop) => said.count(stop)?,
+/// Plays a row of a shift without calls, which has had one of this step when its deltas are asked
+/// for.
+fn play_in_shift<W: Wait>(rt: &W, said: &mut Said, step: Arc<Step>, call: &str) {
+    if let Some((shift, mut passes)) = begun(said) {
+        let mut work = Work {
+            rt,
+            shift,
+            step,
+            pass: passes.pop(),
+            calls: 0,
+        };
+        if call == "Shift::call" {
+            play_call(said, &mut work, call);
+            close(said, work);
+        } else {
+            work.call_aside(said);
+            play_call(said, &mut work, call);
         }
     }
-    Err(Stop::Other)
 }
 
-impl Work {
-    /// Makes a call, and prints what it answers.
-    fn call<W: Wait>(
-        &mut self,
-        rt: &W,
-        alloc: Global,
-        said: &mut Said,
-        step: Arc<Step>,
-    ) -> Result<(), Stop> {
-        let Some(pass) = self.pass.take() else {
-            return Err(Stop::Other);
-        };
-        match self.shift.call(rt, alloc, pass, step) {
-            Ok((pass, out, number)) => {
-                self.pass = Some(pass);
-                self.count(said, number);
-                show_out(alloc, said, &out)
+impl<'a, W: Wait> Calls for Work<'a, W> {
+    fn call_once(&mut self, said: &mut Said, call: &str) {
+        if call == "Shift::call" {
+            if let Some(pass) = self.pass.take() {
+                self.call(said, pass);
             }
-            Err((pass, fault)) => {
-                self.pass = Some(pass);
-                Err(self.look(said, fault))
+        } else if let Some(pass) = &self.pass {
+            show_made(self.rt, said, &self.shift, pass);
+        }
+    }
+}
+
+impl<'a, W: Wait> Work<'a, W> {
+    /// Makes a call of which nothing is printed. If memory is refused in it, the row begins again.
+    fn call_aside(&mut self, said: &mut Said) {
+        let mut aside = Said::new(said.alloc);
+        self.call_once(&mut aside, "Shift::call");
+        said.stop_if_short(!aside.is_answered());
+    }
+
+    /// Makes a call with a pass, and prints what it answers.
+    fn call(&mut self, said: &mut Said, pass: Pass) {
+        if let Some(step) = beside(said, self.step.clone()) {
+            match self.shift.call(self.rt, said.alloc, pass, step) {
+                Ok((pass, out, number)) => {
+                    self.pass = Some(pass);
+                    self.count(said, number);
+                    show_out(said, &out);
+                    said.answer();
+                }
+                Err((pass, fault)) => {
+                    self.pass = Some(pass);
+                    self.look(said, &fault);
+                }
             }
         }
     }
@@ -174,89 +147,55 @@ impl Work {
     }
 
     /// Looks at a refusal. Memory before the gateway was reached is no call.
-    fn look(&mut self, said: &mut Said, fault: CallFault) -> Stop {
+    fn look(&mut self, said: &mut Said, fault: &CallFault) {
         match fault {
-            CallFault::Memory => Stop::Refused,
             CallFault::Node { number, fault } => {
-                self.count(said, number);
-                look_inside(said, fault)
+                self.count(said, *number);
+                look_inside(said, fault);
             }
-            _ => Stop::Other,
+            fault => said.refuse(matches!(fault, CallFault::Memory)),
         }
-    }
-
-    /// Asks for the deltas that were made, and asks again if that is refused memory.
-    fn ask_again<W: Wait>(&self, rt: &W, alloc: Global, said: &mut Said) -> Result<(), Stop> {
-        let Some(pass) = &self.pass else {
-            return Err(Stop::Other);
-        };
-        for _ in 0..2 {
-            match made(rt, alloc, &self.shift, pass) {
-                Ok(made) => {
-                    said.number("deltas", made);
-                    return Ok(());
-                }
-                Err(stop) => said.count(stop)?,
-            }
-        }
-        Err(Stop::Other)
     }
 }
 
 /// Looks at a refusal of the gateway. If its disk was refused memory, the row begins again.
-fn look_inside(said: &mut Said, fault: NodeFault) -> Stop {
+fn look_inside(said: &mut Said, fault: &NodeFault) {
     match fault {
-        NodeFault::Memory => Stop::Refused,
         NodeFault::Disk { out } => {
-            said.keep(is_excuse(&out, NOT_SUBSCRIBED));
-            said.disk = said.disk.saturating_add(1);
-            Stop::Memory
+            said.keep(is_excuse(out, NOT_SUBSCRIBED));
+            said.starve();
+            said.stop(Stop::Memory);
         }
-        _ => Stop::Other,
+        fault => said.refuse(matches!(fault, NodeFault::Memory)),
     }
 }
 
-/// How many deltas were made.
-fn made<W: Wait>(rt: &W, alloc: Global, shift: &Shared, pass: &Pass) -> Result<usize, Stop> {
-    match shift.after(rt, alloc, pass, 0, 9) {
-        Ok(made) => Ok(made.len()),
-        Err(CallFault::Memory) => Err(Stop::Refused),
-        Err(_) => Err(Stop::Other),
+/// Asks for the deltas that were made, and prints how many there are.
+fn show_made<W: Wait>(rt: &W, said: &mut Said, shift: &Shared, pass: &Pass) {
+    match &shift.after(rt, said.alloc, pass, 0, 9) {
+        Ok(made) => {
+            said.number("deltas", made.len());
+            said.answer();
+        }
+        Err(fault) => said.refuse(matches!(fault, CallFault::Memory)),
     }
 }
 
 /// Ends a shift: its pass has all calls.
-fn close(alloc: Global, said: &mut Said, work: Work) -> Result<(), Stop> {
-    let Work { shift, pass, calls } = work;
-    let counted = match passes_of(alloc, pass) {
-        Ok(passes) => count_in(shift, passes),
-        Err(stop) => {
-            drop(shift);
-            Err(stop)
-        }
-    };
-    said.keep(counted? == calls);
-    Ok(())
-}
-
-/// The pass, if it is there.
-fn passes_of(alloc: Global, pass: Option<Pass>) -> Result<Vec<Pass>, Stop> {
-    let mut passes = Vec::new(alloc);
+fn close<'a, W: Wait>(said: &mut Said, work: Work<'a, W>) {
+    let Work {
+        shift,
+        pass,
+        calls,
+        ..
+    } = work;
+    let mut passes = Vec::new(said.alloc);
     if let Some(pass) = pass {
-        passes.push(pass)?;
+        let is_short = passes.push(pass).is_err();
+        said.stop_if_short(is_short);
     }
-    Ok(passes)
-}
-
-/// How many calls the history of a shift has, which ends.
-fn count_in(shift: Shared, passes: Vec<Pass>) -> Result<u64, Stop> {
-    let closed = shift.end().close(passes).ok();
-    match closed {
-        Some(closed) => {
-            let count = closed.history.len() as u64;
-            drop(closed);
-            Ok(count)
-        }
-        None => Err(Stop::Other),
+    match shift.end().close(passes).ok() {
+        Some(closed) => said.keep(closed.history.len() as u64 == calls),
+        None => said.stop(Stop::Other),
     }
 }

@@ -1,9 +1,9 @@
 //! The step table.
 
-ghost use Rattle.std.specs.Prelude.{IfOk};
+ghost use Rattle.std.specs.Prelude.{IfSome};
 ghost use Rattle.sn_frame.specs.Bodies.{IsMessage};
 
-use crate::calls::{Calls, Shown, asked, beside, given};
+use crate::calls::{Calls, Made, Shown, beside};
 use crate::deltas::{client, octets_of};
 use crate::locals::{HERE, change, config};
 use crate::replicas::{new, take};
@@ -24,30 +24,41 @@ use std::alloc::Global;
 /// When a tick comes.
 const LATER: u64 = 20;
 
-/// A gateway without a journal, its client, and the datagram of the call.
+/// A client connects with a will.
+const WITH_WILL: &str = "08040c01003c7331 060700742f61 0609676f6e65";
+
+/// A gateway without a journal, its client, and what comes when the call is made.
 #[derive(Drop)]
 pub(crate) struct Steps<R: Replica> {
     config: Config,
     replica: R,
     dialogs: Dialogs,
     client: ClientId,
-    datagram: Vec<u8>,
+    last: &'static str,
 }
 
-/// What a gateway is told before the call, and the datagram of the call, in hexadecimal digits;
-/// `tick` stands for time that passes.
-fn datagrams(call: &str) -> Option<(&'static str, &'static str)> {
-    let words = match call {
-        "connect" | "step" => ("", "08040401003c7331"),
+/// What comes before the call, and what comes then, each a datagram in hexadecimal digits; `tick`
+/// stands for time that passes.
+fn comes(call: &str) -> (&'static str, &'static str) {
+    match call {
         "disconnect" => ("08040401003c7331", "0418012c"),
-        "will_topic" => ("08040c01003c7331", "060700742f61"),
-        "will_msg" => ("08040c01003c7331 060700742f61", "0609676f6e65"),
-        "will_topic_update" => ("08040c01003c7331 060700742f61 0609676f6e65", "061a00742f62"),
-        "will_msg_update" => ("08040c01003c7331 060700742f61 0609676f6e65", "061c68657265"),
+        "wake" => ("08040401003c7331 0418012c", "04167331"),
         "register" => ("08040401003c7331", "090a00000001742f61"),
         "subscribe" => ("08040401003c7331", "0812200002742f23"),
         "unsubscribe" => ("08040401003c7331 0812200002742f23", "0814000003742f23"),
         "other" => ("", "030100"),
+        "connect" | "step" => ("", "08040401003c7331"),
+        call => comes_late(call),
+    }
+}
+
+/// The same of a call about a will, or about messages.
+fn comes_late(call: &str) -> (&'static str, &'static str) {
+    match call {
+        "will_topic" => ("08040c01003c7331", "060700742f61"),
+        "will_msg" => ("08040c01003c7331 060700742f61", "0609676f6e65"),
+        "will_topic_update" => (WITH_WILL, "061a00742f62"),
+        "will_msg_update" => (WITH_WILL, "061c68657265"),
         "publish_in" => ("08040401003c7331 0812200002742f61", "080c200001000478"),
         "pubrel_in" => (
             "08040401003c7331 090a00000001742f61 080c400001000578",
@@ -57,123 +68,138 @@ fn datagrams(call: &str) -> Option<(&'static str, &'static str)> {
             "08040401003c7331 0812200002742f61 080c200001000478 tick",
             "070d0001000100",
         ),
-        "wake" => ("08040401003c7331 0418012c", "04167331"),
         "deliver_next" => (
             "08040401003c7331 07122200026162 0418012c 080c626162000078",
             "04167331",
         ),
-        "tick" => ("08040401003c7331 0812200002742f61 080c200001000478", ""),
-        _ => return None,
-    };
-    Some(words)
+        _ => ("08040401003c7331 0812200002742f61 080c200001000478", "tick"),
+    }
+}
+
+impl<R: Replica> Made for Steps<R> {
+    fn make(said: &mut Said, call: &str, _is_second: bool) -> Option<Steps<R>> {
+        let (earlier, last) = comes(call);
+        let mut steps = fresh(said, last)?;
+        for word in earlier.split_whitespace() {
+            steps.hear(said, word);
+        }
+        Some(steps)
+    }
 }
 
 impl<R: Replica> Calls for Steps<R> {
-    fn make(alloc: Global, call: &str, _is_second: bool) -> Result<Steps<R>, Stop> {
-        let Some((earlier, last)) = datagrams(call) else {
-            return Err(Stop::Row);
-        };
-        let mut steps = fresh(alloc, last)?;
-        for word in earlier.split_whitespace() {
-            steps.hear(alloc, word)?;
-        }
-        Ok(steps)
-    }
-
-    fn call_once(&mut self, alloc: Global, said: &mut Said, call: &str) -> Result<(), Stop> {
+    fn call_once(&mut self, said: &mut Said, call: &str) {
         match call {
-            "tick" => given(alloc, said, self.ticked(alloc), StepFault::Memory),
-            "step" => self.step_once(alloc, said),
-            "deliver_next" => self.deliver_once(alloc, said),
-            _ => self.row_once(alloc, said),
+            "step" | "tick" => self.step_once(said),
+            "deliver_next" => self.deliver_once(said),
+            _ => self.row_once(said),
         }
     }
 }
 
 /// A gateway that has heard nothing.
-fn fresh<R: Replica>(alloc: Global, digits: &str) -> Result<Steps<R>, Stop> {
-    let datagram = octets_of(alloc, &[digits])?;
-    let client = client(alloc)?;
-    let config = config(alloc, 1)?;
-    let replica = new(alloc)?;
-    Ok(Steps {
+fn fresh<R: Replica>(said: &mut Said, last: &'static str) -> Option<Steps<R>> {
+    let client = client(said)?;
+    let config = config(said)?;
+    let replica = new(said)?;
+    Some(Steps {
         config,
         replica,
-        dialogs: Dialogs::empty(alloc),
+        dialogs: Dialogs::empty(said.alloc),
         client,
-        datagram,
+        last,
     })
 }
 
 /// The frame of a datagram.
-fn read(alloc: Global, octets: &[u8]) -> Result<Frame, Stop>
-    ensures { IfOk result IsMessage }
+fn read(said: &mut Said, digits: &str) -> Option<Frame>
+    ensures { IfSome result IsMessage }
 {
-    match decode(alloc, octets) {
-        Ok(frame) => Ok(frame),
-        Err(_) => Err(Stop::Memory),
+    let octets = octets_of(said, &[digits]);
+    match decode(said.alloc, octets.as_slice()) {
+        Ok(frame) => Some(frame),
+        Err(_) => {
+            said.stop(Stop::Memory);
+            None
+        }
     }
 }
 
 impl<R: Replica> Steps<R> {
-    /// A tick.
-    fn ticked(&self, alloc: Global) -> Result<Plan, StepFault> {
-        tick(alloc, &self.config, &self.replica, &self.dialogs, LATER)
-    }
-
-    /// The plan of these octets, or of a tick.
-    fn planned(&self, alloc: Global, word: &str) -> Result<Plan, Stop> {
-        if word == "tick" {
-            return beside(self.ticked(alloc));
-        }
-        let octets = octets_of(alloc, &[word])?;
-        beside(self.stepped(alloc, octets.as_slice())?)
-    }
-
-    /// The step of a datagram, which is read beside it.
-    fn stepped(&self, alloc: Global, octets: &[u8]) -> Result<Result<Plan, StepFault>, Stop> {
-        let frame = read(alloc, octets)?;
+    /// The plan of a datagram, which is read beside it, or of a tick.
+    fn planned(&self, said: &mut Said, word: &str) -> Option<Result<Plan, StepFault>> {
         let (config, replica, dialogs) = (&self.config, &self.replica, &self.dialogs);
-        Ok(step(alloc, config, replica, dialogs, HERE, &frame, 1))
+        if word == "tick" {
+            return Some(tick(said.alloc, config, replica, dialogs, LATER));
+        }
+        let frame = read(said, word)?;
+        Some(step(said.alloc, config, replica, dialogs, HERE, &frame, 1))
     }
 
     /// A datagram or a tick comes before the call.
-    fn hear(&mut self, alloc: Global, word: &str) -> Result<(), Stop> {
-        let plan = self.planned(alloc, word)?;
-        let delta = beside(Delta::from_ops(alloc, plan.ops.into_vec()))?;
-        let taken = take(alloc, &mut self.replica, &delta);
-        drop(delta);
-        taken?;
-        beside(change(&mut self.dialogs, plan.local))
+    fn hear(&mut self, said: &mut Said, word: &str) {
+        if let Some(planned) = self.planned(said, word) {
+            if let Some(plan) = beside(said, planned) {
+                self.take(said, plan);
+            }
+        }
     }
 
-    /// Asks for the plan of the datagram.
-    fn step_once(&self, alloc: Global, said: &mut Said) -> Result<(), Stop> {
-        let plan = self.stepped(alloc, self.datagram.as_slice())?;
-        given(alloc, said, plan, StepFault::Memory)
+    /// Takes a plan: its operations, and what is in no set of operations.
+    fn take(&mut self, said: &mut Said, plan: Plan) {
+        let Plan { ops, local, .. } = plan;
+        match &Delta::from_ops(said.alloc, ops.into_vec()) {
+            Ok(delta) => take(said, &mut self.replica, delta),
+            Err(_) => said.stop(Stop::Memory),
+        }
+        let changed = change(&mut self.dialogs, local);
+        said.stop_if_short(changed.is_err());
+    }
+
+    /// Asks for the plan of what comes.
+    fn step_once(&self, said: &mut Said) {
+        if let Some(planned) = self.planned(said, self.last) {
+            show_planned(said, planned);
+        }
     }
 
     /// Asks for the plan of the datagram's row, with what follows it.
-    fn deliver_once(&self, alloc: Global, said: &mut Said) -> Result<(), Stop> {
-        let row = beside(self.row(alloc)?)?;
-        let plan = deliver_next(alloc, &self.config, &self.replica, HERE, 1, row);
-        given(alloc, said, plan, StepFault::Memory)
+    fn deliver_once(&self, said: &mut Said) {
+        if let Some(made) = self.row(said) {
+            if let Some(row) = beside(said, made) {
+                let plan = deliver_next(said.alloc, &self.config, &self.replica, HERE, 1, row);
+                show_planned(said, plan);
+            }
+        }
     }
 
     /// Asks for the row of the datagram, and prints its plan.
-    fn row_once(&self, alloc: Global, said: &mut Said) -> Result<(), Stop> {
-        let row = asked(self.row(alloc)?, NoMemory)?;
-        let plan = beside(plan_of_row(alloc, 1, &self.replica, row))?;
-        plan.show(alloc, said)
+    fn row_once(&self, said: &mut Said) {
+        if let Some(made) = self.row(said) {
+            match made {
+                Ok(row) => self.show_row(said, row),
+                Err(_) => said.refuse(true),
+            }
+        }
+    }
+
+    /// Prints the plan of a row, which is made beside it.
+    fn show_row(&self, said: &mut Said, row: Row) {
+        let made = plan_of_row(said.alloc, 1, &self.replica, row);
+        if let Some(plan) = beside(said, made) {
+            show_plan(said, plan);
+            said.answer();
+        }
     }
 
     /// The row of the datagram, which is read beside it.
-    fn row(&self, alloc: Global) -> Result<Result<Row, NoMemory>, Stop> {
-        let frame = read(alloc, self.datagram.as_slice())?;
-        Ok(self.row_of(alloc, &frame))
+    fn row(&self, said: &mut Said) -> Option<Result<Row, NoMemory>> {
+        let frame = read(said, self.last)?;
+        Some(self.row_of(said.alloc, &frame))
     }
 
-    /// The row of a frame.
+    /// The row of a frame. Each of the functions below knows some frames, and leaves all others to
+    /// the next.
     fn row_of(&self, alloc: Global, frame: &Frame) -> Result<Row, NoMemory> {
         let (config, replica, dialogs) = (&self.config, &self.replica, &self.dialogs);
         match frame {
@@ -196,6 +222,16 @@ impl<R: Replica> Steps<R> {
             Frame::Disconnect { duration } => {
                 disconnect(alloc, replica, dialogs, HERE, *duration, 1)
             }
+            Frame::PingReq { .. } => wake(alloc, config, replica, dialogs, HERE, b"s1", 1),
+            Frame::SearchGw { .. } => other(alloc, config, dialogs, HERE, frame, 1),
+            frame => self.will_row_of(alloc, frame),
+        }
+    }
+
+    /// The row of a frame that is about a will.
+    fn will_row_of(&self, alloc: Global, frame: &Frame) -> Result<Row, NoMemory> {
+        let (replica, dialogs) = (&self.replica, &self.dialogs);
+        match frame {
             Frame::WillTopic { will } => will_topic(alloc, replica, dialogs, HERE, will, 1),
             Frame::WillMsg { message } => {
                 will_msg(alloc, replica, dialogs, HERE, message.as_slice(), 1)
@@ -204,14 +240,25 @@ impl<R: Replica> Steps<R> {
             Frame::WillMsgUpd { message } => {
                 will_msg_update(alloc, replica, dialogs, HERE, message.as_slice(), 1)
             }
-            Frame::Register { msg_id, name, .. } => {
-                register(alloc, replica, dialogs, HERE, *msg_id, name.as_slice(), 1)
-            }
+            frame => self.message_row_of(alloc, frame),
+        }
+    }
+
+    /// The row of a frame that is about a message.
+    fn message_row_of(&self, alloc: Global, frame: &Frame) -> Result<Row, NoMemory> {
+        let (config, replica, dialogs) = (&self.config, &self.replica, &self.dialogs);
+        match frame {
+            Frame::Publish {
+                flags,
+                topic,
+                msg_id,
+                body,
+            } => publish_in(
+                alloc, config, replica, dialogs, HERE, *flags, *topic, *msg_id, body, 1,
+            ),
             Frame::PubRel { msg_id } => pubrel_in(alloc, replica, dialogs, HERE, *msg_id, 1),
             Frame::PubAck { .. } => ack_in(alloc, config, replica, dialogs, HERE, frame, 1),
-            Frame::PingReq { .. } => wake(alloc, config, replica, dialogs, HERE, b"s1", 1),
-            Frame::SearchGw { .. } => other(alloc, config, dialogs, HERE, frame, 1),
-            _ => self.topic_row_of(alloc, frame),
+            frame => self.topic_row_of(alloc, frame),
         }
     }
 
@@ -219,6 +266,9 @@ impl<R: Replica> Steps<R> {
     fn topic_row_of(&self, alloc: Global, frame: &Frame) -> Result<Row, NoMemory> {
         let (config, replica, dialogs) = (&self.config, &self.replica, &self.dialogs);
         match frame {
+            Frame::Register { msg_id, name, .. } => {
+                register(alloc, replica, dialogs, HERE, *msg_id, name.as_slice(), 1)
+            }
             Frame::Subscribe {
                 flags,
                 msg_id,
@@ -249,26 +299,29 @@ impl<R: Replica> Steps<R> {
                 topic.as_slice(),
                 1,
             ),
-            Frame::Publish {
-                flags,
-                topic,
-                msg_id,
-                body,
-            } => publish_in(
-                alloc, config, replica, dialogs, HERE, *flags, *topic, *msg_id, body, 1,
-            ),
             _ => Err(NoMemory),
         }
     }
 }
 
-/// Prints what a plan sends, and its operations.
-impl Shown for Plan {
-    fn show(self, alloc: Global, said: &mut Said) -> Result<(), Stop> {
-        for send in self.sends.as_slice() {
-            said.octets(send.bytes.as_slice());
+/// Prints the plan that a call gives.
+fn show_planned(said: &mut Said, planned: Result<Plan, StepFault>) {
+    match planned {
+        Ok(plan) => {
+            show_plan(said, plan);
+            said.answer();
         }
-        let delta = beside(Delta::from_ops(alloc, self.ops.into_vec()))?;
-        delta.show(alloc, said)
+        Err(fault) => said.refuse(fault == StepFault::Memory),
+    }
+}
+
+/// Prints what a plan sends, and its operations.
+fn show_plan(said: &mut Said, plan: Plan) {
+    for send in plan.sends.as_slice() {
+        said.octets(send.bytes.as_slice());
+    }
+    match &Delta::from_ops(said.alloc, plan.ops.into_vec()) {
+        Ok(delta) => delta.show(said),
+        Err(_) => said.stop(Stop::Memory),
     }
 }

@@ -1,9 +1,8 @@
 //! Topic names, filters and predefined topic ids.
 
-use crate::calls::{Calls, Shown, beside, given};
+use crate::calls::{Calls, Made, Shown, beside, given};
 use crate::said::{Said, Stop};
 use sn_topic::{Filter, Predefined, TopicFault, TopicName};
-use std::alloc::Global;
 
 /// What is copied.
 #[derive(Drop)]
@@ -13,76 +12,109 @@ pub(crate) struct Topics {
     table: Predefined,
 }
 
-impl Calls for Topics {
-    fn make(alloc: Global, _call: &str, _is_second: bool) -> Result<Topics, Stop> {
-        let name = topic(alloc)?;
-        let filter = beside(Filter::new(alloc, b"t/#"))?;
-        let table = predefined(alloc)?;
-        Ok(Topics {
+impl Made for Topics {
+    fn make(said: &mut Said, _call: &str, _is_second: bool) -> Option<Topics> {
+        let name = topic(said)?;
+        let filter = filter(said, b"t/#")?;
+        let table = predefined(said)?;
+        Some(Topics {
             name,
             filter,
             table,
         })
     }
+}
 
-    fn call_once(&mut self, alloc: Global, said: &mut Said, call: &str) -> Result<(), Stop> {
-        let memory = TopicFault::Memory;
+impl Calls for Topics {
+    fn call_once(&mut self, said: &mut Said, call: &str) {
         match call {
-            "TopicName::new" => given(alloc, said, TopicName::new(alloc, b"t/a"), memory),
-            "TopicName::copy" => given(alloc, said, self.name.copy(alloc), memory),
-            "Filter::new" => given(alloc, said, Filter::new(alloc, b"t/#"), memory),
-            "Filter::copy" => given(alloc, said, self.filter.copy(alloc), memory),
-            "Predefined::new" => {
-                let entries = entries(alloc)?;
-                given(alloc, said, Predefined::new(alloc, entries), memory)
-            }
-            "Predefined::copy" => given(alloc, said, self.table.copy(alloc), memory),
-            _ => Err(Stop::Row),
+            "TopicName::new" | "TopicName::copy" => self.name_once(said, call),
+            "Filter::new" | "Filter::copy" => self.filter_once(said, call),
+            _ => self.table_once(said, call),
         }
     }
 }
 
+impl Topics {
+    /// Makes or copies a topic name.
+    fn name_once(&self, said: &mut Said, call: &str) {
+        let made = if call == "TopicName::new" {
+            TopicName::new(said.alloc, b"t/a")
+        } else {
+            self.name.copy(said.alloc)
+        };
+        given(said, made, TopicFault::Memory);
+    }
+
+    /// Makes or copies a filter.
+    fn filter_once(&self, said: &mut Said, call: &str) {
+        let made = if call == "Filter::new" {
+            Filter::new(said.alloc, b"t/#")
+        } else {
+            self.filter.copy(said.alloc)
+        };
+        given(said, made, TopicFault::Memory);
+    }
+
+    /// Makes or copies a table of predefined topic ids.
+    fn table_once(&self, said: &mut Said, call: &str) {
+        let made = if call == "Predefined::new" {
+            let entries = entries(said);
+            Predefined::new(said.alloc, entries)
+        } else {
+            self.table.copy(said.alloc)
+        };
+        given(said, made, TopicFault::Memory);
+    }
+}
+
 impl Shown for TopicName {
-    fn show(self, _alloc: Global, said: &mut Said) -> Result<(), Stop> {
+    fn show(&self, said: &mut Said) {
         said.octets(self.bytes());
-        Ok(())
     }
 }
 
 impl Shown for Filter {
-    fn show(self, _alloc: Global, said: &mut Said) -> Result<(), Stop> {
+    fn show(&self, said: &mut Said) {
         said.octets(self.bytes());
-        Ok(())
     }
 }
 
 /// Prints what id 5 stands for.
 impl Shown for Predefined {
-    fn show(self, _alloc: Global, said: &mut Said) -> Result<(), Stop> {
+    fn show(&self, said: &mut Said) {
         match self.name(5) {
-            Some(name) => {
-                said.octets(name.bytes());
-                Ok(())
-            }
-            None => Err(Stop::Other),
+            Some(name) => said.octets(name.bytes()),
+            None => said.stop(Stop::Other),
         }
     }
 }
 
 /// A topic name.
-fn topic(alloc: Global) -> Result<TopicName, Stop> {
-    beside(TopicName::new(alloc, b"t/a"))
+fn topic(said: &mut Said) -> Option<TopicName> {
+    let made = TopicName::new(said.alloc, b"t/a");
+    beside(said, made)
+}
+
+/// A filter.
+pub(crate) fn filter(said: &mut Said, octets: &[u8]) -> Option<Filter> {
+    let made = Filter::new(said.alloc, octets);
+    beside(said, made)
 }
 
 /// What a gateway knows beforehand: id 5.
-fn entries(alloc: Global) -> Result<Vec<(u16, TopicName)>, Stop> {
-    let mut entries = Vec::new(alloc);
-    entries.push((5u16, topic(alloc)?))?;
-    Ok(entries)
+fn entries(said: &mut Said) -> Vec<(u16, TopicName)> {
+    let mut entries = Vec::new(said.alloc);
+    if let Some(topic) = topic(said) {
+        let is_short = entries.push((5u16, topic)).is_err();
+        said.stop_if_short(is_short);
+    }
+    entries
 }
 
 /// The same as a table.
-pub(crate) fn predefined(alloc: Global) -> Result<Predefined, Stop> {
-    let entries = entries(alloc)?;
-    beside(Predefined::new(alloc, entries))
+pub(crate) fn predefined(said: &mut Said) -> Option<Predefined> {
+    let entries = entries(said);
+    let made = Predefined::new(said.alloc, entries);
+    beside(said, made)
 }

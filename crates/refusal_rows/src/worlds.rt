@@ -1,16 +1,15 @@
 //! Fields of gateways, and scripts.
 
-use crate::calls::{Calls, asked, beside};
-use crate::gateways::{Gateway, kept};
+use crate::calls::{Calls, Made, beside};
+use crate::gateways::{Gateway, show_kept};
 use crate::page::Page;
-use crate::said::{Said, Stop};
+use crate::said::Said;
 use gw_play::{Counted, play};
 use gw_script::{Script, parse};
 use gw_world::{World, WorldFault, run};
 use rep_model::Replica;
 use rep_plain::Plain;
 use rep_state::Folded;
-use std::alloc::Global;
 
 /// A script about two gateways.
 const FIELD: &[u8] =
@@ -27,71 +26,61 @@ pub(crate) struct Worlds {
     is_folded: bool,
 }
 
-impl Calls for Worlds {
-    fn make(alloc: Global, _call: &str, is_second: bool) -> Result<Worlds, Stop> {
-        let script = beside(parse(alloc, FIELD))?;
-        Ok(Worlds {
+impl Made for Worlds {
+    fn make(said: &mut Said, _call: &str, is_second: bool) -> Option<Worlds> {
+        let parsed = parse(said.alloc, FIELD);
+        let script = beside(said, parsed)?;
+        Some(Worlds {
             script,
             is_folded: is_second,
         })
     }
+}
 
-    fn call_once(&mut self, alloc: Global, said: &mut Said, call: &str) -> Result<(), Stop> {
+impl Calls for Worlds {
+    fn call_once(&mut self, said: &mut Said, call: &str) {
         if call == "play" {
-            play_once(alloc, said)
+            play_once(said);
         } else if self.is_folded {
-            run_once::<Folded>(alloc, said, &self.script)
+            run_once::<Folded>(said, &self.script);
         } else {
-            run_once::<Plain>(alloc, said, &self.script)
+            run_once::<Plain>(said, &self.script);
         }
     }
 }
 
 /// Runs what a script says.
-fn run_once<R: Replica>(alloc: Global, said: &mut Said, script: &Script) -> Result<(), Stop> {
+fn run_once<R: Replica>(said: &mut Said, script: &Script) {
     let (configs, events) = (script.configs.as_slice(), script.events.as_slice());
-    show(alloc, said, run::<R>(alloc, configs, events))
-}
-
-/// Prints how much a run gave, and what each gateway keeps.
-fn show<R: Replica>(
-    alloc: Global,
-    said: &mut Said,
-    ran: Result<World<Gateway<R>>, WorldFault>,
-) -> Result<(), Stop> {
-    let world = asked(ran, WorldFault::Memory)?;
-    let shown = show_world(alloc, said, &world);
-    drop(world);
-    shown
+    match &run::<R>(said.alloc, configs, events) {
+        Ok(world) => {
+            show_world(said, world);
+            said.answer();
+        }
+        Err(fault) => said.refuse(*fault == WorldFault::Memory),
+    }
 }
 
 /// Prints how much there is in a world, and what each of its gateways keeps.
-fn show_world<R: Replica>(
-    alloc: Global,
-    said: &mut Said,
-    world: &World<Gateway<R>>,
-) -> Result<(), Stop> {
+fn show_world<R: Replica>(said: &mut Said, world: &World<Gateway<R>>) {
     said.number("answers", world.answers.len());
     said.number("deltas", world.deltas.len());
     for node in world.gateways.as_slice() {
-        let octets = kept(alloc, node)?;
-        said.octets(octets.as_slice());
+        show_kept(said, node);
     }
-    Ok(())
 }
 
 /// Plays the script about one gateway. If memory is refused, that is all it prints.
-fn play_once(alloc: Global, said: &mut Said) -> Result<(), Stop> {
+fn play_once(said: &mut Said) {
     let mut page = Page::new();
-    match play(alloc, &mut Counted::new(SCRIPT), &mut page) {
+    match play(said.alloc, &mut Counted::new(SCRIPT), &mut page) {
         0 => {
             said.page.append(page.as_slice());
-            Ok(())
+            said.answer();
         }
-        1 => {
+        status => {
             said.keep(page.as_slice() == b"E3\n".as_slice());
-            Err(Stop::Refused)
+            said.refuse(status == 1);
         }
-        _ => Err(Stop::Other),
     }
 }

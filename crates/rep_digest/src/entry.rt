@@ -8,7 +8,7 @@ use sn_topic::TopicName;
 
 /// What a digest says of one origin's messages for a client. Ranges of sequence numbers are in
 /// ascending order, and neither overlap nor touch.
-#[derive(Debug, Drop)]
+#[derive(Drop)]
 pub struct OriginEntry {
     /// The gateway that made the messages.
     pub origin: u8,
@@ -30,7 +30,7 @@ impl OriginEntry {
 }
 
 /// What a digest says of a client.
-#[derive(Debug, Drop)]
+#[derive(Drop)]
 pub struct ClientEntry {
     /// Whose entry it is.
     pub client: ClientId,
@@ -43,7 +43,7 @@ pub struct ClientEntry {
 }
 
 /// What a digest says of a topic: what was retained of it last.
-#[derive(Debug, Drop)]
+#[derive(Drop)]
 pub struct RetainedEntry {
     /// The topic.
     pub topic: TopicName,

@@ -14,7 +14,7 @@ use rep_ops::{ClientId, Delta, Op};
 use std::alloc::Global;
 
 /// The acknowledgements of the messages first to last of an origin.
-#[derive(Clone, Copy, Debug)]
+#[derive(Clone, Copy)]
 pub struct Acknowledged {
     pub origin: u8,
     pub first: u64,

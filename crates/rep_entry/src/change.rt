@@ -25,7 +25,7 @@ use std::mem;
 
 /// What is staged of a client: its log and its acknowledgements, where they change, and the
 /// messages that are new.
-#[derive(Debug, Drop)]
+#[derive(Drop)]
 pub struct Change {
     /// The session operations as they will be, where some are new.
     pub log: Option<Log>,

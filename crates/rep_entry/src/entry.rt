@@ -10,7 +10,7 @@ use std::alloc::Global;
 
 /// What the replica keeps of one client. What its operations say is read off here, and nowhere
 /// worked out again.
-#[derive(Debug, Drop)]
+#[derive(Drop)]
 pub struct Entry {
     /// The view: stamp, prefix and session of the operations below, and the messages that wait.
     pub seen: ClientView,

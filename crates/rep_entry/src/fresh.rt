@@ -33,7 +33,7 @@ use std::mem;
 /// What a delta changes of one client: the log and the acknowledgements as they will be, where
 /// something came for them, the messages that are new, and the sequence numbers that are
 /// acknowledged anew, as far as they reach.
-#[derive(Debug, Drop)]
+#[derive(Drop)]
 pub struct Fresh {
     pub(crate) log: Option<Log>,
     pub(crate) news: News,

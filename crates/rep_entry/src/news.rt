@@ -12,7 +12,7 @@ use std::alloc::Global;
 use std::marker::Model;
 
 /// Messages in the order of their names. Contracts see each under its name.
-#[derive(Debug, Drop)]
+#[derive(Drop)]
 pub struct News {
     puts: Vec<Put>,
 }

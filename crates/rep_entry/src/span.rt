@@ -9,7 +9,7 @@ use super::searching::{count_below, count_up_to};
 use rep_ops::Put;
 
 /// The sequence numbers from the first to the last; none where the last is below the first.
-#[derive(Clone, Copy, Debug)]
+#[derive(Clone, Copy)]
 pub struct Span {
     pub(crate) first: u64,
     pub(crate) last: u64,

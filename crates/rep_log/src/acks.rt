@@ -22,7 +22,7 @@ use std::marker::Model;
 
 /// The acknowledged sequence numbers of each origin, as ranges in ascending order that do not
 /// touch. Contracts see the origins in ascending order, each with its ranges.
-#[derive(Debug, Drop)]
+#[derive(Drop)]
 pub struct Acks {
     origins: BTreeMap<u8, Vec<(u64, u64)>>,
 }

@@ -24,7 +24,7 @@ use std::marker::Model;
 pub type NamedOp = ((Stamp, u8), SessionOp);
 
 /// Session operations under their names. Contracts see them in the order of the names.
-#[derive(Debug, Drop)]
+#[derive(Drop)]
 pub struct Known {
     ops: Vec<NamedOp>,
 }

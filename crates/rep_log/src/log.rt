@@ -28,7 +28,7 @@ use std::mem;
 /// The session operations of a client as they will be, and what they come to. Those that are there
 /// stay where they are, with more after them, as long as each new one comes after all; else they
 /// are given up, and those of them that stay are copied.
-#[derive(Debug, Drop)]
+#[derive(Drop)]
 pub struct Log {
     /// The visible stamp.
     pub stamp: Option<Stamp>,

@@ -7,6 +7,7 @@ ghost use Rattle.rep_model.specs.Faults.{number_of};
 use octets::NoMemory;
 use rep_op::Subject;
 use std::alloc::AllocError;
+use std::fmt;
 use thiserror::Error;
 
 /// The most clients that a replica holds.
@@ -45,14 +46,27 @@ pub enum Limit {
 #[derive(Debug, Drop, PartialEq, Eq, Error)]
 pub enum TakeFault {
     /// Fault 1: an operation kept under a name of the delta differs from the delta's.
-    #[error("an operation of {of:?} contradicts one that is kept under the same name")]
     Conflict { of: Subject },
     /// Fault 2: more would be held than the limit.
-    #[error("the limit {limit:?} would be passed")]
     Full { limit: Limit },
     /// Fault 3: memory ran out.
-    #[error("out of memory")]
     Memory,
+}
+
+impl fmt::Display for TakeFault {
+    /// Says why the delta is refused.
+    fn fmt<W: fmt::Write>(&self, f: &mut fmt::Formatter<W>) -> fmt::Result {
+        match self {
+            TakeFault::Conflict { of } => {
+                write!(
+                    f,
+                    "an operation of {of:?} contradicts one that is kept under the same name"
+                )
+            }
+            TakeFault::Full { limit } => write!(f, "the limit {limit:?} would be passed"),
+            TakeFault::Memory => f.write_str("out of memory"),
+        }
+    }
 }
 
 impl TakeFault {

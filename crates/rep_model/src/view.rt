@@ -9,7 +9,7 @@ use std::alloc::Global;
 use std::marker::Model;
 
 /// Messages in the order of delivery: by sequence number, then origin. Contracts see the list.
-#[derive(Debug, Drop)]
+#[derive(Drop)]
 pub struct Puts {
     items: Vec<Put>,
 }
@@ -72,7 +72,7 @@ impl Puts {
 }
 
 /// What a set of operations says of a client.
-#[derive(Debug, Drop)]
+#[derive(Drop)]
 pub struct ClientView {
     /// The greatest stamp whose Take is there.
     pub stamp: Option<Stamp>,
@@ -89,15 +89,11 @@ impl ClientView {
     pub fn copied(&self, alloc: Global) -> Result<ClientView, NoMemory>
         ensures { IfOk result (λ made. made ≡ self.now) }
     {
-        let session = match &self.session {
-            None => None,
-            Some(session) => Some(session.copied(alloc)?),
-        };
         Ok(ClientView {
             stamp: self.stamp,
             prefix: self.prefix,
-            session,
             pending: self.pending.copied(alloc)?,
+            session: copied_session(&self.session, alloc)?,
         })
     }
 
@@ -107,5 +103,15 @@ impl ClientView {
         ensures err { IfErr result (λ fault. fault ≡ OpsFault.Memory) }
     {
         Ok(self.copied(alloc)?)
+    }
+}
+
+/// An equal session, if there is one.
+fn copied_session(session: &Option<Session>, alloc: Global) -> Result<Option<Session>, NoMemory>
+    ensures { IfOk result (λ made. made ≡ session.now) }
+{
+    match session {
+        None => Ok(None),
+        Some(session) => Ok(Some(session.copied(alloc)?)),
     }
 }

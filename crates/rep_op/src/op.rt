@@ -16,7 +16,7 @@ use std::cmp::Ordering;
 pub const MAX_OPERATIONS: u16 = 256;
 
 /// Who writes a client's session, and since when. Stamps are ordered by epoch, then gateway.
-#[derive(Clone, Copy, Debug, PartialEq, Eq, PartialOrd, Ord)]
+#[derive(Clone, Copy, PartialEq, Eq, PartialOrd, Ord)]
 pub struct Stamp {
     /// Counts the owners of the client: the greater epoch wins.
     pub epoch: u64,
@@ -25,7 +25,7 @@ pub struct Stamp {
 }
 
 /// A message that waits for a client.
-#[derive(Debug, Drop, PartialEq, Eq)]
+#[derive(Drop, PartialEq, Eq)]
 pub struct Put {
     /// The gateway that made it.
     pub origin: u8,
@@ -44,7 +44,7 @@ pub struct Put {
 }
 
 /// What is retained of a topic, to be handed to whoever subscribes to it later.
-#[derive(Debug, Drop, PartialEq, Eq)]
+#[derive(Drop, PartialEq, Eq)]
 pub struct Retained {
     /// Counts what was retained of the topic, from 1: the greatest counts.
     pub clock: u64,
@@ -78,7 +78,7 @@ impl Subject {
 }
 
 /// An operation on the state of a client, or of a topic.
-#[derive(Debug, Drop, PartialEq, Eq)]
+#[derive(Drop, PartialEq, Eq)]
 pub enum Op {
     /// A change of the session, named by client, stamp and counter. Counter 0 is a Take.
     Session {

@@ -6,7 +6,7 @@ ghost use Rattle.rep_op.specs.Versions as spec;
 use super::op::Op;
 
 /// A version of the format in which operations are spelled.
-#[derive(Clone, Copy, Debug, PartialEq, Eq)]
+#[derive(Clone, Copy, PartialEq, Eq)]
 pub enum Version {
     /// Version 1: it cannot say that a message was retained or expires, nor what is retained.
     One,

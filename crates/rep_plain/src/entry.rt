@@ -16,7 +16,7 @@ use rep_shared::{count_parked, operations_in_order};
 use std::alloc::Global;
 
 /// The operations of one client, and what they come to.
-#[derive(Debug, Drop)]
+#[derive(Drop)]
 pub struct Entry {
     /// The operations in the order in which they came.
     pub(crate) ops: Vec<Op>,

@@ -19,7 +19,7 @@ use std::collections::BTreeMap;
 use std::marker::Model;
 
 /// A table of clients, each with its operations and the view that they give.
-#[derive(Debug, Drop)]
+#[derive(Drop)]
 pub struct PlainClients {
     /// The clients. A place without operations is seen by no query.
     table: Table,
@@ -41,7 +41,7 @@ impl Model for PlainClients {
 }
 
 /// Operations that fit: the entries of the clients that they name, with them.
-#[derive(Debug, Drop)]
+#[derive(Drop)]
 pub struct Staged {
     /// The entries, in the order of the clients.
     fresh: Vec<(ClientId, Entry)>,

@@ -11,7 +11,7 @@ use rep_shared::{above_gap, with_range};
 use std::alloc::Global;
 
 /// The acknowledgements of the messages first to last of an origin.
-#[derive(Clone, Copy, Debug)]
+#[derive(Clone, Copy)]
 pub(crate) struct Range {
     pub(crate) origin: u8,
     pub(crate) first: u64,

@@ -15,7 +15,7 @@ use sn_topic::TopicName;
 use std::alloc::Global;
 
 /// What is staged of a table.
-#[derive(Debug, Drop)]
+#[derive(Drop)]
 pub enum TopicsStaged {
     /// The table stays.
     Nothing,

@@ -29,7 +29,7 @@ use std::cmp::Ordering;
 use std::marker::Model;
 
 /// What is retained of each topic: the last. Contracts see the topics with it, in ascending order.
-#[derive(Debug, Drop)]
+#[derive(Drop)]
 pub struct Topics {
     entries: Vec<(TopicName, Retained)>,
 }

@@ -24,7 +24,7 @@ use rep_ops::ClientId;
 use std::alloc::Global;
 
 /// Where the entry of a client stands.
-#[derive(Debug, Drop)]
+#[derive(Drop)]
 pub struct Place {
     pub(crate) name: ClientId,
     pub(crate) index: usize,

@@ -20,7 +20,7 @@ use std::alloc::Global;
 use std::marker::Model;
 
 /// Of each client what must be kept, and what it comes to.
-#[derive(Debug, Drop)]
+#[derive(Drop)]
 pub struct FoldedClients {
     /// The clients. An empty place is seen by no query.
     table: Table,
@@ -48,7 +48,7 @@ impl Model for FoldedClients {
 }
 
 /// Operations that fit: what becomes of the clients that they name once they are taken.
-#[derive(Debug, Drop)]
+#[derive(Drop)]
 pub struct Staged {
     /// The changes, each under the octets of its client.
     changes: Vec<(Vec<u8>, Change)>,

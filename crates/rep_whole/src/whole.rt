@@ -12,7 +12,7 @@ use sn_tables::sn_topic::{Filter, TopicName};
 use std::alloc::Global;
 
 /// A replica of the operations of clients beside a table of topics: together a replica.
-#[derive(Debug, Drop)]
+#[derive(Drop)]
 pub struct Whole<C: ClientSet> {
     clients: C,
     topics: Topics,
@@ -20,7 +20,7 @@ pub struct Whole<C: ClientSet> {
 }
 
 /// What is staged of clients beside what is staged of the table of topics.
-#[derive(Debug, Drop)]
+#[derive(Drop)]
 pub struct WholeStaged<S> {
     clients: S,
     topics: TopicsStaged,

@@ -1,16 +1,14 @@
 //! Lines that try a journal at one place after the other, each on a disk of its own.
 
 use crate::calls;
-use crate::deltas::made;
-use crate::fields::{count, octet};
-use crate::journals::{Held, Store, base_of, both, octets_of, put, reason, slot};
-use crate::retries::all_calls;
-use crate::runs::{Run, add, finish};
-use crate::stop::Stop;
-use crate::words::{Digits, NotWritten, slot_word};
+use crate::journals::{Held, Store, both, octets_of, put};
+use crate::page::Page;
+use crate::retries::call_all;
+use crate::runs::Runs;
+use crate::values::{print_journal_fault, slot, slot_word};
+use crate::words::Words;
 use jr_journal::{JournalFault, MemoryDisk, OnceCall, OnceDisk, Slot};
-use rep_ops::{Delta, Op};
-use std::alloc::{AllocError, Global};
+use rep_ops::Delta;
 
 /// What is tried at each place.
 #[derive(Clone, Copy)]
@@ -24,200 +22,133 @@ pub(crate) enum Trial<'a> {
 }
 
 /// A disk with these octets in its slots, synced.
-fn disk_with(alloc: Global, held: &Held) -> Result<MemoryDisk, Stop> {
-    let mut disk = MemoryDisk::new(alloc);
-    fill(&mut disk, held)?;
-    Ok(disk)
-}
-
-/// Puts octets in both slots.
-fn fill(disk: &mut MemoryDisk, held: &Held) -> Result<(), Stop> {
-    put(disk, Slot::First, &held.first)?;
-    put(disk, Slot::Second, &held.second)
+fn disk_with(page: &mut Page, held: &Held) -> MemoryDisk {
+    let mut disk = MemoryDisk::new(page.alloc);
+    put(page, &mut disk, Slot::First, &held.first);
+    put(page, &mut disk, Slot::Second, &held.second);
+    disk
 }
 
 /// How many records an opening reads, and in which slot, or why none.
-pub(crate) fn opening(alloc: Global, disk: MemoryDisk, gateway: u8) -> Result<String, Stop> {
-    match calls::open(alloc, disk, gateway) {
-        Ok((journal, deltas)) => Ok(count_text(alloc, deltas.len(), journal.slot())?),
-        Err((disk, fault)) => fault_text(alloc, fault, disk.starved()),
+pub(crate) fn opening(said: &mut Page, disk: MemoryDisk, gateway: u8) {
+    match calls::open(said.alloc, disk, gateway) {
+        Ok((journal, deltas)) => print_read(said, deltas.len(), journal.slot()),
+        Err((disk, fault)) => print_refusal(said, fault, disk.starved()),
     }
 }
 
-/// The words of a number of records in a slot.
-fn count_text(alloc: Global, count: usize, slot: Slot) -> Result<String, AllocError> {
-    let slot = slot_word(slot);
-    format!(in alloc; "records {count} in {slot}")
+/// A number of records in a slot.
+fn print_read(said: &mut Page, count: usize, slot: Slot) {
+    said.word("records");
+    said.word(count);
+    said.word("in");
+    said.word(slot_word(slot));
 }
 
-/// The words of a refusal.
-fn fault_text(alloc: Global, fault: JournalFault, is_starved: bool) -> Result<String, Stop> {
-    let why = reason(fault, is_starved)?;
-    Ok(format!(in alloc; "refused {why}")?)
+/// A refusal.
+fn print_refusal(said: &mut Page, fault: JournalFault, is_starved: bool) {
+    said.word("refused");
+    print_journal_fault(said, fault, is_starved);
 }
 
 /// How many records an opening reads, and what their slot holds after it.
-fn opening_whole(alloc: Global, disk: MemoryDisk, gateway: u8) -> Result<String, Stop> {
-    match calls::open(alloc, disk, gateway) {
+fn opening_whole(said: &mut Page, disk: MemoryDisk, gateway: u8) {
+    match calls::open(said.alloc, disk, gateway) {
         Ok((journal, deltas)) => {
             let slot = journal.slot();
-            slot_text(alloc, deltas.len(), slot, &mut journal.into_disk())
+            print_read(said, deltas.len(), slot);
+            print_held(said, &mut journal.into_disk(), slot);
         }
-        Err((disk, fault)) => fault_text(alloc, fault, disk.starved()),
+        Err((disk, fault)) => print_refusal(said, fault, disk.starved()),
     }
 }
 
-/// The words of a number of records, their slot and what that holds.
-fn slot_text(
-    alloc: Global,
-    count: usize,
-    slot: Slot,
-    disk: &mut MemoryDisk,
-) -> Result<String, Stop> {
-    let octets = octets_of(alloc, disk, slot)?;
-    Ok(read_text(alloc, count, slot, &octets)?)
-}
-
-/// The words of a number of records, their slot and its octets.
-fn read_text(alloc: Global, count: usize, slot: Slot, octets: &[u8]) -> Result<String, AllocError> {
-    let slot = slot_word(slot);
-    let octets = Digits(octets);
-    format!(in alloc; "records {count} in {slot}, {octets}")
+/// What a slot holds.
+fn print_held(said: &mut Page, disk: &mut MemoryDisk, slot: Slot) {
+    let octets = octets_of(said, disk, slot);
+    said.text(",");
+    said.digits(&octets);
 }
 
 /// `openings GATEWAY SLOT`: an opening where each beginning of the octets stands after what the
 /// slot has.
-pub(crate) fn openings(
-    alloc: Global,
-    text: &mut String,
-    store: &mut Store,
-    bytes: &[u8],
-    fields: &[&str],
-) -> Result<(), Stop> {
-    let [gateway, name] = fields else {
-        return Err(Stop::Line);
-    };
-    let (gateway, slot) = (octet(gateway)?, slot(name)?);
-    let held = both(alloc, store)?;
-    let mut run = None;
-    open_each(alloc, text, &mut run, &held, gateway, slot, bytes)?;
-    Ok(finish(text, run)?)
+pub(crate) fn openings(page: &mut Page, store: &mut Store, octets: &[u8], words: &mut Words<'_>) {
+    let (gateway, slot) = (words.octet(), slot(words));
+    let held = both(page, store, words);
+    if words.end() {
+        open_each(page, &held, gateway, slot, octets);
+    }
 }
 
 /// The openings after each beginning of the octets.
-fn open_each(
-    alloc: Global,
-    text: &mut String,
-    run: &mut Option<Run>,
-    held: &Held,
-    gateway: u8,
-    slot: Slot,
-    bytes: &[u8],
-) -> Result<(), Stop> {
-    for end in 0..=bytes.len() {
-        let said = opening_behind(alloc, held, gateway, slot, &bytes[..end])?;
-        add(text, run, end, said)?;
+fn open_each(page: &mut Page, held: &Held, gateway: u8, slot: Slot, octets: &[u8]) {
+    let mut runs = Runs::new(page.alloc);
+    for end in 0..=octets.len() {
+        opening_behind(&mut runs.answers.said, held, gateway, slot, &octets[..end]);
+        runs.add(page, end);
     }
-    Ok(())
+    runs.finish(page);
 }
 
 /// An opening where octets stand after what the slot has.
-fn opening_behind(
-    alloc: Global,
-    held: &Held,
-    gateway: u8,
-    slot: Slot,
-    bytes: &[u8],
-) -> Result<String, Stop> {
-    let mut disk = disk_with(alloc, held)?;
-    put(&mut disk, slot, bytes)?;
-    opening_whole(alloc, disk, gateway)
-}
-
-/// A gateway, and the last place.
-fn gateway_and_last(fields: &[&str]) -> Result<(u8, usize), Stop> {
-    let [gateway, most] = fields else {
-        return Err(Stop::Line);
-    };
-    Ok((octet(gateway)?, count(most)?))
+fn opening_behind(said: &mut Page, held: &Held, gateway: u8, slot: Slot, octets: &[u8]) {
+    let mut disk = disk_with(said, held);
+    put(said, &mut disk, slot, octets);
+    opening_whole(said, disk, gateway);
 }
 
 /// `appends GATEWAY COUNT`: a record of the operations whose append stops after each number of
 /// octets up to this one; then a crash that leaves all that went out, and an opening.
-pub(crate) fn appends(
-    alloc: Global,
-    text: &mut String,
-    store: &mut Store,
-    ops: Vec<Op>,
-    fields: &[&str],
-) -> Result<(), Stop> {
-    let (gateway, most) = gateway_and_last(fields)?;
-    match made(alloc, text, ops)? {
-        None => Ok(()),
-        Some(delta) => tried(alloc, text, store, gateway, most, &Trial::Append(&delta)),
-    }
+pub(crate) fn appends(page: &mut Page, store: &mut Store, words: &mut Words<'_>, delta: &Delta) {
+    let gateway = words.octet();
+    tried(page, store, words, gateway, &Trial::Append(delta));
 }
 
 /// `compactions GATEWAY COUNT`: the same of compactions to the operations.
 pub(crate) fn compactions(
-    alloc: Global,
-    text: &mut String,
+    page: &mut Page,
     store: &mut Store,
-    ops: Vec<Op>,
-    fields: &[&str],
-) -> Result<(), Stop> {
-    let (gateway, most) = gateway_and_last(fields)?;
-    match base_of(alloc, text, ops)? {
-        None => Ok(()),
-        Some(base) => tried(alloc, text, store, gateway, most, &Trial::Compaction(&base)),
-    }
+    words: &mut Words<'_>,
+    base: &[Delta],
+) {
+    let gateway = words.octet();
+    tried(page, store, words, gateway, &Trial::Compaction(base));
 }
 
-/// What a trial gives at each place up to the last, each on a disk as the row's.
+/// What a trial gives at each place up to the last, which the next word is, each on a disk as the
+/// row's.
 pub(crate) fn tried(
-    alloc: Global,
-    text: &mut String,
+    page: &mut Page,
     store: &mut Store,
+    words: &mut Words<'_>,
     gateway: u8,
-    most: usize,
     trial: &Trial<'_>,
-) -> Result<(), Stop> {
-    let held = both(alloc, store)?;
-    let mut run = None;
-    try_each(alloc, text, &mut run, &held, gateway, most, trial)?;
-    Ok(finish(text, run)?)
+) {
+    let most = words.count();
+    let held = both(page, store, words);
+    if words.end() {
+        try_each(page, &held, gateway, most, trial);
+    }
 }
 
 /// What a trial gives at each place.
-fn try_each(
-    alloc: Global,
-    text: &mut String,
-    run: &mut Option<Run>,
-    held: &Held,
-    gateway: u8,
-    most: usize,
-    trial: &Trial<'_>,
-) -> Result<(), Stop> {
+fn try_each(page: &mut Page, held: &Held, gateway: u8, most: usize, trial: &Trial<'_>) {
+    let mut runs = Runs::new(page.alloc);
     for far in 0..=most {
-        let said = tried_at(alloc, disk_with(alloc, held)?, gateway, far, trial)?;
-        add(text, run, far, said)?;
+        let disk = disk_with(page, held);
+        tried_at(&mut runs.answers.said, disk, gateway, far, trial);
+        runs.add(page, far);
     }
-    Ok(())
+    runs.finish(page);
 }
 
 /// What a trial gives at a place.
-fn tried_at(
-    alloc: Global,
-    disk: MemoryDisk,
-    gateway: u8,
-    far: usize,
-    trial: &Trial<'_>,
-) -> Result<String, Stop> {
+fn tried_at(said: &mut Page, disk: MemoryDisk, gateway: u8, far: usize, trial: &Trial<'_>) {
     match trial {
-        Trial::Append(delta) => append_on(alloc, stopped(disk, far), gateway, delta),
-        Trial::Compaction(base) => compact_on(alloc, stopped(disk, far), gateway, base),
+        Trial::Append(delta) => append_on(said, stopped(disk, far), gateway, delta),
+        Trial::Compaction(base) => compact_on(said, stopped(disk, far), gateway, base),
         Trial::Calls(call, base) => {
-            all_calls(alloc, OnceDisk::over(disk, *call, far), gateway, base)
+            call_all(said, OnceDisk::over(disk, *call, far), gateway, base);
         }
     }
 }
@@ -229,51 +160,39 @@ fn stopped(mut disk: MemoryDisk, far: usize) -> MemoryDisk {
 }
 
 /// One such append.
-fn append_on(alloc: Global, disk: MemoryDisk, gateway: u8, delta: &Delta) -> Result<String, Stop> {
-    match calls::open(alloc, disk, gateway) {
+fn append_on(said: &mut Page, disk: MemoryDisk, gateway: u8, delta: &Delta) {
+    match calls::open(said.alloc, disk, gateway) {
         Ok((mut journal, _deltas)) => {
-            let outcome = calls::append(alloc, &mut journal, delta);
-            behind_crash(alloc, journal.into_disk(), gateway, outcome)
+            let outcome = calls::append(said.alloc, &mut journal, delta);
+            behind_crash(said, journal.into_disk(), gateway, outcome);
         }
-        Err((disk, fault)) => fault_text(alloc, fault, disk.starved()),
+        Err((disk, fault)) => print_refusal(said, fault, disk.starved()),
     }
 }
 
 /// One such compaction.
-fn compact_on(
-    alloc: Global,
-    disk: MemoryDisk,
-    gateway: u8,
-    base: &[Delta],
-) -> Result<String, Stop> {
-    match calls::open(alloc, disk, gateway) {
+fn compact_on(said: &mut Page, disk: MemoryDisk, gateway: u8, base: &[Delta]) {
+    match calls::open(said.alloc, disk, gateway) {
         Ok((mut journal, _deltas)) => {
-            let outcome = calls::compact(alloc, &mut journal, base);
-            behind_crash(alloc, journal.into_disk(), gateway, outcome)
+            let outcome = calls::compact(said.alloc, &mut journal, base);
+            behind_crash(said, journal.into_disk(), gateway, outcome);
         }
-        Err((disk, fault)) => fault_text(alloc, fault, disk.starved()),
+        Err((disk, fault)) => print_refusal(said, fault, disk.starved()),
     }
 }
 
-/// What a write answered, which was to be refused, and an opening after a crash that leaves all.
+/// What a write answered, which is to be refused, and an opening after a crash that leaves all.
 fn behind_crash(
-    alloc: Global,
+    said: &mut Page,
     mut disk: MemoryDisk,
     gateway: u8,
     outcome: Result<(), JournalFault>,
-) -> Result<String, Stop> {
+) {
     match outcome {
-        Ok(()) => Err(Stop::Line),
-        Err(fault) => {
-            let why = reason(fault, disk.starved())?;
-            disk.crash(usize::MAX);
-            let found = opening(alloc, disk, gateway)?;
-            Ok(refused_and_found(alloc, why, &found)?)
-        }
+        Ok(()) => said.word("not refused"),
+        Err(fault) => print_refusal(said, fault, disk.starved()),
     }
-}
-
-/// The words of a refusal and of the opening after it.
-fn refused_and_found(alloc: Global, why: NotWritten, found: &str) -> Result<String, AllocError> {
-    format!(in alloc; "refused {why}, {found}")
+    said.text(",");
+    disk.crash(usize::MAX);
+    opening(said, disk, gateway);
 }

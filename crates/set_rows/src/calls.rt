@@ -5,7 +5,7 @@ use jr_journal::{Disk, Journal, JournalFault};
 use rep_model::{Replica, TakeFault};
 use rep_ops::{Delta, Op, OpsFault, Retained};
 use sn_frame::{EncodeFault, Frame, FrameFault};
-use sn_topic::TopicName;
+use sn_topic::{Filter, TopicName};
 use std::alloc::Global;
 
 /// The frame that a datagram spells.
@@ -55,6 +55,15 @@ pub(crate) fn take<R: Replica>(
         }
         Err(fault) => Err(fault),
     }
+}
+
+/// What is retained of the topics that a filter asks for.
+pub(crate) fn matching<R: Replica>(
+    alloc: Global,
+    replica: &R,
+    asked: &Filter,
+) -> Result<Vec<(TopicName, Retained)>, TakeFault> {
+    replica.retained_matching(alloc, asked)
 }
 
 /// The topic at a place, with what is retained of it, and the place after it.

@@ -1,186 +1,147 @@
-//! Changes of a session as fields of a line.
+//! Changes of a session as words of a line.
 
-use crate::fields::{body, filter, is_first, level, message_number, small_number, topic};
 use crate::stop::Stop;
-use sn_session::{Outbound, Phase, Presence, Session, SessionOp, WillTopic};
-use std::alloc::Global;
+use crate::values::{phase, presence};
+use crate::words::{Words, octets_of};
+use sn_session::{Outbound, Session, SessionOp, WillTopic};
 
-/// The change that fields say; `take` holds the session that was described.
-pub(crate) fn change(alloc: Global, session: &Session, fields: &[&str]) -> Result<SessionOp, Stop> {
-    let Some((first, rest)) = fields.split_first() else {
-        return Err(Stop::Line);
-    };
-    match *first {
-        "take" => taken(alloc, session, rest),
-        "presence" => elsewhere(rest),
-        "register" => registered(alloc, rest),
-        "subscribe" => subscribed(alloc, rest),
-        "unsubscribe" => unsubscribed(alloc, rest),
-        other => later_change(alloc, other, rest),
+/// The change that the words say; `take` holds the session that was described. A change of words
+/// that are wrong is none: `Words::end` tells.
+pub(crate) fn change(words: &mut Words<'_>, session: &Session) -> Option<SessionOp> {
+    match words.word() {
+        "take" => taken(words, session),
+        "presence" => Some(elsewhere(words)),
+        "register" => registered(words),
+        "subscribe" => subscribed(words),
+        "unsubscribe" => unsubscribed(words),
+        other => later_change(words, other),
     }
 }
 
 /// Wills, ids that were received, exchanges.
-fn later_change(alloc: Global, first: &str, rest: &[&str]) -> Result<SessionOp, Stop> {
+fn later_change(words: &mut Words<'_>, first: &str) -> Option<SessionOp> {
     match first {
-        "will" => will_topic(alloc, rest),
-        "message" => will_message(alloc, rest),
-        "received" => received(rest),
-        "released" => released(rest),
-        "exchange" => exchange(rest),
-        _ => Err(Stop::Line),
+        "will" => will_topic(words),
+        "message" => will_message(words),
+        "received" => Some(received(words)),
+        "released" => Some(released(words)),
+        "exchange" => Some(exchange(words)),
+        _ => {
+            words.fail(Stop::Line);
+            None
+        }
     }
 }
 
 /// A gateway takes the client over.
-fn taken(alloc: Global, session: &Session, rest: &[&str]) -> Result<SessionOp, Stop> {
-    if !rest.is_empty() {
-        return Err(Stop::Line);
-    }
-    match session.copy(alloc) {
-        Ok(copy) => Ok(SessionOp::Take(copy)),
-        Err(_) => Err(Stop::Memory),
-    }
-}
-
-/// Where a client is.
-pub(crate) fn presence(text: &str) -> Result<Presence, Stop> {
-    match text {
-        "active" => Ok(Presence::Active),
-        "asleep" => Ok(Presence::Asleep),
-        "awake" => Ok(Presence::Awake),
-        "disconnected" => Ok(Presence::Disconnected),
-        "lost" => Ok(Presence::Lost),
-        _ => Err(Stop::Line),
+fn taken(words: &mut Words<'_>, session: &Session) -> Option<SessionOp> {
+    match session.copied(words.alloc) {
+        Ok(copy) => Some(SessionOp::Take(copy)),
+        Err(_) => {
+            words.fail(Stop::Memory);
+            None
+        }
     }
 }
 
 /// `presence WHERE SECONDS`
-fn elsewhere(rest: &[&str]) -> Result<SessionOp, Stop> {
-    let [place, seconds] = rest else {
-        return Err(Stop::Line);
-    };
-    Ok(SessionOp::Presence {
-        presence: presence(place)?,
-        duration: small_number(seconds)?,
-    })
+fn elsewhere(words: &mut Words<'_>) -> SessionOp {
+    SessionOp::Presence {
+        presence: presence(words),
+        duration: words.small_number(),
+    }
 }
 
 /// `register ID NAME known` or `new`
-fn registered(alloc: Global, rest: &[&str]) -> Result<SessionOp, Stop> {
-    let [id, name, known] = rest else {
-        return Err(Stop::Line);
-    };
-    let id = small_number(id)?;
-    let known = is_first(known, "known", "new")?;
-    Ok(SessionOp::Register {
-        id,
-        name: topic(alloc, name)?,
-        known,
-    })
+fn registered(words: &mut Words<'_>) -> Option<SessionOp> {
+    let (id, name) = (words.small_number(), words.octets());
+    let known = words.one_of("new known") == 1;
+    match words.topic_of(name) {
+        Some(name) => Some(SessionOp::Register { id, name, known }),
+        None => None,
+    }
 }
 
 /// `subscribe FILTER QOS`
-fn subscribed(alloc: Global, rest: &[&str]) -> Result<SessionOp, Stop> {
-    let [asked, qos] = rest else {
-        return Err(Stop::Line);
-    };
-    let qos = level(qos)?;
-    Ok(SessionOp::Subscribe {
-        filter: filter(alloc, asked)?,
-        qos,
-    })
+fn subscribed(words: &mut Words<'_>) -> Option<SessionOp> {
+    let (filter, qos) = (words.octets(), words.level());
+    match words.filter_of(filter) {
+        Some(filter) => Some(SessionOp::Subscribe { filter, qos }),
+        None => None,
+    }
 }
 
 /// `unsubscribe FILTER`
-fn unsubscribed(alloc: Global, rest: &[&str]) -> Result<SessionOp, Stop> {
-    let [asked] = rest else {
-        return Err(Stop::Line);
-    };
-    Ok(SessionOp::Unsubscribe {
-        filter: filter(alloc, asked)?,
-    })
+fn unsubscribed(words: &mut Words<'_>) -> Option<SessionOp> {
+    match words.filter() {
+        Some(filter) => Some(SessionOp::Unsubscribe { filter }),
+        None => None,
+    }
 }
 
 /// `will none`, or `will TOPIC QOS retained` or `fleeting`
-fn will_topic(alloc: Global, rest: &[&str]) -> Result<SessionOp, Stop> {
-    match rest {
-        ["none"] => Ok(SessionOp::WillTopic(None)),
-        [name, qos, kept] => Ok(SessionOp::WillTopic(Some(will_on(alloc, name, qos, kept)?))),
-        _ => Err(Stop::Line),
+fn will_topic(words: &mut Words<'_>) -> Option<SessionOp> {
+    let name = words.word();
+    if name == "none" && words.left() == 0 {
+        return Some(SessionOp::WillTopic(None));
+    }
+    match will_on(words, octets_of(name)) {
+        Some(will) => Some(SessionOp::WillTopic(Some(will))),
+        None => None,
     }
 }
 
 /// A will's topic.
-fn will_on(alloc: Global, name: &str, qos: &str, kept: &str) -> Result<WillTopic, Stop> {
-    let qos = level(qos)?;
-    let retain = is_first(kept, "retained", "fleeting")?;
-    let topic = topic(alloc, name)?;
-    Ok(WillTopic { topic, qos, retain })
+fn will_on(words: &mut Words<'_>, name: &[u8]) -> Option<WillTopic> {
+    let qos = words.level();
+    let retain = words.one_of("fleeting retained") == 1;
+    match words.topic_of(name) {
+        Some(topic) => Some(WillTopic { topic, qos, retain }),
+        None => None,
+    }
 }
 
 /// `message BODY`
-fn will_message(alloc: Global, rest: &[&str]) -> Result<SessionOp, Stop> {
-    let [message] = rest else {
-        return Err(Stop::Line);
-    };
-    Ok(SessionOp::WillMsg(body(alloc, message)?))
+fn will_message(words: &mut Words<'_>) -> Option<SessionOp> {
+    match words.message() {
+        Some(message) => Some(SessionOp::WillMsg(message)),
+        None => None,
+    }
 }
 
 /// `received ID`
-fn received(rest: &[&str]) -> Result<SessionOp, Stop> {
-    let [id] = rest else {
-        return Err(Stop::Line);
-    };
-    Ok(SessionOp::Received {
-        id: small_number(id)?,
-    })
+fn received(words: &mut Words<'_>) -> SessionOp {
+    SessionOp::Received {
+        id: words.small_number(),
+    }
 }
 
 /// `released ID`
-fn released(rest: &[&str]) -> Result<SessionOp, Stop> {
-    let [id] = rest else {
-        return Err(Stop::Line);
-    };
-    Ok(SessionOp::Released {
-        id: small_number(id)?,
-    })
-}
-
-/// How far an exchange is.
-fn phase(text: &str) -> Result<Phase, Stop> {
-    match text {
-        "registering" => Ok(Phase::Registering),
-        "published" => Ok(Phase::Published),
-        "released" => Ok(Phase::Released),
-        _ => Err(Stop::Line),
+fn released(words: &mut Words<'_>) -> SessionOp {
+    SessionOp::Released {
+        id: words.small_number(),
     }
 }
 
 /// `exchange none NEXT`, or `exchange ORIGIN.NUMBER ID PHASE NEXT`
-fn exchange(rest: &[&str]) -> Result<SessionOp, Stop> {
-    match rest {
-        ["none", next] => outbound(None, next),
-        [message, id, far, next] => outbound(Some(begun(message, id, far)?), next),
-        _ => Err(Stop::Line),
+fn exchange(words: &mut Words<'_>) -> SessionOp {
+    SessionOp::Outbound {
+        exchange: begun(words),
+        next_id: words.small_number(),
     }
 }
 
-/// The exchange that a session has, if any, and the id of the next.
-fn outbound(exchange: Option<Outbound>, next: &str) -> Result<SessionOp, Stop> {
-    let next_id = small_number(next)?;
-    Ok(SessionOp::Outbound { exchange, next_id })
-}
-
-/// An exchange that was begun.
-fn begun(message: &str, id: &str, far: &str) -> Result<Outbound, Stop> {
-    let (origin, seq) = message_number(message)?;
-    let msg_id = small_number(id)?;
-    let phase = phase(far)?;
-    Ok(Outbound {
+/// The exchange that was begun, if any.
+fn begun(words: &mut Words<'_>) -> Option<Outbound> {
+    let message = words.word();
+    if message == "none" {
+        return None;
+    }
+    let (origin, seq) = words.message_number_of(message);
+    Some(Outbound {
         origin,
         seq,
-        msg_id,
-        phase,
+        msg_id: words.small_number(),
+        phase: phase(words),
     })
 }

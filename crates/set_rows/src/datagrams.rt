@@ -40,10 +40,11 @@ mod shown;
 mod topics;
 mod words;
 
+use crate::page::Page;
 use crate::stop::Stop;
+use crate::words::Words;
 use sn_frame::Frame;
 use sn_topic::Predefined;
-use std::alloc::Global;
 
 /// What the lines of a row have brought about.
 #[derive(Drop)]
@@ -51,52 +52,45 @@ pub(crate) struct Row {
     /// The frame that the last `frame` has read.
     frame: Option<Frame>,
     /// The predefined ids of the last `table` that was taken.
-    table: Predefined,
+    table: Option<Predefined>,
 }
 
 /// A row without a line.
-pub(crate) fn begin(alloc: Global) -> Result<Row, Stop> {
-    Ok(Row {
+pub(crate) fn begin() -> Row {
+    Row {
         frame: None,
-        table: topics::no_table(alloc)?,
-    })
-}
-
-/// Plays a line.
-pub(crate) fn play(
-    alloc: Global,
-    text: &mut String,
-    row: &mut Row,
-    words: &[&str],
-) -> Result<(), Stop> {
-    let Some((first, rest)) = words.split_first() else {
-        return Err(Stop::Line);
-    };
-    match *first {
-        "frame" => frames::frame(alloc, text, &mut row.frame, rest),
-        "with" => frames::with(alloc, text, &row.frame, rest),
-        "types" => frames::types(alloc, text, rest),
-        "bodies" => frames::bodies(alloc, text, rest),
-        "beginnings" => frames::beginnings(alloc, text, rest),
-        other => play_topic(alloc, text, &mut row.table, other, rest),
+        table: None,
     }
 }
 
-/// Lines about topics.
-fn play_topic(
-    alloc: Global,
-    text: &mut String,
-    table: &mut Predefined,
-    first: &str,
-    rest: &[&str],
-) -> Result<(), Stop> {
-    match first {
-        "name" => topics::name(alloc, text, rest),
-        "filter" => topics::filter(alloc, text, rest),
-        "match" => topics::asked(alloc, text, rest),
-        "table" => topics::table(alloc, text, table, rest),
-        "id" => topics::id(alloc, text, table, rest),
-        "of" => topics::name_of(text, table, rest),
-        _ => Err(Stop::Line),
+/// Plays a line.
+pub(crate) fn play(page: &mut Page, row: &mut Row, words: &mut Words<'_>) {
+    match words.first {
+        "frame" => frames::frame(page, &mut row.frame, words),
+        "with" => frames::with(page, &row.frame, words),
+        "types" => frames::types(page, words),
+        "bodies" => frames::bodies(page, words),
+        "beginnings" => frames::beginnings(page, words),
+        _ => play_topic(page, &mut row.table, words),
+    }
+}
+
+/// Plays a line about topics.
+fn play_topic(page: &mut Page, table: &mut Option<Predefined>, words: &mut Words<'_>) {
+    match words.first {
+        "name" => topics::name(page, words),
+        "filter" => topics::filter(page, words),
+        "match" => topics::asked(page, words),
+        "table" => topics::table(page, table, words),
+        _ => play_id(page, table, words),
+    }
+}
+
+/// Plays a line about predefined ids.
+fn play_id(page: &mut Page, table: &Option<Predefined>, words: &mut Words<'_>) {
+    match words.first {
+        "id" => topics::id(page, table, words),
+        "of" => topics::name_of(page, table, words),
+        _ => words.fail(Stop::Line),
     }
 }

@@ -1,254 +1,195 @@
 //! Lines about deltas and their octets.
 
 use crate::calls;
-use crate::fields::{count, digits, word};
-use crate::names::{Names, octets};
+use crate::page::Page;
 use crate::printing::print_delta;
-use crate::runs::{Run, add, finish};
+use crate::runs::Runs;
 use crate::stop::Stop;
-use crate::words::{Digits, ops_fault};
+use crate::values::{ops_word, print_ops_fault};
+use crate::words::Words;
 use rep_ops::{ClientId, Delta, Op, OpsFault};
-use std::alloc::{AllocError, Global};
 
-/// Why operations or octets are refused, in a word. If memory ran out, the program ends.
-fn reason(fault: OpsFault) -> Result<&'static str, Stop> {
-    match fault {
-        OpsFault::Memory => Err(Stop::Memory),
-        fault => Ok(ops_fault(fault)),
-    }
-}
-
-/// Says why operations or octets are refused.
-fn refused(text: &mut String, fault: OpsFault) -> Result<(), Stop> {
-    let why = reason(fault)?;
-    Ok(writeln!(text, "refused {why}")?)
-}
-
-/// The delta of operations; says why there is none.
-pub(crate) fn made(alloc: Global, text: &mut String, ops: Vec<Op>) -> Result<Option<Delta>, Stop> {
-    match calls::delta_of(alloc, ops) {
-        Ok(delta) => Ok(Some(delta)),
+/// The delta of operations; prints why there is none.
+pub(crate) fn made(page: &mut Page, ops: Vec<Op>) -> Option<Delta> {
+    match calls::delta_of(page.alloc, ops) {
+        Ok(delta) => Some(delta),
         Err(fault) => {
-            refused(text, fault)?;
-            Ok(None)
+            print_ops_fault(page, fault);
+            None
         }
     }
 }
 
-/// `delta`: the delta of the operations.
-pub(crate) fn shown(alloc: Global, text: &mut String, ops: Vec<Op>) -> Result<(), Stop> {
-    match made(alloc, text, ops)? {
-        None => Ok(()),
-        Some(delta) => Ok(print_delta(text, &delta)?),
-    }
-}
-
-/// `copy`: a copy of the delta of the operations.
-pub(crate) fn copied(alloc: Global, text: &mut String, ops: Vec<Op>) -> Result<(), Stop> {
-    match made(alloc, text, ops)? {
-        None => Ok(()),
-        Some(delta) => print_read(text, delta.copy(alloc)),
-    }
-}
-
 /// A delta, or why there is none.
-fn print_read(text: &mut String, read: Result<Delta, OpsFault>) -> Result<(), Stop> {
+pub(crate) fn print_read(page: &mut Page, read: Result<Delta, OpsFault>) {
     match read {
-        Ok(delta) => Ok(print_delta(text, &delta)?),
-        Err(fault) => refused(text, fault),
+        Ok(delta) => print_delta(page, &delta),
+        Err(fault) => print_ops_fault(page, fault),
     }
-}
-
-/// `none`: the delta of no operations.
-pub(crate) fn none(alloc: Global, text: &mut String) -> Result<(), Stop> {
-    Ok(print_delta(text, &Delta::empty(alloc))?)
 }
 
 /// `spell`: the octets of the delta of the operations stand after those that are there.
-pub(crate) fn spelled(
-    alloc: Global,
-    text: &mut String,
-    ops: Vec<Op>,
-    out: &mut Vec<u8>,
-) -> Result<(), Stop> {
-    match made(alloc, text, ops)? {
-        None => Ok(()),
-        Some(delta) => spell(alloc, text, &delta, out),
-    }
-}
-
-/// Puts the octets of a delta after those that are there.
-fn spell(alloc: Global, text: &mut String, delta: &Delta, out: &mut Vec<u8>) -> Result<(), Stop> {
-    match calls::write_delta(alloc, delta, out) {
-        Ok(()) => Ok(()),
-        Err(fault) => refused(text, fault),
+pub(crate) fn spell(page: &mut Page, delta: &Delta, out: &mut Vec<u8>) {
+    if let Err(fault) = calls::write_delta(page.alloc, delta, out) {
+        print_ops_fault(page, fault);
     }
 }
 
 /// `written`: the delta of the operations, and its octets, which stand in place of those that were
 /// there.
-pub(crate) fn written(
-    alloc: Global,
-    text: &mut String,
-    ops: Vec<Op>,
-    out: &mut Vec<u8>,
-) -> Result<(), Stop> {
-    match made(alloc, text, ops)? {
-        None => Ok(()),
-        Some(delta) => print_written(alloc, text, &delta, out),
+pub(crate) fn written(page: &mut Page, delta: &Delta, out: &mut Vec<u8>) {
+    print_delta(page, delta);
+    out.clear();
+    match calls::write_delta(page.alloc, delta, out) {
+        Ok(()) => print(page, out),
+        Err(fault) => print_ops_fault(page, fault),
     }
 }
 
-/// A delta and its octets.
-fn print_written(
-    alloc: Global,
-    text: &mut String,
-    delta: &Delta,
-    out: &mut Vec<u8>,
-) -> Result<(), Stop> {
-    print_delta(text, delta)?;
-    out.clear();
-    match calls::write_delta(alloc, delta, out) {
-        Ok(()) => print(text, out),
-        Err(fault) => refused(text, fault),
+/// Plays a line that changes the octets, or says of a name whether a client may have it; leaves all
+/// others to the lines that read the octets.
+pub(crate) fn play(page: &mut Page, octets: &mut Vec<u8>, words: &mut Words<'_>) {
+    match words.first {
+        "set" => set(octets, words),
+        "fill" => fill(octets, words),
+        "cut" => cut(octets, words),
+        "altered" => altered(page, octets, words),
+        _ => play_reading(page, octets, words),
+    }
+}
+
+/// Plays a line that prints the octets or what they spell.
+fn play_reading(page: &mut Page, octets: &[u8], words: &mut Words<'_>) {
+    match words.first {
+        "print" => print(page, octets),
+        "size" => size(page, octets),
+        "read" => print_read(page, calls::read_delta(page.alloc, octets)),
+        "older" => print_read(page, calls::read_older(page.alloc, octets)),
+        _ => play_counting(page, octets, words),
+    }
+}
+
+/// Plays a line that counts the operations that the octets spell, or one that wants no octets.
+fn play_counting(page: &mut Page, octets: &[u8], words: &mut Words<'_>) {
+    match words.first {
+        "count" => counted(page, octets),
+        "beginnings" => beginnings(page, octets),
+        "none" => print_delta(page, &Delta::empty(page.alloc)),
+        _ => named(page, words),
     }
 }
 
 /// `client NAME`: whether a client may have this name.
-pub(crate) fn named(alloc: Global, text: &mut String, fields: &[&str]) -> Result<(), Stop> {
-    let [name] = fields else {
-        return Err(Stop::Line);
-    };
-    match ClientId::new(alloc, word(name)) {
-        Ok(_client) => Ok(writeln!(text, "client {name}")?),
-        Err(fault) => refused(text, fault),
+fn named(page: &mut Page, words: &mut Words<'_>) {
+    let name = words.octets();
+    if words.end() {
+        match ClientId::new(page.alloc, name) {
+            Ok(client) => page.named("client", client.bytes()),
+            Err(fault) => print_ops_fault(page, fault),
+        }
     }
 }
 
 /// `print`: the octets.
-pub(crate) fn print(text: &mut String, bytes: &[u8]) -> Result<(), Stop> {
-    let octets = Digits(bytes);
-    Ok(writeln!(text, "{octets}")?)
+fn print(page: &mut Page, octets: &[u8]) {
+    page.digits(octets);
+    page.end();
 }
 
 /// `size`: how many octets there are.
-pub(crate) fn size(text: &mut String, bytes: &[u8]) -> Result<(), Stop> {
-    let count = bytes.len();
-    Ok(writeln!(text, "{count} octets")?)
-}
-
-/// `read`: the delta that the octets spell.
-pub(crate) fn read(alloc: Global, text: &mut String, bytes: &[u8]) -> Result<(), Stop> {
-    print_read(text, calls::read_delta(alloc, bytes))
-}
-
-/// `older`: the delta that the octets spell for what knows version 1 alone.
-pub(crate) fn older(alloc: Global, text: &mut String, bytes: &[u8]) -> Result<(), Stop> {
-    print_read(text, calls::read_older(alloc, bytes))
+fn size(page: &mut Page, octets: &[u8]) {
+    page.word(octets.len());
+    page.word("octets");
+    page.end();
 }
 
 /// `count`: how many operations the delta has that the octets spell.
-pub(crate) fn counted(alloc: Global, text: &mut String, bytes: &[u8]) -> Result<(), Stop> {
-    let said = answer(alloc, bytes)?;
-    Ok(writeln!(text, "{said}")?)
+fn counted(page: &mut Page, octets: &[u8]) {
+    answer(page, octets);
+    page.end();
 }
 
 /// How many operations octets spell, or why none.
-fn answer(alloc: Global, bytes: &[u8]) -> Result<String, Stop> {
-    match calls::read_delta(alloc, bytes) {
-        Ok(delta) => Ok(count_text(alloc, delta.ops().len())?),
-        Err(fault) => fault_text(alloc, fault),
+fn answer(page: &mut Page, octets: &[u8]) {
+    match calls::read_delta(page.alloc, octets) {
+        Ok(delta) => print_answer(page, "operations", delta.ops().len()),
+        Err(fault) => print_refusal(page, fault),
     }
 }
 
-/// The words of a number of operations.
-fn count_text(alloc: Global, count: usize) -> Result<String, AllocError> {
-    format!(in alloc; "operations {count}")
+/// A number after a word.
+fn print_answer(page: &mut Page, what: &str, count: usize) {
+    page.word(what);
+    page.word(count);
 }
 
-/// The words of a refusal.
-fn fault_text(alloc: Global, fault: OpsFault) -> Result<String, Stop> {
-    let why = reason(fault)?;
-    Ok(format!(in alloc; "refused {why}")?)
+/// Why octets are refused.
+fn print_refusal(page: &mut Page, fault: OpsFault) {
+    if matches!(fault, OpsFault::Memory) {
+        page.run_out();
+    }
+    page.word("refused");
+    page.word(ops_word(fault));
 }
 
 /// `altered AT HEX`: what the octets are read as where one of them is another; they stay.
-pub(crate) fn altered(
-    alloc: Global,
-    text: &mut String,
-    bytes: &[u8],
-    fields: &[&str],
-) -> Result<(), Stop> {
-    let mut copy = Vec::from_slice(alloc, bytes)?;
-    set(alloc, &mut copy, fields)?;
-    counted(alloc, text, &copy)
+fn altered(page: &mut Page, octets: &[u8], words: &mut Words<'_>) {
+    match Vec::from_slice(page.alloc, octets) {
+        Ok(mut copy) => {
+            set(&mut copy, words);
+            if words.end() {
+                counted(page, &copy);
+            }
+        }
+        Err(_) => page.run_out(),
+    }
 }
 
 /// `beginnings`: what each beginning of the octets is read as, but all of them.
-pub(crate) fn beginnings(alloc: Global, text: &mut String, bytes: &[u8]) -> Result<(), Stop> {
-    let mut run = None;
-    read_each(alloc, text, &mut run, bytes)?;
-    Ok(finish(text, run)?)
-}
-
-/// What each beginning of the octets is read as.
-fn read_each(
-    alloc: Global,
-    text: &mut String,
-    run: &mut Option<Run>,
-    bytes: &[u8],
-) -> Result<(), Stop> {
-    for end in 0..bytes.len() {
-        let said = answer(alloc, &bytes[..end])?;
-        add(text, run, end, said)?;
+fn beginnings(page: &mut Page, octets: &[u8]) {
+    let mut runs = Runs::new(page.alloc);
+    for end in 0..octets.len() {
+        answer(&mut runs.answers.said, &octets[..end]);
+        runs.add(page, end);
     }
-    Ok(())
-}
-
-/// `behind OCTETS ..`: these octets stand behind those that are there.
-pub(crate) fn behind(
-    alloc: Global,
-    names: &Names,
-    bytes: &mut Vec<u8>,
-    fields: &[&str],
-) -> Result<(), Stop> {
-    let more = octets(alloc, names, fields)?;
-    Ok(bytes.extend_from_slice(&more)?)
+    runs.finish(page);
 }
 
 /// `set AT HEX`: one octet is another.
-pub(crate) fn set(alloc: Global, bytes: &mut Vec<u8>, fields: &[&str]) -> Result<(), Stop> {
-    let [at, octet] = fields else {
-        return Err(Stop::Line);
-    };
-    let at = count(at)?;
-    let given = digits(alloc, octet)?;
-    let [octet] = given.as_slice() else {
-        return Err(Stop::Line);
-    };
-    if at >= bytes.len() {
-        return Err(Stop::Line);
+fn set(octets: &mut Vec<u8>, words: &mut Words<'_>) {
+    let at = words.count();
+    let given = words.digits();
+    if let [octet] = given.as_slice() {
+        if words.end() {
+            put(octets, words, at, *octet);
+        }
+    } else {
+        words.fail(Stop::Line);
     }
-    bytes[at] = *octet;
-    Ok(())
+}
+
+/// Puts an octet in the place of another.
+fn put(octets: &mut [u8], words: &mut Words<'_>, at: usize, octet: u8) {
+    match octets.get_mut(at) {
+        Some(place) => *place = octet,
+        None => words.fail(Stop::Line),
+    }
 }
 
 /// `fill COUNT`: octets of 0 stand after, up to so many in all.
-pub(crate) fn fill(bytes: &mut Vec<u8>, fields: &[&str]) -> Result<(), Stop> {
-    let [size] = fields else {
-        return Err(Stop::Line);
-    };
-    for _ in bytes.len()..count(size)? {
-        bytes.push(0)?;
+fn fill(octets: &mut Vec<u8>, words: &mut Words<'_>) {
+    let size = words.count();
+    if words.end() {
+        for _ in octets.len()..size {
+            words.extend(octets, &[0]);
+        }
     }
-    Ok(())
 }
 
 /// `cut COUNT`: the first so many octets are left.
-pub(crate) fn cut(bytes: &mut Vec<u8>, fields: &[&str]) -> Result<(), Stop> {
-    let [size] = fields else {
-        return Err(Stop::Line);
-    };
-    bytes.truncate(count(size)?);
-    Ok(())
+fn cut(octets: &mut Vec<u8>, words: &mut Words<'_>) {
+    let size = words.count();
+    if words.end() {
+        octets.truncate(size);
+    }
 }

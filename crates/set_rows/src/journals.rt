@@ -1,11 +1,13 @@
 //! Lines about a journal and its disk.
 
+use crate::attempts::openings;
 use crate::calls;
 use crate::deltas::made;
-use crate::fields::{count, octet};
-use crate::printing::print_delta;
+use crate::page::Page;
+use crate::printing::print_deltas;
 use crate::stop::Stop;
-use crate::words::{Digits, NotWritten, slot_word};
+use crate::values::{print_journal_fault, slot, slot_word};
+use crate::words::Words;
 use jr_journal::{Disk, Journal, JournalFault, MemoryDisk, Slot};
 use rep_ops::{Delta, Op};
 use std::alloc::Global;
@@ -27,289 +29,244 @@ pub(crate) fn empty(alloc: Global) -> Store {
     }
 }
 
-/// The disk, which no journal may be open on.
-fn closed(store: &mut Store) -> Result<&mut MemoryDisk, Stop> {
-    if store.journal.is_some() {
-        return Err(Stop::Line);
+/// Plays a line about a journal or its disk.
+pub(crate) fn play(page: &mut Page, store: &mut Store, octets: &[u8], words: &mut Words<'_>) {
+    match words.first {
+        "open" => open(page, store, words),
+        "close" => close(store, words),
+        "openings" => openings(page, store, octets, words),
+        _ => play_as_it_is(page, store, octets, words),
     }
-    Ok(&mut store.disk)
 }
 
-/// The journal, which is to be open.
-fn opened(store: &mut Store) -> Result<&mut Journal<MemoryDisk>, Stop> {
+/// Plays a line about the journal if that is open, and else one about the disk.
+fn play_as_it_is(page: &mut Page, store: &mut Store, octets: &[u8], words: &mut Words<'_>) {
     match &mut store.journal {
-        None => Err(Stop::Line),
-        Some(journal) => Ok(journal),
+        Some(journal) => play_journal(page, journal, words),
+        None => play_disk(page, &mut store.disk, octets, words),
     }
 }
 
-/// A slot.
-pub(crate) fn slot(text: &str) -> Result<Slot, Stop> {
-    match text {
-        "first" => Ok(Slot::First),
-        "second" => Ok(Slot::Second),
-        _ => Err(Stop::Line),
+/// Plays a line about an open journal.
+fn play_journal(page: &mut Page, journal: &mut Journal<MemoryDisk>, words: &mut Words<'_>) {
+    match words.first {
+        "reopen" => reopen(page, journal),
+        "halt" => journal.halt(),
+        "halted" => halted(page, journal),
+        "place" => place(page, journal.slot()),
+        _ => words.fail(Stop::Line),
+    }
+}
+
+/// Plays a line about a disk on which no journal is open.
+fn play_disk(page: &mut Page, disk: &mut MemoryDisk, octets: &[u8], words: &mut Words<'_>) {
+    match words.first {
+        "store" => store_octets(page, disk, octets, words),
+        "fail" => fail(disk, words),
+        "crash" => crash(disk, words),
+        "slots" => slots(page, disk),
+        _ => words.fail(Stop::Line),
     }
 }
 
 /// Puts octets after those of a slot, and makes them durable.
-pub(crate) fn put(disk: &mut MemoryDisk, slot: Slot, bytes: &[u8]) -> Result<(), Stop> {
-    if disk.append(slot, bytes).is_err() || disk.sync(slot).is_err() {
-        return Err(Stop::Memory);
+pub(crate) fn put(page: &mut Page, disk: &mut MemoryDisk, slot: Slot, octets: &[u8]) {
+    if disk.append(slot, octets).is_err() || disk.sync(slot).is_err() {
+        page.run_out();
     }
-    Ok(())
 }
 
 /// All octets of a slot.
-pub(crate) fn octets_of(alloc: Global, disk: &mut MemoryDisk, slot: Slot) -> Result<Vec<u8>, Stop> {
-    let Ok(size) = disk.len(slot) else {
-        return Err(Stop::Memory);
-    };
-    let mut octets = vec![in alloc; 0u8; size]?;
+pub(crate) fn octets_of(page: &mut Page, disk: &mut MemoryDisk, slot: Slot) -> Vec<u8> {
+    let mut octets = zeros(page, disk, slot);
     if disk.read_at(slot, 0, &mut octets).is_err() {
-        return Err(Stop::Memory);
+        page.run_out();
     }
-    Ok(octets)
+    octets
+}
+
+/// As many octets as a slot has, each 0.
+fn zeros(page: &mut Page, disk: &mut MemoryDisk, slot: Slot) -> Vec<u8> {
+    let size = disk.len(slot).unwrap_or(0);
+    match vec![in page.alloc; 0u8; size] {
+        Ok(octets) => octets,
+        Err(_) => {
+            page.run_out();
+            Vec::new(page.alloc)
+        }
+    }
 }
 
 /// `store SLOT`: the octets stand after those of a slot, synced.
-pub(crate) fn stored(store: &mut Store, bytes: &[u8], fields: &[&str]) -> Result<(), Stop> {
-    let [name] = fields else {
-        return Err(Stop::Line);
-    };
-    let slot = slot(name)?;
-    put(closed(store)?, slot, bytes)
+fn store_octets(page: &mut Page, disk: &mut MemoryDisk, octets: &[u8], words: &mut Words<'_>) {
+    let slot = slot(words);
+    if words.end() {
+        put(page, disk, slot, octets);
+    }
 }
 
 /// `fail COUNT` or `fail sync`: the next append goes out so far, or goes out and is not synced.
-pub(crate) fn fail(store: &mut Store, fields: &[&str]) -> Result<(), Stop> {
-    let disk = closed(store)?;
-    match fields {
-        ["sync"] => disk.fail_next(0, true),
-        [far] => disk.fail_next(count(far)?, false),
-        _ => return Err(Stop::Line),
+fn fail(disk: &mut MemoryDisk, words: &mut Words<'_>) {
+    let (far, is_of_sync) = words.count_or("sync", 0);
+    if words.end() {
+        disk.fail_next(far, is_of_sync);
     }
-    Ok(())
 }
 
 /// `crash COUNT` or `crash all`: of what is not synced so many octets of each slot are left.
-pub(crate) fn crash(store: &mut Store, fields: &[&str]) -> Result<(), Stop> {
-    let disk = closed(store)?;
-    match fields {
-        ["all"] => disk.crash(usize::MAX),
-        [kept] => disk.crash(count(kept)?),
-        _ => return Err(Stop::Line),
+fn crash(disk: &mut MemoryDisk, words: &mut Words<'_>) {
+    let (kept, _) = words.count_or("all", usize::MAX);
+    if words.end() {
+        disk.crash(kept);
     }
-    Ok(())
-}
-
-/// Why a journal refuses, to be printed. If memory ran out, also in its disk, the program ends.
-pub(crate) fn reason(fault: JournalFault, is_starved: bool) -> Result<NotWritten, Stop> {
-    if is_starved || matches!(fault, JournalFault::Memory) {
-        return Err(Stop::Memory);
-    }
-    Ok(NotWritten(fault))
 }
 
 /// Says why a journal refuses.
-fn refused(text: &mut String, fault: JournalFault, is_starved: bool) -> Result<(), Stop> {
-    let why = reason(fault, is_starved)?;
-    Ok(writeln!(text, "refused {why}")?)
-}
-
-/// The records that an opening read.
-pub(crate) fn print_records(text: &mut String, deltas: &[Delta]) -> Result<(), Stop> {
-    let count = deltas.len();
-    writeln!(text, "records {count}")?;
-    for delta in deltas {
-        print_delta(text, delta)?;
-    }
-    Ok(())
+fn refused(page: &mut Page, fault: JournalFault, is_starved: bool) {
+    page.word("refused");
+    print_journal_fault(page, fault, is_starved);
+    page.end();
 }
 
 /// `open GATEWAY`: the journal of a gateway is opened.
-pub(crate) fn open(
-    alloc: Global,
-    text: &mut String,
-    store: &mut Store,
-    fields: &[&str],
-) -> Result<(), Stop> {
-    let [gateway] = fields else {
-        return Err(Stop::Line);
-    };
-    let gateway = octet(gateway)?;
-    let disk = mem::replace(closed(store)?, MemoryDisk::new(alloc));
-    match calls::open(alloc, disk, gateway) {
+fn open(page: &mut Page, store: &mut Store, words: &mut Words<'_>) {
+    let gateway = words.octet();
+    if store.journal.is_some() {
+        words.fail(Stop::Line);
+    }
+    if words.end() {
+        open_closed(page, store, gateway);
+    }
+}
+
+/// The journal of a gateway is opened, which is closed.
+fn open_closed(page: &mut Page, store: &mut Store, gateway: u8) {
+    let disk = mem::replace(&mut store.disk, MemoryDisk::new(page.alloc));
+    match calls::open(page.alloc, disk, gateway) {
         Ok((journal, deltas)) => {
-            drop(mem::replace(&mut store.journal, Some(journal)));
-            let printed = print_records(text, deltas.as_slice());
-            drop(deltas);
-            printed
+            store.journal = Some(journal);
+            print_deltas(page, "records", &deltas);
         }
         Err((disk, fault)) => {
-            drop(mem::replace(&mut store.disk, disk));
-            refused(text, fault, store.disk.starved())
+            store.disk = disk;
+            refused(page, fault, store.disk.starved());
         }
     }
 }
 
 /// `append`: the delta of the operations is a new record.
-pub(crate) fn append(
-    alloc: Global,
-    text: &mut String,
-    store: &mut Store,
-    ops: Vec<Op>,
-) -> Result<(), Stop> {
-    match made(alloc, text, ops)? {
-        None => Ok(()),
-        Some(delta) => append_delta(alloc, text, opened(store)?, &delta),
+pub(crate) fn append(page: &mut Page, store: &mut Store, words: &mut Words<'_>, delta: &Delta) {
+    match &mut store.journal {
+        Some(journal) => append_to(page, journal, delta),
+        None => words.fail(Stop::Line),
     }
 }
 
 /// The delta is a new record.
-fn append_delta(
-    alloc: Global,
-    text: &mut String,
-    journal: &mut Journal<MemoryDisk>,
-    delta: &Delta,
-) -> Result<(), Stop> {
-    match calls::append(alloc, journal, delta) {
-        Ok(()) => Ok(text.push_str("appended\n")?),
-        Err(fault) => refused(text, fault, journal.starved()),
+fn append_to(page: &mut Page, journal: &mut Journal<MemoryDisk>, delta: &Delta) {
+    match calls::append(page.alloc, journal, delta) {
+        Ok(()) => page.line("appended"),
+        Err(fault) => refused(page, fault, journal.starved()),
     }
 }
 
-/// A delta for each operation.
-pub(crate) fn base_of(
-    alloc: Global,
-    text: &mut String,
-    ops: Vec<Op>,
-) -> Result<Option<Vec<Delta>>, Stop> {
-    let mut base = Vec::new(alloc);
-    if add_records(alloc, text, &mut base, ops)? {
-        Ok(Some(base))
-    } else {
-        Ok(None)
-    }
-}
-
-/// Adds a delta for each operation: whether there is one for each.
-fn add_records(
-    alloc: Global,
-    text: &mut String,
-    base: &mut Vec<Delta>,
-    ops: Vec<Op>,
-) -> Result<bool, Stop> {
+/// A delta for each operation, if each makes one.
+pub(crate) fn base_of(page: &mut Page, ops: Vec<Op>) -> Option<Vec<Delta>> {
+    let mut base = Vec::new(page.alloc);
+    let count = ops.len();
     for op in ops {
-        if !add_record(alloc, text, base, op)? {
-            return Ok(false);
-        }
+        add_record(page, &mut base, op);
     }
-    Ok(true)
+    if base.len() < count {
+        return None;
+    }
+    Some(base)
 }
 
-/// Adds the delta of an operation: whether there is one.
-fn add_record(
-    alloc: Global,
-    text: &mut String,
-    base: &mut Vec<Delta>,
-    op: Op,
-) -> Result<bool, Stop> {
-    let ops = vec![in alloc; op]?;
-    match made(alloc, text, ops)? {
-        None => Ok(false),
-        Some(delta) => {
-            base.push(delta)?;
-            Ok(true)
+/// Adds the delta of an operation, if there is one.
+fn add_record(page: &mut Page, base: &mut Vec<Delta>, op: Op) {
+    match vec![in page.alloc; op] {
+        Ok(ops) => add_delta(page, base, ops),
+        Err(_) => page.run_out(),
+    }
+}
+
+/// Adds the delta of operations, if there is one.
+fn add_delta(page: &mut Page, base: &mut Vec<Delta>, ops: Vec<Op>) {
+    if let Some(delta) = made(page, ops) {
+        if base.push(delta).is_err() {
+            page.run_out();
         }
     }
 }
 
 /// `compact`: the operations, each a record, take the place of all records.
-pub(crate) fn compact(
-    alloc: Global,
-    text: &mut String,
-    store: &mut Store,
-    ops: Vec<Op>,
-) -> Result<(), Stop> {
-    match base_of(alloc, text, ops)? {
-        None => Ok(()),
-        Some(base) => compact_to(alloc, text, opened(store)?, &base),
+pub(crate) fn compact(page: &mut Page, store: &mut Store, words: &mut Words<'_>, base: &[Delta]) {
+    match &mut store.journal {
+        Some(journal) => compact_to(page, journal, base),
+        None => words.fail(Stop::Line),
     }
 }
 
 /// These records take the place of all.
-fn compact_to(
-    alloc: Global,
-    text: &mut String,
-    journal: &mut Journal<MemoryDisk>,
-    base: &[Delta],
-) -> Result<(), Stop> {
-    match calls::compact(alloc, journal, base) {
-        Ok(()) => Ok(text.push_str("compacted\n")?),
-        Err(fault) => refused(text, fault, journal.starved()),
+fn compact_to(page: &mut Page, journal: &mut Journal<MemoryDisk>, base: &[Delta]) {
+    match calls::compact(page.alloc, journal, base) {
+        Ok(()) => page.line("compacted"),
+        Err(fault) => refused(page, fault, journal.starved()),
     }
 }
 
 /// `reopen`: the journal is opened once more as it stands.
-pub(crate) fn reopen(alloc: Global, text: &mut String, store: &mut Store) -> Result<(), Stop> {
-    let journal = opened(store)?;
-    match calls::reopen(alloc, journal) {
-        Ok(deltas) => print_records(text, deltas.as_slice()),
-        Err(fault) => refused(text, fault, journal.starved()),
+fn reopen(page: &mut Page, journal: &mut Journal<MemoryDisk>) {
+    match calls::reopen(page.alloc, journal) {
+        Ok(deltas) => print_deltas(page, "records", &deltas),
+        Err(fault) => refused(page, fault, journal.starved()),
     }
 }
 
-/// `halt`: the journal is stopped.
-pub(crate) fn halt(store: &mut Store) -> Result<(), Stop> {
-    opened(store)?.halt();
-    Ok(())
-}
-
 /// `place`: the slot that the journal writes.
-pub(crate) fn place(text: &mut String, store: &mut Store) -> Result<(), Stop> {
-    let name = slot_word(opened(store)?.slot());
-    Ok(writeln!(text, "goes on in {name}")?)
+fn place(page: &mut Page, slot: Slot) {
+    page.word("goes on in");
+    page.word(slot_word(slot));
+    page.end();
 }
 
 /// `halted`: whether the journal has stopped, and whether memory was refused in its disk.
-pub(crate) fn halted(text: &mut String, store: &mut Store) -> Result<(), Stop> {
-    let journal = opened(store)?;
-    let (is_halted, starved) = (journal.is_halted(), journal.starved());
-    Ok(writeln!(text, "halted: {is_halted}, starved: {starved}")?)
+fn halted(page: &mut Page, journal: &Journal<MemoryDisk>) {
+    page.text("halted: ");
+    page.value(journal.is_halted());
+    page.text(", ");
+    print_starved(page, journal.starved());
+}
+
+/// Whether memory was refused in a disk.
+fn print_starved(page: &mut Page, is_starved: bool) {
+    page.text("starved: ");
+    page.value(is_starved);
+    page.end();
 }
 
 /// `close`: the journal is closed, and the disk is as it stands.
-pub(crate) fn close(store: &mut Store) -> Result<(), Stop> {
+fn close(store: &mut Store, words: &mut Words<'_>) {
     match store.journal.take() {
-        None => Err(Stop::Line),
-        Some(journal) => {
-            store.disk = journal.into_disk();
-            Ok(())
-        }
+        None => words.fail(Stop::Line),
+        Some(journal) => store.disk = journal.into_disk(),
     }
 }
 
 /// `slots`: the octets of both slots, and whether memory was refused in the disk.
-pub(crate) fn slots(alloc: Global, text: &mut String, store: &mut Store) -> Result<(), Stop> {
-    let disk = closed(store)?;
-    print_slot(alloc, text, disk, Slot::First)?;
-    print_slot(alloc, text, disk, Slot::Second)?;
-    let starved = disk.starved();
-    Ok(writeln!(text, "starved: {starved}")?)
+fn slots(page: &mut Page, disk: &mut MemoryDisk) {
+    print_slot(page, disk, Slot::First);
+    print_slot(page, disk, Slot::Second);
+    print_starved(page, disk.starved());
 }
 
 /// The octets of a slot.
-fn print_slot(
-    alloc: Global,
-    text: &mut String,
-    disk: &mut MemoryDisk,
-    slot: Slot,
-) -> Result<(), Stop> {
-    let octets = octets_of(alloc, disk, slot)?;
-    let name = slot_word(slot);
-    let digits = Digits(&octets);
-    Ok(writeln!(text, "{name} {digits}")?)
+fn print_slot(page: &mut Page, disk: &mut MemoryDisk, slot: Slot) {
+    let octets = octets_of(page, disk, slot);
+    page.word(slot_word(slot));
+    page.digits(&octets);
+    page.end();
 }
 
 /// What both slots of a disk hold.
@@ -319,10 +276,13 @@ pub(crate) struct Held {
     pub(crate) second: Vec<u8>,
 }
 
-/// What both slots of a closed disk hold.
-pub(crate) fn both(alloc: Global, store: &mut Store) -> Result<Held, Stop> {
-    let disk = closed(store)?;
-    let first = octets_of(alloc, disk, Slot::First)?;
-    let second = octets_of(alloc, disk, Slot::Second)?;
-    Ok(Held { first, second })
+/// What both slots of a disk hold, on which no journal is to be open.
+pub(crate) fn both(page: &mut Page, store: &mut Store, words: &mut Words<'_>) -> Held {
+    if store.journal.is_some() {
+        words.fail(Stop::Line);
+    }
+    Held {
+        first: octets_of(page, &mut store.disk, Slot::First),
+        second: octets_of(page, &mut store.disk, Slot::Second),
+    }
 }

@@ -2,12 +2,12 @@
 //! no two contradict each other.
 
 use crate::calls;
-use crate::fields::{message, named};
+use crate::operations::{Messages, Said, add_ack, add_put, add_retain, add_session_op};
 use crate::stop::Stop;
-use rep_ops::{ClientId, Delta, Op, OpsFault, Put, Retained, Stamp};
-use sn_session::{Message, Presence, Session, SessionOp};
+use crate::words::Words;
+use rep_ops::{Delta, Op, OpsFault, Stamp};
+use sn_session::{Presence, Session, SessionOp};
 use sn_tables::QosLevel;
-use sn_topic::TopicName;
 use std::alloc::Global;
 
 /// The next of a sequence of numbers.
@@ -16,24 +16,25 @@ pub(crate) fn next(seed: u64) -> u64 {
         .wrapping_add(1442695040888963407)
 }
 
-/// A client by its number.
-pub(crate) fn client(alloc: Global, number: u64) -> Result<ClientId, Stop> {
-    named(alloc, &[99u8, (number % 256) as u8])
+/// The name of a client by its number.
+pub(crate) fn client(number: u64) -> [u8; 2] {
+    [b'c', (number % 256) as u8]
 }
 
-/// A session operation.
-fn session_op(alloc: Global, client: ClientId, number: u64) -> Op {
+/// Adds a session operation.
+fn add_change(words: &mut Words<'_>, ops: &mut Vec<Op>, client: &[u8], number: u64) {
     let stamp = Stamp {
         epoch: number % 3 + 1,
-        gateway: (number / 4 % 2) as u8 + 1,
+        gateway: gateway(number),
     };
     let counter = (number / 16 % 5) as u8;
-    Op::Session {
-        client,
-        stamp,
-        counter,
-        change: change(alloc, stamp, counter),
-    }
+    let change = change(words.alloc, stamp, counter);
+    add_session_op(words, ops, client, stamp, counter, change);
+}
+
+/// One of two gateways.
+fn gateway(number: u64) -> u8 {
+    (number / 4 % 2) as u8 + 1
 }
 
 /// What stands under a stamp and a counter.
@@ -49,84 +50,65 @@ fn change(alloc: Global, stamp: Stamp, counter: u8) -> SessionOp {
     }
 }
 
-/// A message.
-fn put(alloc: Global, client: ClientId, origin: u8, seq: u64) -> Result<Op, Stop> {
-    let body = message(alloc, b"x")?;
-    let topic = TopicName::new(alloc, b"t")?;
-    let put = Put {
+/// Adds a message, or that the client has some.
+fn add_message(words: &mut Words<'_>, ops: &mut Vec<Op>, client: &[u8], number: u64) {
+    let (origin, seq) = ((number / 1024 % 2) as u8 + 1, number / 4096 % 9 + 1);
+    if number / 64 % 9 == 7 {
+        add_ack(words, ops, client, origin, seq, seq + number / 65536 % 3);
+        return;
+    }
+    let messages = Messages {
+        client,
         origin,
-        seq,
-        topic,
+        topic: b"t",
         qos: QosLevel::one(),
         retain: false,
-        expires: 0,
-        body,
+        body: b"x",
     };
-    Ok(Op::Put { client, put })
+    add_put(words, ops, &messages, seq);
 }
 
-/// What a gateway said under a clock; under clock 3 nothing, which ends what was retained.
-fn said(alloc: Global, clock: u64, gateway: u8) -> Result<Message, Stop> {
-    match clock {
-        3 => message(alloc, &[]),
-        _ => message(alloc, &[gateway]),
-    }
-}
-
-/// What a gateway retained under a clock.
-fn retained(alloc: Global, clock: u64, gateway: u8) -> Result<Retained, Stop> {
-    let body = said(alloc, clock, gateway)?;
-    Ok(Retained {
+/// Adds what is retained of a topic: under clock 3 nothing, which ends what was retained.
+fn add_said(words: &mut Words<'_>, ops: &mut Vec<Op>, number: u64) {
+    let (clock, gateway) = (number / 16 % 4 + 1, gateway(number));
+    let octet = [gateway];
+    let said = Said {
         clock,
         gateway,
         qos: QosLevel::one(),
-        body,
-    })
+        body: if clock == 3 { &[] } else { octet.as_slice() },
+    };
+    add_retain(words, ops, &[b't', (number % 3) as u8], &said);
 }
 
-/// What is retained of a topic.
-fn retain(alloc: Global, number: u64) -> Result<Op, Stop> {
-    let clock = number / 16 % 4 + 1;
-    let gateway = (number / 4 % 2) as u8 + 1;
-    let retained = retained(alloc, clock, gateway)?;
-    let topic = TopicName::new(alloc, &[b't', (number % 3) as u8])?;
-    Ok(Op::Retain { topic, retained })
-}
-
-/// An operation.
-fn made_up(alloc: Global, number: u64) -> Result<Op, Stop> {
-    let kind = number / 64 % 9;
-    if kind == 8 {
-        return retain(alloc, number / 1024);
+/// Adds an operation.
+fn add_made_up(words: &mut Words<'_>, ops: &mut Vec<Op>, number: u64) {
+    let client = client(number / 7 % 3);
+    match number / 64 % 9 {
+        0..=3 => add_change(words, ops, &client, number / 1024),
+        4..=7 => add_message(words, ops, &client, number),
+        _ => add_said(words, ops, number / 1024),
     }
-    let client = client(alloc, number / 7 % 3)?;
-    if kind < 4 {
-        return Ok(session_op(alloc, client, number / 1024));
-    }
-    let origin = (number / 1024 % 2) as u8 + 1;
-    let seq = number / 4096 % 9 + 1;
-    if kind < 7 {
-        return put(alloc, client, origin, seq);
-    }
-    Ok(Op::Ack {
-        client,
-        origin,
-        first: seq,
-        last: seq + number / 65536 % 3,
-    })
 }
 
 /// A delta of so many operations, where they make one.
-pub(crate) fn delta(alloc: Global, seed: u64, size: u64) -> Result<Option<Delta>, Stop> {
-    let mut ops = Vec::new(alloc);
+pub(crate) fn delta(words: &mut Words<'_>, seed: u64, size: u64) -> Option<Delta> {
+    let mut ops = Vec::new(words.alloc);
     let mut number = seed;
     for _ in 0..size {
         number = next(number);
-        ops.push(made_up(alloc, number / 65536)?)?;
+        add_made_up(words, &mut ops, number / 65536);
     }
-    match calls::delta_of(alloc, ops) {
-        Ok(delta) => Ok(Some(delta)),
-        Err(OpsFault::Memory) => Err(Stop::Memory),
-        Err(_) => Ok(None),
+    match calls::delta_of(words.alloc, ops) {
+        Ok(delta) => Some(delta),
+        Err(fault) => refused(words, fault),
     }
+}
+
+/// There is no delta. If memory ran out, keeps that.
+fn refused(words: &mut Words<'_>, fault: OpsFault) -> Option<Delta> {
+    if matches!(fault, OpsFault::Memory) {
+        words.fail(Stop::Memory);
+    }
+    None
 }

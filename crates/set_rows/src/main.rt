@@ -123,14 +123,16 @@
 //! the line has the number of records that each opening reads, and those of an opening of what is
 //! left.
 //!
+//! - `words`: the words of a line, which are read, and the fault of a line that is wrong.
+//! - `page`: what is printed, and whether memory ran out.
 //! - `row`: what the lines of a row have brought about (`Row`), and the play of one more.
 //! - `datagrams`: the same of a row of datagrams and topics.
-//! - `fields`, `names`, `operations`, `changes`: lines that are read.
+//! - `names`, `operations`, `changes`: lines that make octets and operations.
 //! - `sessions`, `deltas`, `replicas`, `topics`, `pairs`, `journals`, `attempts`, `retries`: lines
 //!   that are played.
 //! - `made_up`: operations that are made up of a number.
 //! - `calls`: calls of the libraries.
-//! - `words`, `printing`, `runs`: what is printed.
+//! - `values`, `printing`, `runs`: what is printed.
 //! - `stop`: why a line is not played.
 #![tactic(auto)]
 
@@ -139,11 +141,11 @@ mod calls;
 mod changes;
 mod datagrams;
 mod deltas;
-mod fields;
 mod journals;
 mod made_up;
 mod names;
 mod operations;
+mod page;
 mod pairs;
 mod printing;
 mod replicas;
@@ -153,18 +155,19 @@ mod runs;
 mod sessions;
 mod stop;
 mod topics;
+mod values;
 mod words;
 
-use crate::fields::fields;
 use crate::names::Names;
-use crate::row::{Row, begin, play};
+use crate::page::Page;
+use crate::row::Row;
 use crate::stop::Stop;
+use crate::words::{Words, words_of};
 use rep_model::Replica;
 use rep_plain::Plain;
 use rep_state::Folded;
-use std::alloc::{AllocError, Global};
+use std::alloc::Global;
 use std::io::{self, Write};
-use std::mem;
 use std::process::ExitCode;
 
 /// What stands in front of a row's name.
@@ -172,19 +175,21 @@ const MARK: &str = "== ";
 
 /// What the lines have brought about.
 #[derive(Drop)]
-struct Page<R: Replica> {
+struct Play<R: Replica> {
     /// Whether rows are of datagrams and topics.
     is_of_datagrams: bool,
     names: Names,
     datagrams: datagrams::Row,
-    row: Row<R>,
+    row: Row,
+    replica: R,
 }
 
 fn main(rt: HostRuntime) -> ExitCode {
     match play_input(&rt) {
         Ok(()) => ExitCode::SUCCESS,
         Err(stop) => {
-            let _ = eprintln!(rt; "set_rows: {stop}");
+            let why = stop.reason();
+            let _ = eprintln!(rt; "set_rows: {why}");
             ExitCode::FAILURE
         }
     }
@@ -193,162 +198,175 @@ fn main(rt: HostRuntime) -> ExitCode {
 /// Plays standard input on both replicas, and writes what that prints.
 fn play_input(rt: &HostRuntime) -> Result<(), Stop> {
     let mut lines = Vec::new(rt.alloc());
-    read_lines(rt, &mut lines)?;
-    let printed = print_both(rt.alloc(), lines.as_slice())?;
-    Ok(io::writer(rt).write_all(printed.as_bytes())?)
+    let read = read_lines(rt, &mut lines);
+    let page = print_both(rt.alloc(), &lines);
+    drop(lines);
+    write(rt, read, &page)
 }
 
 /// Reads the lines of standard input.
 fn read_lines(rt: &HostRuntime, lines: &mut Vec<String>) -> Result<(), Stop> {
     for line in rt.lines(rt.alloc()) {
-        let line = line?;
-        lines.push(line)?;
+        match line {
+            Ok(line) => push(lines, line)?,
+            Err(error) => return Err(Stop::from(error)),
+        }
     }
     Ok(())
+}
+
+/// Adds a line.
+fn push(lines: &mut Vec<String>, line: String) -> Result<(), Stop> {
+    match lines.push(line) {
+        Ok(()) => Ok(()),
+        Err(_) => Err(Stop::Memory),
+    }
+}
+
+/// Writes a page, if the lines were read and memory did not run out.
+fn write(rt: &HostRuntime, read: Result<(), Stop>, page: &Page) -> Result<(), Stop> {
+    read?;
+    if page.is_short() {
+        return Err(Stop::Memory);
+    }
+    match io::writer(rt).write_all(page.as_str().as_bytes()) {
+        Ok(()) => Ok(()),
+        Err(error) => Err(Stop::from(error)),
+    }
 }
 
 /// What both replicas print, which is the same, and a line that says so; where it is not, what each
 /// prints.
-fn print_both(alloc: Global, lines: &[String]) -> Result<String, Stop> {
-    let mut folded = played::<Folded>(alloc, lines)?;
-    let plain = played::<Plain>(alloc, lines)?;
-    compare(&mut folded, plain.as_str())?;
-    Ok(folded)
+fn print_both(alloc: Global, lines: &[String]) -> Page {
+    let mut folded = played::<Folded>(alloc, lines);
+    let plain = played::<Plain>(alloc, lines);
+    compare(&mut folded, &plain);
+    folded
 }
 
 /// Says after what one replica prints whether the other prints the same; where not, what that is.
-fn compare(folded: &mut String, plain: &str) -> Result<(), AllocError> {
-    if folded.as_str() == plain {
-        return folded.push_str("== both replicas\nno difference\n");
+fn compare(folded: &mut Page, plain: &Page) {
+    folded.keep_fault(plain);
+    if folded.as_str() == plain.as_str() {
+        folded.line("== both replicas");
+        folded.line("no difference");
+    } else {
+        folded.line("== the plain replica prints otherwise");
+        folded.text(plain.as_str());
     }
-    folded.push_str("== the plain replica prints otherwise\n")?;
-    folded.push_str(plain)
 }
 
-/// What the lines give on a replica.
-fn played<R: Replica>(alloc: Global, lines: &[String]) -> Result<String, Stop> {
-    let mut printed = String::new(alloc);
-    play_all::<R>(alloc, &mut printed, lines)?;
-    Ok(printed)
+/// What the lines print on a replica.
+fn played<R: Replica>(alloc: Global, lines: &[String]) -> Page {
+    let mut page = Page::new(alloc);
+    if let Some(mut play) = blank::<R>(&mut page) {
+        play_lines(&mut page, &mut play, lines);
+    }
+    page
 }
 
-/// Plays the lines on a replica.
-fn play_all<R: Replica>(alloc: Global, printed: &mut String, lines: &[String]) -> Result<(), Stop> {
-    let mut page: Page<R> = blank(alloc)?;
-    let played = play_lines(alloc, printed, &mut page, lines);
-    drop(page);
-    played
-}
-
-/// Plays lines, one after the other.
-fn play_lines<R: Replica>(
-    alloc: Global,
-    printed: &mut String,
-    page: &mut Page<R>,
-    lines: &[String],
-) -> Result<(), Stop> {
+/// Plays lines, one after the other, until memory runs out.
+fn play_lines<R: Replica>(page: &mut Page, play: &mut Play<R>, lines: &[String]) {
     for line in lines {
-        answer(alloc, printed, page, line.as_str())?;
-    }
-    Ok(())
-}
-
-/// No line has brought anything about.
-fn blank<R: Replica>(alloc: Global) -> Result<Page<R>, Stop> {
-    let datagrams = datagrams::begin(alloc)?;
-    match begin(alloc) {
-        Ok(row) => Ok(Page {
-            is_of_datagrams: false,
-            names: names::none(alloc),
-            datagrams,
-            row,
-        }),
-        Err(stop) => {
-            drop(datagrams);
-            Err(stop)
+        if !page.is_short() {
+            answer(page, play, line.as_str());
         }
     }
 }
 
+/// An empty replica. If memory ran out, the page remembers that.
+fn empty<R: Replica>(page: &mut Page) -> Option<R> {
+    match R::empty(page.alloc) {
+        Ok(replica) => Some(replica),
+        Err(_) => {
+            page.run_out();
+            None
+        }
+    }
+}
+
+/// An empty row. If memory ran out, the page remembers that.
+fn empty_row(page: &mut Page) -> Option<Row> {
+    match empty::<Folded>(page) {
+        Some(folded) => Some(row::begin(page.alloc, folded)),
+        None => None,
+    }
+}
+
+/// No line has brought anything about.
+fn blank<R: Replica>(page: &mut Page) -> Option<Play<R>> {
+    match empty_row(page) {
+        Some(row) => blank_with(page, row),
+        None => None,
+    }
+}
+
+/// No line has brought anything about: beside an empty row.
+fn blank_with<R: Replica>(page: &mut Page, row: Row) -> Option<Play<R>> {
+    match empty::<R>(page) {
+        Some(replica) => Some(Play {
+            is_of_datagrams: false,
+            names: names::none(page.alloc),
+            datagrams: datagrams::begin(),
+            row,
+            replica,
+        }),
+        None => None,
+    }
+}
+
 /// Plays a line; empty ones and explanations say nothing.
-fn answer<R: Replica>(
-    alloc: Global,
-    text: &mut String,
-    page: &mut Page<R>,
-    line: &str,
-) -> Result<(), Stop> {
+fn answer<R: Replica>(page: &mut Page, play: &mut Play<R>, line: &str) {
     if line.is_empty() || line.starts_with('#') {
-        return Ok(());
+        return;
     }
     match line {
-        "=== datagrams" => page.is_of_datagrams = true,
-        "=== sets" => page.is_of_datagrams = false,
-        _ => return play_or_begin(alloc, text, page, line),
+        "=== datagrams" => play.is_of_datagrams = true,
+        "=== sets" => play.is_of_datagrams = false,
+        _ => play_or_begin(page, play, line),
     }
-    Ok(())
 }
 
 /// Plays a line of a row, or begins one.
-fn play_or_begin<R: Replica>(
-    alloc: Global,
-    text: &mut String,
-    page: &mut Page<R>,
-    line: &str,
-) -> Result<(), Stop> {
+fn play_or_begin<R: Replica>(page: &mut Page, play: &mut Play<R>, line: &str) {
     if line.starts_with(MARK) {
-        return begin_row(alloc, text, page, line);
-    }
-    match play_line(alloc, text, page, line) {
-        Ok(()) => Ok(()),
-        Err(stop) => tell(text, stop, line),
-    }
-}
-
-/// Begins a row, and prints its name.
-fn begin_row<R: Replica>(
-    alloc: Global,
-    text: &mut String,
-    page: &mut Page<R>,
-    line: &str,
-) -> Result<(), Stop> {
-    drop(mem::replace(&mut page.datagrams, datagrams::begin(alloc)?));
-    drop(mem::replace(&mut page.row, begin(alloc)?));
-    Ok(writeln!(text, "{line}")?)
-}
-
-/// Tells a line that is none of the language.
-fn tell(text: &mut String, stop: Stop, line: &str) -> Result<(), Stop> {
-    match stop {
-        Stop::Line | Stop::Message => Ok(writeln!(text, "{stop}: {line}")?),
-        Stop::Memory | Stop::Stream => Err(stop),
+        begin_row(page, play);
+        page.line(line);
+    } else {
+        play_line(page, play, line);
     }
 }
 
-/// Plays a line that is a name for octets, or a row's.
-fn play_line<R: Replica>(
-    alloc: Global,
-    text: &mut String,
-    page: &mut Page<R>,
-    line: &str,
-) -> Result<(), Stop> {
-    let words = fields(alloc, line)?;
-    let played = play_words(alloc, text, page, &words);
-    drop(words);
-    played
+/// Begins a row.
+fn begin_row<R: Replica>(page: &mut Page, play: &mut Play<R>) {
+    play.datagrams = datagrams::begin();
+    if let Some(row) = empty_row(page) {
+        play.row = row;
+    }
+    if let Some(replica) = empty::<R>(page) {
+        play.replica = replica;
+    }
 }
 
-/// Plays the words of such a line.
-fn play_words<R: Replica>(
-    alloc: Global,
-    text: &mut String,
-    page: &mut Page<R>,
-    words: &[&str],
-) -> Result<(), Stop> {
-    if page.is_of_datagrams {
-        return datagrams::play(alloc, text, &mut page.datagrams, words);
+/// Plays a line, and tells one that is none of the language.
+fn play_line<R: Replica>(page: &mut Page, play: &mut Play<R>, line: &str) {
+    let mut words = words_of(page.alloc, line);
+    if play.is_of_datagrams {
+        datagrams::play(page, &mut play.datagrams, &mut words);
+    } else {
+        play_words(page, play, &mut words);
     }
-    match words {
-        ["name", rest @ ..] => names::add(alloc, &mut page.names, rest),
-        words => play(alloc, text, &mut page.row, &page.names, words),
+    if let Some(stop) = words.stop {
+        page.stopped(stop, line);
+    }
+}
+
+/// Plays a line that names octets or makes them, or another of a row.
+fn play_words<R: Replica>(page: &mut Page, play: &mut Play<R>, words: &mut Words<'_>) {
+    match words.first {
+        "name" => names::add(&mut play.names, words),
+        "octets" => names::set(&play.names, words, &mut play.row.octets),
+        "behind" => names::extend(&play.names, words, &mut play.row.octets),
+        _ => replicas::play(page, &mut play.row, &mut play.replica, words),
     }
 }

@@ -1,7 +1,7 @@
-//! Names for octets that many rows use.
+//! Names for octets that many rows use, and lines that make octets.
 
-use crate::fields::digits;
 use crate::stop::Stop;
+use crate::words::Words;
 use std::alloc::Global;
 
 /// Octets that have a name.
@@ -25,13 +25,43 @@ pub(crate) fn none(alloc: Global) -> Names {
 }
 
 /// `name NAME OCTETS ..`: from here on the name is these octets.
-pub(crate) fn add(alloc: Global, names: &mut Names, fields: &[&str]) -> Result<(), Stop> {
-    let Some((name, rest)) = fields.split_first() else {
-        return Err(Stop::Line);
-    };
-    let octets = octets(alloc, names, rest)?;
-    let name = String::from_str(alloc, name)?;
-    Ok(names.all.push(Named { name, octets })?)
+pub(crate) fn add(names: &mut Names, words: &mut Words<'_>) {
+    let name = words.word();
+    let octets = octets(names, words);
+    if words.end() {
+        push(names, words, name, octets);
+    }
+}
+
+/// Adds a name.
+fn push(names: &mut Names, words: &mut Words<'_>, name: &str, octets: Vec<u8>) {
+    match String::from_str(words.alloc, name) {
+        Ok(name) => push_named(names, words, Named { name, octets }),
+        Err(_) => words.fail(Stop::Memory),
+    }
+}
+
+/// Adds a name.
+fn push_named(names: &mut Names, words: &mut Words<'_>, named: Named) {
+    if names.all.push(named).is_err() {
+        words.fail(Stop::Memory);
+    }
+}
+
+/// `octets OCTETS ..`: these octets.
+pub(crate) fn set(names: &Names, words: &mut Words<'_>, kept: &mut Vec<u8>) {
+    let octets = octets(names, words);
+    if words.end() {
+        *kept = octets;
+    }
+}
+
+/// `behind OCTETS ..`: these octets stand behind those that are there.
+pub(crate) fn extend(names: &Names, words: &mut Words<'_>, kept: &mut Vec<u8>) {
+    let more = octets(names, words);
+    if words.end() {
+        words.extend(kept, &more);
+    }
 }
 
 /// The octets of a name.
@@ -44,22 +74,26 @@ fn found<'a>(names: &'a Names, name: &str) -> Option<&'a [u8]> {
     None
 }
 
-/// The octets that fields write, each a name or hexadecimal digits.
-pub(crate) fn octets(alloc: Global, names: &Names, fields: &[&str]) -> Result<Vec<u8>, Stop> {
-    let mut octets = Vec::new(alloc);
-    for field in fields {
-        add_field(alloc, names, &mut octets, field)?;
+/// The octets that the words write, each a name or hexadecimal digits.
+fn octets(names: &Names, words: &mut Words<'_>) -> Vec<u8> {
+    let mut octets = Vec::new(words.alloc);
+    for _ in 0..words.left() {
+        let word = words.word();
+        add_word(names, words, &mut octets, word);
     }
-    Ok(octets)
+    octets
 }
 
-/// Puts the octets of a field after those that are there.
-fn add_field(alloc: Global, names: &Names, octets: &mut Vec<u8>, field: &str) -> Result<(), Stop> {
-    match found(names, field) {
-        Some(named) => Ok(octets.extend_from_slice(named)?),
-        None => {
-            let some = digits(alloc, field)?;
-            Ok(octets.extend_from_slice(&some)?)
-        }
+/// Puts the octets of a word after those that are there.
+fn add_word(names: &Names, words: &mut Words<'_>, octets: &mut Vec<u8>, word: &str) {
+    match found(names, word) {
+        Some(named) => words.extend(octets, named),
+        None => add_digits(words, octets, word),
     }
+}
+
+/// Puts the octets of hexadecimal digits after those that are there.
+fn add_digits(words: &mut Words<'_>, octets: &mut Vec<u8>, word: &str) {
+    let some = words.digits_of(word);
+    words.extend(octets, &some);
 }

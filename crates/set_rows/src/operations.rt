@@ -1,333 +1,359 @@
-//! Lines that add operations.
+//! Lines that add operations. What these have in common is read first, borrowed from the line; each
+//! operation is made of it, and added at once.
 
 use crate::changes::change;
-use crate::fields::{
-    client, clock, count, level, message, message_number, named, number, octet, small_number,
-    stamp, topic, word,
-};
 use crate::stop::Stop;
-use rep_ops::{ClientId, Op, Put, Retained, Stamp};
+use crate::words::Words;
+use rep_ops::{Op, Put, Retained, Stamp};
 use sn_session::{Session, SessionOp};
 use sn_tables::QosLevel;
-use std::alloc::Global;
+
+/// Messages for a client that are the same but for their numbers.
+#[derive(Clone, Copy)]
+pub(crate) struct Messages<'a> {
+    pub(crate) client: &'a [u8],
+    pub(crate) origin: u8,
+    pub(crate) topic: &'a [u8],
+    pub(crate) qos: QosLevel,
+    pub(crate) retain: bool,
+    pub(crate) body: &'a [u8],
+}
+
+/// What is retained of one topic or several.
+#[derive(Clone, Copy)]
+pub(crate) struct Said<'a> {
+    pub(crate) clock: u64,
+    pub(crate) gateway: u8,
+    pub(crate) qos: QosLevel,
+    pub(crate) body: &'a [u8],
+}
+
+/// Plays a line that adds changes of sessions; leaves all others to the lines about messages.
+pub(crate) fn play(words: &mut Words<'_>, session: &Session, ops: &mut Vec<Op>) {
+    match words.first {
+        "op" => session_op(words, session, ops),
+        "ops" => session_ops(words, session, ops),
+        "takes" => takes(words, session, ops),
+        _ => play_messages(words, ops),
+    }
+}
+
+/// Plays a line that adds messages, or that clients have them; leaves all others to the lines about
+/// what is retained.
+fn play_messages(words: &mut Words<'_>, ops: &mut Vec<Op>) {
+    match words.first {
+        "put" => put(words, ops),
+        "puts" => puts(words, ops),
+        "ack" => ack(words, ops),
+        "acks" => acks(words, ops),
+        _ => play_retained(words, ops),
+    }
+}
+
+/// Plays a line that adds what is retained of topics.
+fn play_retained(words: &mut Words<'_>, ops: &mut Vec<Op>) {
+    match words.first {
+        "retain" => retain(words, ops),
+        _ => retains(words, ops),
+    }
+}
+
+/// Adds an operation.
+fn push(words: &mut Words<'_>, ops: &mut Vec<Op>, op: Op) {
+    if ops.push(op).is_err() {
+        words.fail(Stop::Memory);
+    }
+}
 
 /// `op CLIENT EPOCH.GATEWAY COUNTER CHANGE`: a change of a session.
-pub(crate) fn session_op(alloc: Global, session: &Session, fields: &[&str]) -> Result<Op, Stop> {
-    let [name, under, counter, rest @ ..] = fields else {
-        return Err(Stop::Line);
-    };
-    let stamp = stamp(under)?;
-    let counter = octet(counter)?;
-    changed(alloc, session, name, stamp, counter, rest)
-}
-
-/// A change of a session under a counter.
-fn changed(
-    alloc: Global,
-    session: &Session,
-    name: &str,
-    stamp: Stamp,
-    counter: u8,
-    fields: &[&str],
-) -> Result<Op, Stop> {
-    let client = client(alloc, name)?;
-    let change = change(alloc, session, fields)?;
-    Ok(Op::Session {
-        client,
-        stamp,
-        counter,
-        change,
-    })
-}
-
-/// Adds a change of a session under a counter.
-fn add_change(
-    alloc: Global,
-    session: &Session,
-    ops: &mut Vec<Op>,
-    name: &str,
-    stamp: Stamp,
-    counter: u8,
-    fields: &[&str],
-) -> Result<(), Stop> {
-    let op = changed(alloc, session, name, stamp, counter, fields)?;
-    Ok(ops.push(op)?)
+fn session_op(words: &mut Words<'_>, session: &Session, ops: &mut Vec<Op>) {
+    let name = words.octets();
+    let (stamp, counter) = (words.stamp(), words.octet());
+    add_read(words, session, ops, name, stamp, (counter, counter));
 }
 
 /// `ops CLIENT EPOCH.GATEWAY FIRST LAST CHANGE`: the same change under each counter from the first
 /// to the last.
-pub(crate) fn session_ops(
-    alloc: Global,
+fn session_ops(words: &mut Words<'_>, session: &Session, ops: &mut Vec<Op>) {
+    let name = words.octets();
+    let (stamp, first, last) = (words.stamp(), words.octet(), words.octet());
+    add_read(words, session, ops, name, stamp, (first, last));
+}
+
+/// Adds the change that the other words say, under these counters.
+fn add_read(
+    words: &mut Words<'_>,
     session: &Session,
     ops: &mut Vec<Op>,
-    fields: &[&str],
-) -> Result<(), Stop> {
-    let [name, under, first, last, rest @ ..] = fields else {
-        return Err(Stop::Line);
-    };
-    let stamp = stamp(under)?;
-    let (first, last) = (octet(first)?, octet(last)?);
-    for counter in first..=last {
-        add_change(alloc, session, ops, name, stamp, counter, rest)?;
+    name: &[u8],
+    stamp: Stamp,
+    counters: (u8, u8),
+) {
+    if let Some(change) = change(words, session) {
+        if words.end() {
+            add_changes(words, ops, name, stamp, counters, &change);
+        }
     }
-    Ok(())
+}
+
+/// Adds a change under each counter from a first to a last.
+fn add_changes(
+    words: &mut Words<'_>,
+    ops: &mut Vec<Op>,
+    name: &[u8],
+    stamp: Stamp,
+    (first, last): (u8, u8),
+    change: &SessionOp,
+) {
+    for counter in first..=last {
+        add_change(words, ops, name, stamp, counter, change);
+    }
+}
+
+/// Adds a change of a session under a counter.
+fn add_change(
+    words: &mut Words<'_>,
+    ops: &mut Vec<Op>,
+    name: &[u8],
+    stamp: Stamp,
+    counter: u8,
+    change: &SessionOp,
+) {
+    match change.copied(words.alloc) {
+        Ok(change) => add_session_op(words, ops, name, stamp, counter, change),
+        Err(_) => words.fail(Stop::Memory),
+    }
+}
+
+/// Adds a change of a session under a counter.
+pub(crate) fn add_session_op(
+    words: &mut Words<'_>,
+    ops: &mut Vec<Op>,
+    name: &[u8],
+    stamp: Stamp,
+    counter: u8,
+    change: SessionOp,
+) {
+    if let Some(client) = words.client_of(name) {
+        let op = Op::Session {
+            client,
+            stamp,
+            counter,
+            change,
+        };
+        push(words, ops, op);
+    }
 }
 
 /// `put CLIENT ORIGIN.NUMBER TOPIC QOS BODY`, or with `retained` after: a message for a client.
-pub(crate) fn put_op(alloc: Global, fields: &[&str]) -> Result<Op, Stop> {
-    let [name, message, about, qos, said, later @ ..] = fields else {
-        return Err(Stop::Line);
+fn put(words: &mut Words<'_>, ops: &mut Vec<Op>) {
+    let client = words.octets();
+    let (origin, seq) = words.message_number();
+    let messages = Messages {
+        client,
+        origin,
+        topic: words.octets(),
+        qos: words.level(),
+        body: words.octets(),
+        retain: words.may_end_with("retained"),
     };
-    let number = message_number(message)?;
-    let qos = level(qos)?;
-    let retain = is_retained(later)?;
-    put_for(alloc, name, number, about, qos, retain, word(said))
-}
-
-/// Whether a message was retained.
-fn is_retained(later: &[&str]) -> Result<bool, Stop> {
-    match later {
-        [] => Ok(false),
-        ["retained"] => Ok(true),
-        _ => Err(Stop::Line),
+    if words.end() {
+        add_put(words, ops, &messages, seq);
     }
 }
 
 /// `puts CLIENT ORIGIN FIRST LAST TOPIC QOS SIZE`: messages of so many octets, each the letter `a`.
-pub(crate) fn put_ops(alloc: Global, ops: &mut Vec<Op>, fields: &[&str]) -> Result<(), Stop> {
-    let [name, origin, first, last, about, qos, size] = fields else {
-        return Err(Stop::Line);
-    };
-    let (origin, qos, size) = (octet(origin)?, level(qos)?, count(size)?);
-    let (first, last) = (number(first)?, number(last)?);
-    let said = vec![in alloc; b'a'; size]?;
-    let added = add_puts(alloc, ops, name, (origin, first, last), about, qos, &said);
-    drop(said);
-    added
-}
-
-/// Adds these messages, of an origin from a first number to a last.
-fn add_puts(
-    alloc: Global,
-    ops: &mut Vec<Op>,
-    name: &str,
-    (origin, first, last): (u8, u64, u64),
-    about: &str,
-    qos: QosLevel,
-    said: &[u8],
-) -> Result<(), Stop> {
-    for seq in first..=last {
-        add_put(alloc, ops, name, (origin, seq), about, qos, said)?;
-    }
-    Ok(())
-}
-
-/// Adds one of these messages.
-fn add_put(
-    alloc: Global,
-    ops: &mut Vec<Op>,
-    name: &str,
-    number: (u8, u64),
-    about: &str,
-    qos: QosLevel,
-    said: &[u8],
-) -> Result<(), Stop> {
-    let op = put_for(alloc, name, number, about, qos, false, said)?;
-    Ok(ops.push(op)?)
-}
-
-/// A message for a client.
-fn put_for(
-    alloc: Global,
-    name: &str,
-    number: (u8, u64),
-    about: &str,
-    qos: QosLevel,
-    retain: bool,
-    said: &[u8],
-) -> Result<Op, Stop> {
-    let client = client(alloc, name)?;
-    let put = put(alloc, number, about, qos, retain, said)?;
-    Ok(Op::Put { client, put })
-}
-
-/// A message on a topic.
-fn put(
-    alloc: Global,
-    number: (u8, u64),
-    about: &str,
-    qos: QosLevel,
-    retain: bool,
-    said: &[u8],
-) -> Result<Put, Stop> {
-    let (origin, seq) = number;
-    let topic = topic(alloc, about)?;
-    let body = message(alloc, said)?;
-    Ok(Put {
+fn puts(words: &mut Words<'_>, ops: &mut Vec<Op>) {
+    let (client, origin) = (words.octets(), words.octet());
+    let (first, last) = (words.number(), words.number());
+    let (topic, qos, letters) = (words.octets(), words.level(), words.letters());
+    let messages = Messages {
+        client,
         origin,
-        seq,
         topic,
         qos,
-        retain,
+        body: letters.as_slice(),
+        retain: false,
+    };
+    if words.end() {
+        add_puts(words, ops, &messages, first, last);
+    }
+}
+
+/// Adds messages from a first number to a last.
+fn add_puts(
+    words: &mut Words<'_>,
+    ops: &mut Vec<Op>,
+    messages: &Messages<'_>,
+    first: u64,
+    last: u64,
+) {
+    for seq in first..=last {
+        add_put(words, ops, messages, seq);
+    }
+}
+
+/// Adds a message of this number.
+pub(crate) fn add_put(words: &mut Words<'_>, ops: &mut Vec<Op>, messages: &Messages<'_>, seq: u64) {
+    if let Some(put) = put_of(words, messages, seq) {
+        if let Some(client) = words.client_of(messages.client) {
+            push(words, ops, Op::Put { client, put });
+        }
+    }
+}
+
+/// A message of this number.
+fn put_of(words: &mut Words<'_>, messages: &Messages<'_>, seq: u64) -> Option<Put> {
+    let Some(topic) = words.topic_of(messages.topic) else {
+        return None;
+    };
+    let Some(body) = words.message_of(messages.body) else {
+        return None;
+    };
+    Some(Put {
+        origin: messages.origin,
+        seq,
+        topic,
+        qos: messages.qos,
+        retain: messages.retain,
         expires: 0,
         body,
     })
 }
 
 /// `ack CLIENT ORIGIN FIRST LAST`: messages that a client has.
-pub(crate) fn ack_op(alloc: Global, fields: &[&str]) -> Result<Op, Stop> {
-    let [name, origin, first, last] = fields else {
-        return Err(Stop::Line);
-    };
-    let origin = octet(origin)?;
-    let (first, last) = (number(first)?, number(last)?);
-    Ok(Op::Ack {
-        client: client(alloc, name)?,
-        origin,
-        first,
-        last,
-    })
+fn ack(words: &mut Words<'_>, ops: &mut Vec<Op>) {
+    let (name, origin) = (words.octets(), words.octet());
+    let (first, last) = (words.number(), words.number());
+    if words.end() {
+        add_ack(words, ops, name, origin, first, last);
+    }
+}
+
+/// Adds that a client has messages.
+pub(crate) fn add_ack(
+    words: &mut Words<'_>,
+    ops: &mut Vec<Op>,
+    name: &[u8],
+    origin: u8,
+    first: u64,
+    last: u64,
+) {
+    if let Some(client) = words.client_of(name) {
+        let op = Op::Ack {
+            client,
+            origin,
+            first,
+            last,
+        };
+        push(words, ops, op);
+    }
 }
 
 /// `retain TOPIC CLOCK.GATEWAY QOS BODY`: what is retained of a topic.
-pub(crate) fn retain_op(alloc: Global, fields: &[&str]) -> Result<Op, Stop> {
-    let [about, under, qos, said] = fields else {
-        return Err(Stop::Line);
+fn retain(words: &mut Words<'_>, ops: &mut Vec<Op>) {
+    let topic = words.octets();
+    let (clock, gateway) = words.clock();
+    let said = Said {
+        clock,
+        gateway,
+        qos: words.level(),
+        body: words.octets(),
     };
-    let under = clock(under)?;
-    let qos = level(qos)?;
-    retain_of(alloc, about, under, qos, word(said))
-}
-
-/// What is retained of a topic under a clock and a gateway.
-fn retain_of(
-    alloc: Global,
-    about: &str,
-    under: (u64, u8),
-    qos: QosLevel,
-    said: &[u8],
-) -> Result<Op, Stop> {
-    let (clock, gateway) = under;
-    let topic = topic(alloc, about)?;
-    match message(alloc, said) {
-        Ok(body) => Ok(Op::Retain {
-            topic,
-            retained: Retained {
-                clock,
-                gateway,
-                qos,
-                body,
-            },
-        }),
-        Err(stop) => {
-            drop(topic);
-            Err(stop)
-        }
+    if words.end() {
+        add_retain(words, ops, topic, &said);
     }
 }
 
 /// `retains FIRST LAST CLOCK.GATEWAY QOS SIZE`: of so many topics so many octets, each the letter
 /// `a`. A topic's name is its number in four hexadecimal digits.
-pub(crate) fn retain_ops(alloc: Global, ops: &mut Vec<Op>, fields: &[&str]) -> Result<(), Stop> {
-    let [first, last, under, qos, size] = fields else {
-        return Err(Stop::Line);
+fn retains(words: &mut Words<'_>, ops: &mut Vec<Op>) {
+    let (first, last) = (words.small_number(), words.small_number());
+    let (clock, gateway) = words.clock();
+    let (qos, letters) = (words.level(), words.letters());
+    let said = Said {
+        clock,
+        gateway,
+        qos,
+        body: letters.as_slice(),
     };
-    let (first, last) = (small_number(first)?, small_number(last)?);
-    let (under, qos, size) = (clock(under)?, level(qos)?, count(size)?);
-    let said = vec![in alloc; b'a'; size]?;
-    let added = add_retains(alloc, ops, (first, last), under, qos, &said);
-    drop(said);
-    added
-}
-
-/// Adds what is retained of these topics, from a first number to a last.
-fn add_retains(
-    alloc: Global,
-    ops: &mut Vec<Op>,
-    (first, last): (u16, u16),
-    under: (u64, u8),
-    qos: QosLevel,
-    said: &[u8],
-) -> Result<(), Stop> {
-    for number in first..=last {
-        add_retain(alloc, ops, number, under, qos, said)?;
+    if words.end() {
+        add_retains(words, ops, first, last, &said);
     }
-    Ok(())
 }
 
-/// Adds what is retained of the topic of a number.
-fn add_retain(
-    alloc: Global,
-    ops: &mut Vec<Op>,
-    number: u16,
-    under: (u64, u8),
-    qos: QosLevel,
-    said: &[u8],
-) -> Result<(), Stop> {
-    let about = format!(in alloc; "{number:04x}")?;
-    let op = retain_of(alloc, about.as_str(), under, qos, said);
-    drop(about);
-    Ok(ops.push(op?)?)
+/// Adds what is retained of the topics from a first number to a last.
+fn add_retains(words: &mut Words<'_>, ops: &mut Vec<Op>, first: u16, last: u16, said: &Said<'_>) {
+    for number in first..=last {
+        let name = hex::encode(words.alloc, number.to_be_bytes().as_slice());
+        match name {
+            Ok(name) => add_retain(words, ops, name.as_bytes(), said),
+            Err(_) => words.fail(Stop::Memory),
+        }
+    }
+}
+
+/// Adds what is retained of a topic.
+pub(crate) fn add_retain(words: &mut Words<'_>, ops: &mut Vec<Op>, topic: &[u8], said: &Said<'_>) {
+    if let Some(retained) = retained_of(words, said) {
+        if let Some(topic) = words.topic_of(topic) {
+            push(words, ops, Op::Retain { topic, retained });
+        }
+    }
+}
+
+/// What is retained of a topic.
+fn retained_of(words: &mut Words<'_>, said: &Said<'_>) -> Option<Retained> {
+    match words.message_of(said.body) {
+        Some(body) => Some(Retained {
+            clock: said.clock,
+            gateway: said.gateway,
+            qos: said.qos,
+            body,
+        }),
+        None => None,
+    }
 }
 
 /// `acks COUNT`: so many clients have message 1 of gateway 1. A client's name is its number from 0
 /// on in two octets.
-pub(crate) fn ack_ops(alloc: Global, ops: &mut Vec<Op>, fields: &[&str]) -> Result<(), Stop> {
-    let [clients] = fields else {
-        return Err(Stop::Line);
-    };
-    let clients = small_number(clients)?;
-    for client in 0..clients {
-        add_ack(alloc, ops, client)?;
+fn acks(words: &mut Words<'_>, ops: &mut Vec<Op>) {
+    let clients = words.small_number();
+    if words.end() {
+        for number in 0..clients {
+            add_ack(words, ops, number.to_be_bytes().as_slice(), 1, 1, 1);
+        }
     }
-    Ok(())
-}
-
-/// Adds that the client of a number has message 1 of gateway 1.
-fn add_ack(alloc: Global, ops: &mut Vec<Op>, number: u16) -> Result<(), Stop> {
-    let client = numbered(alloc, number)?;
-    Ok(ops.push(Op::Ack {
-        client,
-        origin: 1,
-        first: 1,
-        last: 1,
-    })?)
 }
 
 /// `takes COUNT`: so many clients are taken by gateway 1 with the row's session, in epoch 1. Their
 /// names are those of `acks`.
-pub(crate) fn take_ops(
-    alloc: Global,
-    session: &Session,
-    ops: &mut Vec<Op>,
-    fields: &[&str],
-) -> Result<(), Stop> {
-    let [clients] = fields else {
-        return Err(Stop::Line);
-    };
-    let clients = small_number(clients)?;
-    for client in 0..clients {
-        add_take(alloc, session, ops, client)?;
+fn takes(words: &mut Words<'_>, session: &Session, ops: &mut Vec<Op>) {
+    let clients = words.small_number();
+    if words.end() {
+        for number in 0..clients {
+            add_take(words, session, ops, number);
+        }
     }
-    Ok(())
 }
 
 /// Adds that the client of a number is taken.
-fn add_take(alloc: Global, session: &Session, ops: &mut Vec<Op>, number: u16) -> Result<(), Stop> {
-    let client = numbered(alloc, number)?;
-    let change = SessionOp::Take(session.copied(alloc)?);
-    Ok(ops.push(Op::Session {
-        client,
-        stamp: Stamp {
-            epoch: 1,
-            gateway: 1,
-        },
-        counter: 0,
-        change,
-    })?)
-}
-
-/// The client of a number.
-fn numbered(alloc: Global, number: u16) -> Result<ClientId, Stop> {
-    named(alloc, &[(number / 256) as u8, (number % 256) as u8])
+fn add_take(words: &mut Words<'_>, session: &Session, ops: &mut Vec<Op>, number: u16) {
+    let stamp = Stamp {
+        epoch: 1,
+        gateway: 1,
+    };
+    if let Ok(session) = session.copied(words.alloc) {
+        let change = SessionOp::Take(session);
+        add_session_op(
+            words,
+            ops,
+            number.to_be_bytes().as_slice(),
+            stamp,
+            0,
+            change,
+        );
+    } else {
+        words.fail(Stop::Memory);
+    }
 }

@@ -1,15 +1,14 @@
 //! A line that plays made-up deltas on both replicas, and compares after each what these say.
 
 use crate::calls;
-use crate::fields::number;
 use crate::made_up::{client, delta, next};
-use crate::replicas::empty;
+use crate::page::Page;
 use crate::stop::Stop;
+use crate::words::Words;
 use rep_model::{ClientView, Replica, TakeFault};
 use rep_ops::{ClientId, Delta};
 use rep_plain::Plain;
 use rep_state::Folded;
-use std::alloc::Global;
 
 /// The two replicas.
 #[derive(Drop)]
@@ -27,85 +26,90 @@ struct Counts {
 
 /// `pair SEED TIMES SIZE LEAST`: so many times both replicas take so many made-up operations, if
 /// they are a delta; which so many are at least.
-pub(crate) fn play_pair(alloc: Global, text: &mut String, fields: &[&str]) -> Result<(), Stop> {
-    let [seed, times, size, least] = fields else {
-        return Err(Stop::Line);
-    };
-    let (seed, times) = (number(seed)?, number(times)?);
-    let (size, least) = (number(size)?, number(least)?);
-    let counts = run(alloc, seed, times, size)?;
-    print_counts(text, counts, least)
+pub(crate) fn play_pair(page: &mut Page, words: &mut Words<'_>) {
+    let (seed, times) = (words.number(), words.number());
+    let (size, least) = (words.number(), words.number());
+    if words.end() {
+        let counts = run(words, seed, times, size);
+        print_counts(page, counts, least);
+    }
 }
 
 /// Whether the replicas said the same after each delta, and there were so many at least.
-fn print_counts(text: &mut String, counts: Counts, least: u64) -> Result<(), Stop> {
-    let (deltas, same) = (counts.deltas, counts.same);
-    if same == deltas && deltas >= least {
-        return Ok(text.push_str("the same after each delta\n")?);
+fn print_counts(page: &mut Page, counts: Counts, least: u64) {
+    if counts.same == counts.deltas && counts.deltas >= least {
+        page.line("the same after each delta");
+    } else {
+        print_difference(page, counts);
     }
-    Ok(writeln!(text, "the same after {same} of {deltas} deltas")?)
+}
+
+/// After how many deltas the replicas said the same.
+fn print_difference(page: &mut Page, counts: Counts) {
+    page.word("the same after");
+    page.word(counts.same);
+    page.word("of");
+    page.word(counts.deltas);
+    page.word("deltas");
+    page.end();
 }
 
 /// Both replicas take made-up deltas.
-fn run(alloc: Global, seed: u64, times: u64, size: u64) -> Result<Counts, Stop> {
-    let mut pair = Pair {
-        plain: empty(alloc)?,
-        folded: empty(alloc)?,
-    };
-    let counts = count_all(alloc, &mut pair, seed, times, size);
-    drop(pair);
-    counts
-}
-
-/// Both replicas take one made-up delta after the other.
-fn count_all(
-    alloc: Global,
-    pair: &mut Pair,
-    seed: u64,
-    times: u64,
-    size: u64,
-) -> Result<Counts, Stop> {
-    let mut counts = Counts { deltas: 0, same: 0 };
-    let mut number = seed;
-    for _ in 0..times {
-        number = next(number);
-        count_made(alloc, pair, number, size, &mut counts)?;
+fn run(words: &mut Words<'_>, seed: u64, times: u64, size: u64) -> Counts {
+    match empty_pair(words) {
+        Some(mut pair) => count_all(words, &mut pair, seed, times, size),
+        None => Counts { deltas: 0, same: 0 },
     }
-    Ok(counts)
 }
 
-/// Both replicas take the delta of operations that are made up of a number, if these are one.
-fn count_made(
-    alloc: Global,
-    pair: &mut Pair,
-    number: u64,
-    size: u64,
-    counts: &mut Counts,
-) -> Result<(), Stop> {
-    match delta(alloc, number, size)? {
-        None => Ok(()),
-        Some(delta) => {
-            let counted = count(alloc, pair, &delta, counts);
-            drop(delta);
-            counted
+/// Two empty replicas.
+fn empty_pair(words: &mut Words<'_>) -> Option<Pair> {
+    match Plain::empty(words.alloc) {
+        Ok(plain) => pair_with(words, plain),
+        Err(_) => {
+            words.fail(Stop::Memory);
+            None
         }
     }
 }
 
+/// An empty replica beside another.
+fn pair_with(words: &mut Words<'_>, plain: Plain) -> Option<Pair> {
+    match Folded::empty(words.alloc) {
+        Ok(folded) => Some(Pair { plain, folded }),
+        Err(_) => {
+            words.fail(Stop::Memory);
+            None
+        }
+    }
+}
+
+/// Both replicas take one made-up delta after the other.
+fn count_all(words: &mut Words<'_>, pair: &mut Pair, seed: u64, times: u64, size: u64) -> Counts {
+    let mut counts = Counts { deltas: 0, same: 0 };
+    let mut number = seed;
+    for _ in 0..times {
+        number = next(number);
+        if let Some(delta) = delta(words, number, size) {
+            count(words, pair, &delta, &mut counts);
+        }
+    }
+    counts
+}
+
 /// Both replicas take a delta, which is counted.
-fn count(alloc: Global, pair: &mut Pair, delta: &Delta, counts: &mut Counts) -> Result<(), Stop> {
+fn count(words: &mut Words<'_>, pair: &mut Pair, delta: &Delta, counts: &mut Counts) {
     counts.deltas = counts.deltas.saturating_add(1);
-    if take(alloc, pair, delta)? && are_same(alloc, pair)? {
+    if take(words, pair, delta) && are_same(words, pair) {
         counts.same = counts.same.saturating_add(1);
     }
-    Ok(())
 }
 
 /// Takes the delta in both: whether they are of one mind whether it can be taken.
-fn take(alloc: Global, pair: &mut Pair, delta: &Delta) -> Result<bool, Stop> {
-    let plain = pair.plain.prepare(alloc, delta);
-    let folded = pair.folded.prepare(alloc, delta);
-    let agreed = agree(&plain, &folded);
+fn take(words: &mut Words<'_>, pair: &mut Pair, delta: &Delta) -> bool {
+    let plain = pair.plain.prepare(words.alloc, delta);
+    let folded = pair.folded.prepare(words.alloc, delta);
+    let agreed = agree(words, &plain, &folded);
     match (plain, folded) {
         (Ok(plain), Ok(folded)) => {
             pair.plain.commit(plain);
@@ -120,14 +124,18 @@ fn take(alloc: Global, pair: &mut Pair, delta: &Delta) -> Result<bool, Stop> {
 }
 
 /// Whether both can take a delta, or refuse it alike.
-fn agree<P, F>(plain: &Result<P, TakeFault>, folded: &Result<F, TakeFault>) -> Result<bool, Stop> {
+fn agree<P, F>(
+    words: &mut Words<'_>,
+    plain: &Result<P, TakeFault>,
+    folded: &Result<F, TakeFault>,
+) -> bool {
     if is_short(plain) || is_short(folded) {
-        return Err(Stop::Memory);
+        words.fail(Stop::Memory);
     }
     match (plain, folded) {
-        (Ok(_), Ok(_)) => Ok(true),
-        (Err(plain), Err(folded)) => Ok(plain == folded),
-        _ => Ok(false),
+        (Ok(_), Ok(_)) => true,
+        (Err(plain), Err(folded)) => plain == folded,
+        _ => false,
     }
 }
 
@@ -137,32 +145,38 @@ fn is_short<S>(prepared: &Result<S, TakeFault>) -> bool {
 }
 
 /// Whether both say the same of all clients, and hold the same.
-fn are_same(alloc: Global, pair: &Pair) -> Result<bool, Stop> {
+fn are_same(words: &mut Words<'_>, pair: &Pair) -> bool {
     for number in 0..4u64 {
-        if !same_of(pair, &client(alloc, number)?) {
-            return Ok(false);
+        if !same_of(words, pair, number) {
+            return false;
         }
     }
-    Ok(same_clients(alloc, pair)? && same_held(alloc, pair)?)
+    same_clients(words, pair) && same_held(words, pair)
 }
 
-/// Whether both say the same of a client.
-fn same_of(pair: &Pair, client: &ClientId) -> bool {
-    same_view(pair.plain.view_of(client), pair.folded.view_of(client)) && same_numbers(pair, client)
+/// Whether both say the same of the client of a number.
+fn same_of(words: &mut Words<'_>, pair: &Pair, number: u64) -> bool {
+    match words.client_of(&client(number)) {
+        Some(client) => same_views(pair, &client) && same_numbers(pair, &client),
+        None => false,
+    }
+}
+
+/// Whether both know the same of a client.
+fn same_views(pair: &Pair, client: &ClientId) -> bool {
+    match (pair.plain.view_of(client), pair.folded.view_of(client)) {
+        (None, None) => true,
+        (Some(plain), Some(folded)) => same_view(plain, folded),
+        _ => false,
+    }
 }
 
 /// Whether two views are the same.
-fn same_view(plain: Option<&ClientView>, folded: Option<&ClientView>) -> bool {
-    match (plain, folded) {
-        (None, None) => true,
-        (Some(plain), Some(folded)) => {
-            plain.stamp == folded.stamp
-                && plain.prefix == folded.prefix
-                && plain.session == folded.session
-                && plain.pending.as_slice() == folded.pending.as_slice()
-        }
-        _ => false,
-    }
+fn same_view(plain: &ClientView, folded: &ClientView) -> bool {
+    plain.stamp == folded.stamp
+        && plain.prefix == folded.prefix
+        && plain.session == folded.session
+        && plain.pending.as_slice() == folded.pending.as_slice()
 }
 
 /// Whether both give the client the same next numbers.
@@ -179,43 +193,45 @@ fn same_numbers(pair: &Pair, client: &ClientId) -> bool {
 }
 
 /// Whether both know the same clients.
-fn same_clients(alloc: Global, pair: &Pair) -> Result<bool, Stop> {
-    let plain = clients(alloc, &pair.plain)?;
-    let folded = clients(alloc, &pair.folded)?;
-    Ok(plain.as_slice() == folded.as_slice())
+fn same_clients(words: &mut Words<'_>, pair: &Pair) -> bool {
+    let plain = clients(words, &pair.plain);
+    let folded = clients(words, &pair.folded);
+    plain.as_slice() == folded.as_slice()
 }
 
 /// The clients that a replica knows.
-fn clients<R: Replica>(alloc: Global, replica: &R) -> Result<Vec<ClientId>, Stop> {
-    match replica.clients(alloc) {
-        Ok(clients) => Ok(clients),
-        Err(_) => Err(Stop::Memory),
+fn clients<R: Replica>(words: &mut Words<'_>, replica: &R) -> Vec<ClientId> {
+    match replica.clients(words.alloc) {
+        Ok(clients) => clients,
+        Err(_) => {
+            words.fail(Stop::Memory);
+            Vec::new(words.alloc)
+        }
     }
 }
 
 /// Whether both hold the same.
-fn same_held(alloc: Global, pair: &Pair) -> Result<bool, Stop> {
-    let plain = held(alloc, &pair.plain)?;
-    let folded = held(alloc, &pair.folded)?;
-    Ok(plain.as_slice() == folded.as_slice())
+fn same_held(words: &mut Words<'_>, pair: &Pair) -> bool {
+    let plain = held(words, &pair.plain);
+    let folded = held(words, &pair.folded);
+    plain.as_slice() == folded.as_slice()
 }
 
 /// The octets of what a replica holds.
-fn held<R: Replica>(alloc: Global, replica: &R) -> Result<Vec<u8>, Stop> {
-    let mut octets = Vec::new(alloc);
-    let Ok(deltas) = replica.held(alloc) else {
-        return Err(Stop::Memory);
-    };
-    add_deltas(alloc, &mut octets, deltas.as_slice())?;
-    Ok(octets)
+fn held<R: Replica>(words: &mut Words<'_>, replica: &R) -> Vec<u8> {
+    let mut octets = Vec::new(words.alloc);
+    match replica.held(words.alloc) {
+        Ok(deltas) => add_deltas(words, &mut octets, &deltas),
+        Err(_) => words.fail(Stop::Memory),
+    }
+    octets
 }
 
 /// Puts the octets of deltas after those that are there.
-fn add_deltas(alloc: Global, octets: &mut Vec<u8>, deltas: &[Delta]) -> Result<(), Stop> {
+fn add_deltas(words: &mut Words<'_>, octets: &mut Vec<u8>, deltas: &[Delta]) {
     for delta in deltas {
-        if calls::write_delta(alloc, delta, octets).is_err() {
-            return Err(Stop::Memory);
+        if calls::write_delta(words.alloc, delta, octets).is_err() {
+            words.fail(Stop::Memory);
         }
     }
-    Ok(())
 }

@@ -1,254 +1,292 @@
 //! Operations, sessions and views as lines.
 
-use crate::words::{Word, kind_word, known_word, phase_word, presence_word, retain_word};
+use crate::page::Page;
+use crate::values::{phase_word, presence_word};
 use rep_model::ClientView;
-use rep_ops::{Delta, Op, Put, Retained};
+use rep_ops::{ClientId, Delta, Op, Put, Retained, Stamp};
 use sn_session::{Outbound, Session, SessionOp, Will, WillTopic};
 use sn_tables::{QosLevel, Subscription, TopicEntry};
-use std::alloc::AllocError;
+use sn_topic::TopicName;
 
 /// The operations of a delta, after a line with their number.
-pub(crate) fn print_delta(text: &mut String, delta: &Delta) -> Result<(), AllocError> {
+pub(crate) fn print_delta(page: &mut Page, delta: &Delta) {
     if delta.is_empty() {
-        return text.push_str("empty delta\n");
+        page.line("empty delta");
+    } else {
+        print_ops(page, delta.ops());
     }
-    let count = delta.ops().len();
-    writeln!(text, "delta of {count}")?;
-    for op in delta.ops() {
-        print_op(text, op)?;
+}
+
+/// Operations, after a line with their number.
+fn print_ops(page: &mut Page, ops: &[Op]) {
+    page.counted("delta of", ops.len());
+    for op in ops {
+        print_op(page, op);
     }
-    Ok(())
+}
+
+/// Deltas, after a line with their number.
+pub(crate) fn print_deltas(page: &mut Page, what: &str, deltas: &[Delta]) {
+    page.counted(what, deltas.len());
+    for delta in deltas {
+        print_delta(page, delta);
+    }
 }
 
 /// The lines of an operation.
-fn print_op(text: &mut String, op: &Op) -> Result<(), AllocError> {
-    match op {
-        Op::Session { client, .. } => print_op_of(text, Word(client.bytes()), op),
-        Op::Put { client, .. } => print_op_of(text, Word(client.bytes()), op),
-        Op::Ack { client, .. } => print_op_of(text, Word(client.bytes()), op),
-        Op::Retain { topic, retained } => print_retained(text, Word(topic.bytes()), retained),
-    }
-}
-
-/// The line of what is retained of a topic.
-pub(crate) fn print_retained(
-    text: &mut String,
-    topic: Word<'_>,
-    retained: &Retained,
-) -> Result<(), AllocError> {
-    let (clock, gateway, qos) = (retained.clock, retained.gateway, retained.qos.number());
-    let body = Word(retained.body.as_slice());
-    writeln!(text, "retain {topic} {clock}.{gateway} {qos} {body}")
-}
-
-/// The lines of an operation of a client.
-fn print_op_of(text: &mut String, client: Word<'_>, op: &Op) -> Result<(), AllocError> {
+fn print_op(page: &mut Page, op: &Op) {
     match op {
         Op::Session {
+            client,
             stamp,
             counter,
             change,
-            ..
-        } => {
-            let (epoch, gateway, counter) = (stamp.epoch, stamp.gateway, *counter);
-            write!(text, "op {client} {epoch}.{gateway} {counter} ")?;
-            print_change(text, change)
-        }
-        Op::Put { put, .. } => {
-            write!(text, "put {client} ")?;
-            print_put(text, put)
-        }
+        } => print_session_op(page, client, *stamp, *counter, change),
+        Op::Put { client, put } => print_put_op(page, client, put),
         Op::Ack {
+            client,
             origin,
             first,
             last,
-            ..
-        } => {
-            let (origin, first, last) = (*origin, *first, *last);
-            writeln!(text, "ack {client} {origin} {first} {last}")
-        }
-        Op::Retain { topic, retained } => print_retained(text, Word(topic.bytes()), retained),
+        } => print_ack(page, client, *origin, *first, *last),
+        Op::Retain { topic, retained } => print_retained(page, topic, retained),
     }
+}
+
+/// The lines of a change of a client's session.
+fn print_session_op(
+    page: &mut Page,
+    client: &ClientId,
+    stamp: Stamp,
+    counter: u8,
+    change: &SessionOp,
+) {
+    page.word("op");
+    page.octets(client.bytes());
+    page.dotted(stamp.epoch, u64::from(stamp.gateway));
+    page.word(counter);
+    print_change(page, change);
+}
+
+/// The line of a message for a client.
+fn print_put_op(page: &mut Page, client: &ClientId, put: &Put) {
+    page.word("put");
+    page.octets(client.bytes());
+    print_put(page, put);
 }
 
 /// The rest of a message's line.
-fn print_put(text: &mut String, put: &Put) -> Result<(), AllocError> {
-    let (origin, seq, qos) = (put.origin, put.seq, put.qos.number());
-    let topic = Word(put.topic.bytes());
-    let body = Word(put.body.as_slice());
-    let later = later_words(put.retain);
-    writeln!(text, "{origin}.{seq} {topic} {qos} {body}{later}")
+fn print_put(page: &mut Page, put: &Put) {
+    page.dotted(u64::from(put.origin), put.seq);
+    page.octets(put.topic.bytes());
+    page.word(put.qos.number());
+    page.octets(put.body.as_slice());
+    if put.retain {
+        page.word("retained");
+    }
+    page.end();
 }
 
-/// What stands after the body of a message.
-fn later_words(retain: bool) -> &'static str {
-    if retain { " retained" } else { "" }
+/// The line of messages that a client has.
+fn print_ack(page: &mut Page, client: &ClientId, origin: u8, first: u64, last: u64) {
+    page.word("ack");
+    page.octets(client.bytes());
+    page.word(origin);
+    page.word(first);
+    page.word(last);
+    page.end();
+}
+
+/// The line of what is retained of a topic.
+pub(crate) fn print_retained(page: &mut Page, topic: &TopicName, retained: &Retained) {
+    page.word("retain");
+    page.octets(topic.bytes());
+    page.dotted(retained.clock, u64::from(retained.gateway));
+    page.word(retained.qos.number());
+    page.octets(retained.body.as_slice());
+    page.end();
 }
 
 /// The rest of the line of a change; the lines of a session after `take`.
-fn print_change(text: &mut String, change: &SessionOp) -> Result<(), AllocError> {
+fn print_change(page: &mut Page, change: &SessionOp) {
     match change {
-        SessionOp::Take(session) => {
-            text.push_str("take\n")?;
-            print_session(text, session)
-        }
-        SessionOp::Presence { presence, duration } => {
-            let (place, seconds) = (presence_word(*presence), *duration);
-            writeln!(text, "presence {place} {seconds}")
-        }
+        SessionOp::Take(session) => print_taken(page, session),
         SessionOp::Register { id, name, known } => {
-            print_topic(text, "register", *id, name.bytes(), *known)
+            print_topic(page, "register", *id, name, *known);
         }
         SessionOp::Subscribe { filter, qos } => {
-            print_filter(text, "subscribe", filter.bytes(), *qos)
+            print_filter(page, "subscribe", filter.bytes(), *qos);
         }
-        SessionOp::Unsubscribe { filter } => { print_word(text, "unsubscribe", filter.bytes()) }
-        SessionOp::WillTopic(asked) => print_will_topic(text, asked),
-        SessionOp::WillMsg(message) => print_word(text, "message", message.as_slice()),
-        SessionOp::Received { id } => print_id(text, "received", *id),
-        SessionOp::Released { id } => print_id(text, "released", *id),
-        SessionOp::Outbound { exchange, next_id } => print_exchange(text, exchange, *next_id),
+        SessionOp::Unsubscribe { filter } => page.named("unsubscribe", filter.bytes()),
+        SessionOp::WillMsg(message) => page.named("message", message.as_slice()),
+        _ => print_small_change(page, change),
     }
+}
+
+/// The rest of the line of a change of where a client is, of a will's topic, and of message ids.
+fn print_small_change(page: &mut Page, change: &SessionOp) {
+    match change {
+        SessionOp::Presence { presence, duration } => {
+            print_presence(page, presence_word(*presence), *duration);
+        }
+        SessionOp::WillTopic(asked) => print_will_topic(page, asked),
+        SessionOp::Received { id } => print_id(page, "received", *id),
+        SessionOp::Released { id } => print_id(page, "released", *id),
+        SessionOp::Outbound { exchange, next_id } => print_exchange(page, exchange, *next_id),
+        _ => page.end(),
+    }
+}
+
+/// The lines of a session, after `take`.
+fn print_taken(page: &mut Page, session: &Session) {
+    page.word("take");
+    page.end();
+    print_session(page, session);
+}
+
+/// Where a client is, and for how long.
+fn print_presence(page: &mut Page, place: &str, duration: u16) {
+    page.word("presence");
+    page.word(place);
+    page.word(duration);
+    page.end();
 }
 
 /// A message id after a word.
-fn print_id(text: &mut String, what: &str, id: u16) -> Result<(), AllocError> {
-    writeln!(text, "{what} {id}")
-}
-
-/// Octets as a word after another.
-fn print_word(text: &mut String, what: &str, octets: &[u8]) -> Result<(), AllocError> {
-    let octets = Word(octets);
-    writeln!(text, "{what} {octets}")
+fn print_id(page: &mut Page, what: &str, id: u16) {
+    page.word(what);
+    page.word(id);
+    page.end();
 }
 
 /// A topic id after a word.
-fn print_topic(
-    text: &mut String,
-    what: &str,
-    id: u16,
-    name: &[u8],
-    known: bool,
-) -> Result<(), AllocError> {
-    let name = Word(name);
-    let known = known_word(known);
-    writeln!(text, "{what} {id} {name} {known}")
+fn print_topic(page: &mut Page, what: &str, id: u16, name: &TopicName, known: bool) {
+    page.word(what);
+    page.word(id);
+    page.octets(name.bytes());
+    page.either(known, "known", "new");
+    page.end();
 }
 
 /// A filter after a word.
-fn print_filter(
-    text: &mut String,
-    what: &str,
-    filter: &[u8],
-    qos: QosLevel,
-) -> Result<(), AllocError> {
-    let filter = Word(filter);
-    let qos = qos.number();
-    writeln!(text, "{what} {filter} {qos}")
+fn print_filter(page: &mut Page, what: &str, filter: &[u8], qos: QosLevel) {
+    page.word(what);
+    page.octets(filter);
+    page.word(qos.number());
+    page.end();
 }
 
 /// A will's topic.
-fn print_will_topic(text: &mut String, asked: &Option<WillTopic>) -> Result<(), AllocError> {
+fn print_will_topic(page: &mut Page, asked: &Option<WillTopic>) {
+    page.word("will");
     match asked {
-        None => text.push_str("will none\n"),
-        Some(asked) => {
-            let topic = Word(asked.topic.bytes());
-            let (qos, kept) = (asked.qos.number(), retain_word(asked.retain));
-            writeln!(text, "will {topic} {qos} {kept}")
-        }
+        None => page.word("none"),
+        Some(asked) => print_will_on(page, &asked.topic, asked.qos, asked.retain),
     }
+    page.end();
+}
+
+/// A will's topic and quality of service, and whether it is to be retained.
+fn print_will_on(page: &mut Page, topic: &TopicName, qos: QosLevel, retain: bool) {
+    page.octets(topic.bytes());
+    page.word(qos.number());
+    page.either(retain, "retained", "fleeting");
 }
 
 /// An exchange and the id of the next.
-fn print_exchange(
-    text: &mut String,
-    exchange: &Option<Outbound>,
-    next_id: u16,
-) -> Result<(), AllocError> {
+fn print_exchange(page: &mut Page, exchange: &Option<Outbound>, next_id: u16) {
+    page.word("exchange");
     match exchange {
-        None => writeln!(text, "exchange none {next_id}"),
-        Some(begun) => {
-            let (origin, seq, id) = (begun.origin, begun.seq, begun.msg_id);
-            let far = phase_word(begun.phase);
-            writeln!(text, "exchange {origin}.{seq} {id} {far} {next_id}")
-        }
+        None => page.word("none"),
+        Some(begun) => print_begun(page, begun),
     }
+    page.word(next_id);
+    page.end();
+}
+
+/// An exchange that was begun.
+fn print_begun(page: &mut Page, begun: &Outbound) {
+    page.dotted(u64::from(begun.origin), begun.seq);
+    page.word(begun.msg_id);
+    page.word(phase_word(begun.phase));
 }
 
 /// The lines of a session.
-pub(crate) fn print_session(text: &mut String, session: &Session) -> Result<(), AllocError> {
-    let place = presence_word(session.presence);
-    let kind = kind_word(session.clean);
-    let seconds = session.duration;
-    writeln!(text, "  session {place} {kind} {seconds}")?;
-    print_topics(text, session.topics.as_slice())?;
-    print_filters(text, session.subscriptions.as_slice())?;
-    if let Some(will) = &session.will {
-        print_will(text, will)?;
-    }
-    print_received(text, session.received.as_slice())?;
-    text.push_str("  ")?;
-    print_exchange(text, &session.outbound, session.next_id)
+pub(crate) fn print_session(page: &mut Page, session: &Session) {
+    print_place(page, session);
+    print_topics(page, session.topics.as_slice());
+    print_filters(page, session.subscriptions.as_slice());
+    print_will(page, &session.will);
+    print_received(page, session.received.as_slice());
+    page.text("  ");
+    print_exchange(page, &session.outbound, session.next_id);
+}
+
+/// Where the client of a session is, and how it connected.
+fn print_place(page: &mut Page, session: &Session) {
+    page.word("  session");
+    page.word(presence_word(session.presence));
+    page.either(session.clean, "clean", "kept");
+    page.word(session.duration);
+    page.end();
 }
 
 /// The topic ids of a session.
-fn print_topics(text: &mut String, topics: &[TopicEntry]) -> Result<(), AllocError> {
+fn print_topics(page: &mut Page, topics: &[TopicEntry]) {
     for entry in topics {
-        print_topic(text, "  topic", entry.id, entry.name.bytes(), entry.known)?;
+        print_topic(page, "  topic", entry.id, &entry.name, entry.known);
     }
-    Ok(())
 }
 
 /// The subscriptions of a session.
-fn print_filters(text: &mut String, subscriptions: &[Subscription]) -> Result<(), AllocError> {
+fn print_filters(page: &mut Page, subscriptions: &[Subscription]) {
     for entry in subscriptions {
-        print_filter(text, "  filter", entry.filter.bytes(), entry.qos)?;
+        print_filter(page, "  filter", entry.filter.bytes(), entry.qos);
     }
-    Ok(())
 }
 
-/// The will of a session.
-fn print_will(text: &mut String, will: &Will) -> Result<(), AllocError> {
-    let topic = Word(will.topic.bytes());
-    let message = Word(will.message.as_slice());
-    let (qos, kept) = (will.qos.number(), retain_word(will.retain));
-    writeln!(text, "  will {topic} {qos} {kept} {message}")
+/// The will of a session, if it has one.
+fn print_will(page: &mut Page, will: &Option<Will>) {
+    if let Some(will) = will {
+        page.word("  will");
+        print_will_on(page, &will.topic, will.qos, will.retain);
+        page.octets(will.message.as_slice());
+        page.end();
+    }
 }
 
 /// The message ids that a session has received.
-fn print_received(text: &mut String, ids: &[u16]) -> Result<(), AllocError> {
+fn print_received(page: &mut Page, ids: &[u16]) {
     for id in ids {
-        print_id(text, "  received", *id)?;
+        print_id(page, "  received", *id);
     }
-    Ok(())
 }
 
 /// The lines of a view.
-pub(crate) fn print_view(text: &mut String, view: &ClientView) -> Result<(), AllocError> {
-    print_stamp(text, view)?;
+pub(crate) fn print_view(page: &mut Page, view: &ClientView) {
+    print_stamp(page, view.stamp);
+    page.word("prefix");
+    page.word(view.prefix);
+    page.end();
     if let Some(session) = &view.session {
-        print_session(text, session)?;
+        print_session(page, session);
     }
-    print_waiting(text, view.pending.as_slice())
+    print_waiting(page, view.pending.as_slice());
 }
 
-/// The first line of a view.
-fn print_stamp(text: &mut String, view: &ClientView) -> Result<(), AllocError> {
-    let prefix = view.prefix;
-    match view.stamp {
-        None => writeln!(text, "stamp none prefix {prefix}"),
-        Some(stamp) => {
-            let (epoch, gateway) = (stamp.epoch, stamp.gateway);
-            writeln!(text, "stamp {epoch}.{gateway} prefix {prefix}")
-        }
+/// The stamp of a view.
+fn print_stamp(page: &mut Page, stamp: Option<Stamp>) {
+    page.word("stamp");
+    match stamp {
+        None => page.word("none"),
+        Some(stamp) => page.dotted(stamp.epoch, u64::from(stamp.gateway)),
     }
 }
 
 /// The messages that wait.
-pub(crate) fn print_waiting(text: &mut String, puts: &[Put]) -> Result<(), AllocError> {
+pub(crate) fn print_waiting(page: &mut Page, puts: &[Put]) {
     for put in puts {
-        text.push_str("  put ")?;
-        print_put(text, put)?;
+        page.word("  put");
+        print_put(page, put);
     }
-    Ok(())
 }

@@ -1,254 +1,175 @@
 //! Lines about a replica.
 
-use crate::calls;
 use crate::deltas::made;
-use crate::fields::{client, octet};
-use crate::printing::{print_delta, print_view, print_waiting};
-use crate::stop::Stop;
-use crate::words::NotTaken;
-use rep_model::{ClientView, Puts, Replica, TakeFault};
-use rep_ops::{ClientId, Delta, Op};
-use std::alloc::{AllocError, Global};
+use crate::page::Page;
+use crate::printing::{print_deltas, print_view, print_waiting};
+use crate::row::Row;
+use crate::values::print_take_fault;
+use crate::words::Words;
+use crate::{calls, topics};
+use rep_model::{ClientView, Puts, Replica};
+use rep_ops::{Delta, Op};
 
-/// What is said of a client that the replica does not know.
-const NOT_NAMED: &str = "not named\n";
-
-/// An empty replica.
-pub(crate) fn empty<R: Replica>(alloc: Global) -> Result<R, Stop> {
-    match R::empty(alloc) {
-        Ok(replica) => Ok(replica),
-        Err(_) => Err(Stop::Memory),
+/// Plays a line about a replica; leaves those about what is retained, and all others, to the next.
+pub(crate) fn play<R: Replica>(
+    page: &mut Page,
+    row: &mut Row,
+    replica: &mut R,
+    words: &mut Words<'_>,
+) {
+    match words.first {
+        "join" => join(page, replica, row.used(words.alloc)),
+        "view" | "copied" | "waiting" => ask(page, replica, words),
+        "next" => next(page, replica, words),
+        "clients" => clients(page, replica),
+        "held" | "parts" => held(page, replica, words.first),
+        _ => topics::play(page, row, replica, words),
     }
-}
-
-/// Says why a replica refuses. If memory ran out, the program ends.
-fn refused(text: &mut String, fault: &TakeFault) -> Result<(), Stop> {
-    if matches!(fault, TakeFault::Memory) {
-        return Err(Stop::Memory);
-    }
-    let why = NotTaken(fault);
-    Ok(writeln!(text, "refused {why}")?)
 }
 
 /// `join`: the replica takes the operations in one delta.
-pub(crate) fn join<R: Replica>(
-    alloc: Global,
-    text: &mut String,
-    replica: &mut R,
-    ops: Vec<Op>,
-) -> Result<(), Stop> {
-    match made(alloc, text, ops)? {
-        None => Ok(()),
-        Some(delta) => join_delta(alloc, text, replica, &delta),
+fn join<R: Replica>(page: &mut Page, replica: &mut R, ops: Vec<Op>) {
+    if let Some(delta) = made(page, ops) {
+        join_delta(page, replica, &delta);
     }
 }
 
 /// The replica takes a delta.
-fn join_delta<R: Replica>(
-    alloc: Global,
-    text: &mut String,
-    replica: &mut R,
-    delta: &Delta,
-) -> Result<(), Stop> {
-    match calls::take(alloc, replica, delta) {
-        Ok(()) => Ok(text.push_str("joined\n")?),
-        Err(fault) => refused(text, &fault),
+pub(crate) fn join_delta<R: Replica>(page: &mut Page, replica: &mut R, delta: &Delta) {
+    match calls::take(page.alloc, replica, delta) {
+        Ok(()) => page.line("joined"),
+        Err(fault) => print_take_fault(page, &fault),
     }
 }
 
-/// The client that the only field names.
-fn only_client(alloc: Global, fields: &[&str]) -> Result<ClientId, Stop> {
-    let [name] = fields else {
-        return Err(Stop::Line);
-    };
-    client(alloc, name)
-}
-
-/// `view CLIENT`: what the replica knows of a client.
-pub(crate) fn view<R: Replica>(
-    alloc: Global,
-    text: &mut String,
-    replica: &R,
-    fields: &[&str],
-) -> Result<(), Stop> {
-    let client = only_client(alloc, fields)?;
-    Ok(print_known(text, replica.view_of(&client))?)
+/// Lines that ask what the replica knows of a client.
+fn ask<R: Replica>(page: &mut Page, replica: &R, words: &mut Words<'_>) {
+    if let Some(client) = words.client() {
+        if words.end() {
+            print_known(page, words.first, replica.view_of(&client));
+        }
+    }
 }
 
 /// What is known of a client, if it is named.
-fn print_known(text: &mut String, known: Option<&ClientView>) -> Result<(), AllocError> {
+fn print_known(page: &mut Page, what: &str, known: Option<&ClientView>) {
     match known {
-        None => text.push_str(NOT_NAMED),
-        Some(view) => print_view(text, view),
+        None => page.line("not named"),
+        Some(view) => print_asked(page, what, view),
     }
 }
 
-/// `copied CLIENT`: the same of a copy, and the messages of a copy of its messages.
-pub(crate) fn copied<R: Replica>(
-    alloc: Global,
-    text: &mut String,
-    replica: &R,
-    fields: &[&str],
-) -> Result<(), Stop> {
-    let client = only_client(alloc, fields)?;
-    match replica.view_of(&client) {
-        None => Ok(text.push_str(NOT_NAMED)?),
-        Some(view) => print_copy(alloc, text, view),
+/// `view CLIENT`: what the replica knows of a client. `copied CLIENT`: the same of a copy, and the
+/// messages of a copy of its messages. `waiting CLIENT`: how many messages wait for it.
+fn print_asked(page: &mut Page, what: &str, view: &ClientView) {
+    match what {
+        "view" => print_view(page, view),
+        "copied" => print_copy(page, view),
+        _ => page.counted("waiting", view.pending.len()),
     }
 }
 
 /// A copy of a view, and a copy of the copy's messages.
-fn print_copy(alloc: Global, text: &mut String, view: &ClientView) -> Result<(), Stop> {
-    let Ok(copy) = view.copy(alloc) else {
-        return Err(Stop::Memory);
-    };
-    print_copied(alloc, text, &copy)
+fn print_copy(page: &mut Page, view: &ClientView) {
+    match view.copied(page.alloc) {
+        Ok(copy) => print_copied(page, &copy),
+        Err(_) => page.run_out(),
+    }
 }
 
 /// A view, and a copy of its messages.
-fn print_copied(alloc: Global, text: &mut String, view: &ClientView) -> Result<(), Stop> {
-    let Ok(messages) = view.pending.copied(alloc) else {
-        return Err(Stop::Memory);
-    };
-    print_view(text, view)?;
-    Ok(print_messages(text, &messages)?)
+fn print_copied(page: &mut Page, view: &ClientView) {
+    print_view(page, view);
+    match view.pending.copied(page.alloc) {
+        Ok(messages) => print_messages(page, &messages),
+        Err(_) => page.run_out(),
+    }
 }
 
 /// Messages, after a line with their number.
-fn print_messages(text: &mut String, messages: &Puts) -> Result<(), AllocError> {
-    let (count, is_empty) = (messages.len(), messages.is_empty());
-    writeln!(text, "messages {count}, none: {is_empty}")?;
-    print_waiting(text, messages.as_slice())
-}
-
-/// `waiting CLIENT`: how many messages wait for a client.
-pub(crate) fn waiting<R: Replica>(
-    alloc: Global,
-    text: &mut String,
-    replica: &R,
-    fields: &[&str],
-) -> Result<(), Stop> {
-    let client = only_client(alloc, fields)?;
-    Ok(print_count(text, replica.view_of(&client))?)
-}
-
-/// How many messages wait for a client, if it is named.
-fn print_count(text: &mut String, known: Option<&ClientView>) -> Result<(), AllocError> {
-    match known {
-        None => text.push_str(NOT_NAMED),
-        Some(view) => {
-            let count = view.pending.len();
-            writeln!(text, "waiting {count}")
-        }
-    }
+fn print_messages(page: &mut Page, messages: &Puts) {
+    page.word("messages");
+    page.word(messages.len());
+    page.text(", none: ");
+    page.value(messages.is_empty());
+    page.end();
+    print_waiting(page, messages.as_slice());
 }
 
 /// `next CLIENT GATEWAY`: the epoch of the client's next Take, and the number of the gateway's next
 /// message for it.
-pub(crate) fn next<R: Replica>(
-    alloc: Global,
-    text: &mut String,
-    replica: &R,
-    fields: &[&str],
-) -> Result<(), Stop> {
-    let [name, gateway] = fields else {
-        return Err(Stop::Line);
-    };
-    let gateway = octet(gateway)?;
-    let client = client(alloc, name)?;
-    let (epoch, seq) = (
-        replica.next_epoch(&client),
-        replica.next_seq(&client, gateway),
-    );
-    Ok(print_numbers(text, epoch, seq)?)
-}
-
-/// A next epoch and a next number of a message.
-fn print_numbers(
-    text: &mut String,
-    epoch: Option<u64>,
-    seq: Option<u64>,
-) -> Result<(), AllocError> {
-    print_next(text, "epoch", epoch)?;
-    print_next(text, "message", seq)
-}
-
-/// The next number of something.
-pub(crate) fn print_next(
-    text: &mut String,
-    what: &str,
-    number: Option<u64>,
-) -> Result<(), AllocError> {
-    match number {
-        None => writeln!(text, "no next {what}"),
-        Some(number) => writeln!(text, "next {what} {number}"),
-    }
-}
-
-/// `clients`: how many clients the replica knows.
-pub(crate) fn clients<R: Replica>(
-    alloc: Global,
-    text: &mut String,
-    replica: &R,
-) -> Result<(), Stop> {
-    match replica.clients(alloc) {
-        Err(_) => Err(Stop::Memory),
-        Ok(clients) => {
-            let count = clients.len();
-            Ok(writeln!(text, "clients {count}")?)
+pub(crate) fn next<R: Replica>(page: &mut Page, replica: &R, words: &mut Words<'_>) {
+    let (name, gateway) = (words.octets(), words.octet());
+    if let Some(client) = words.client_of(name) {
+        if words.end() {
+            print_next(page, "epoch", replica.next_epoch(&client));
+            print_next(page, "message", replica.next_seq(&client, gateway));
         }
     }
 }
 
-/// `held`: the deltas of what must be kept.
-pub(crate) fn held<R: Replica>(alloc: Global, text: &mut String, replica: &R) -> Result<(), Stop> {
-    let Ok(deltas) = replica.held(alloc) else {
-        return Err(Stop::Memory);
-    };
-    Ok(print_held(text, &deltas)?)
-}
-
-/// Deltas of what must be kept.
-fn print_held(text: &mut String, deltas: &[Delta]) -> Result<(), AllocError> {
-    let count = deltas.len();
-    writeln!(text, "held in {count}")?;
-    for delta in deltas {
-        print_delta(text, delta)?;
+/// The next number of something.
+pub(crate) fn print_next(page: &mut Page, what: &str, number: Option<u64>) {
+    page.either(number.is_some(), "next", "no next");
+    page.word(what);
+    if let Some(number) = number {
+        page.word(number);
     }
-    Ok(())
+    page.end();
 }
 
-/// `parts`: how many operations and octets each of these deltas has, and its version.
-pub(crate) fn parts<R: Replica>(alloc: Global, text: &mut String, replica: &R) -> Result<(), Stop> {
-    let Ok(deltas) = replica.held(alloc) else {
-        return Err(Stop::Memory);
-    };
-    print_parts(alloc, text, &deltas)
+/// `clients`: how many clients the replica knows.
+fn clients<R: Replica>(page: &mut Page, replica: &R) {
+    match replica.clients(page.alloc) {
+        Ok(clients) => page.counted("clients", clients.len()),
+        Err(_) => page.run_out(),
+    }
+}
+
+/// `held`: the deltas of what must be kept. `parts`: how many operations and octets each of these
+/// has, and its version.
+fn held<R: Replica>(page: &mut Page, replica: &R, what: &str) {
+    match replica.held(page.alloc) {
+        Ok(deltas) => print_held(page, what, &deltas),
+        Err(_) => page.run_out(),
+    }
+}
+
+/// Deltas of what must be kept, or what each of them has.
+fn print_held(page: &mut Page, what: &str, deltas: &[Delta]) {
+    if what == "held" {
+        print_deltas(page, "held in", deltas);
+    } else {
+        print_parts(page, deltas);
+    }
 }
 
 /// How many operations and octets each of these deltas has, and its version.
-fn print_parts(alloc: Global, text: &mut String, deltas: &[Delta]) -> Result<(), Stop> {
+fn print_parts(page: &mut Page, deltas: &[Delta]) {
     for delta in deltas {
-        print_part(alloc, text, delta)?;
+        print_part(page, delta);
     }
-    Ok(())
 }
 
 /// How many operations and octets a delta has, and its version.
-fn print_part(alloc: Global, text: &mut String, delta: &Delta) -> Result<(), Stop> {
-    let count = delta.ops().len();
-    let mut octets = Vec::new(alloc);
-    if calls::write_delta(alloc, delta, &mut octets).is_err() {
-        return Err(Stop::Memory);
+fn print_part(page: &mut Page, delta: &Delta) {
+    let mut octets = Vec::new(page.alloc);
+    if calls::write_delta(page.alloc, delta, &mut octets).is_err() {
+        page.run_out();
     }
-    let (size, version) = (octets.len(), version_of(&octets));
-    Ok(writeln!(text, "part of {count}, octets {size}, version {version}")?)
+    page.word("part of");
+    page.word(delta.ops().len());
+    print_measure(page, &octets);
 }
 
-/// The version of a delta, which its octets begin with.
-fn version_of(octets: &[u8]) -> u8 {
+/// How many octets a delta has, and its version, which they begin with.
+fn print_measure(page: &mut Page, octets: &[u8]) {
+    page.text(", octets ");
+    page.value(octets.len());
+    page.text(", version ");
     match octets {
-        [version, ..] => *version,
-        [] => 0,
+        [version, ..] => page.value(*version),
+        [] => page.value(0u8),
     }
+    page.end();
 }

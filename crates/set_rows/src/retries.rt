@@ -2,202 +2,126 @@
 
 use crate::attempts::{Trial, opening, tried};
 use crate::calls;
-use crate::fields::{count, octet};
-use crate::journals::{Store, base_of, reason};
-use crate::stop::Stop;
+use crate::journals::Store;
+use crate::page::Page;
+use crate::values::print_journal_fault;
+use crate::words::Words;
 use jr_journal::{Journal, JournalFault, MemoryDisk, OnceCall, OnceDisk};
-use rep_ops::{Delta, Op};
-use std::alloc::Global;
+use rep_ops::Delta;
 
 /// The kind of the call that fails.
-fn call(text: &str) -> Result<OnceCall, Stop> {
-    match text {
-        "sync" => Ok(OnceCall::Sync),
-        "cut" => Ok(OnceCall::Cut),
-        "read" => Ok(OnceCall::Read),
-        _ => Err(Stop::Line),
+fn call(words: &mut Words<'_>) -> OnceCall {
+    match words.one_of("sync cut read") {
+        0 => OnceCall::Sync,
+        1 => OnceCall::Cut,
+        _ => OnceCall::Read,
     }
 }
 
 /// `retries GATEWAY CALL COUNT`: the journal is opened, opened once more and compacted to the
 /// operations, where one call fails after each number of calls of its kind up to this one; what is
 /// refused is tried once again.
-pub(crate) fn retries(
-    alloc: Global,
-    text: &mut String,
-    store: &mut Store,
-    ops: Vec<Op>,
-    fields: &[&str],
-) -> Result<(), Stop> {
-    let (gateway, call, most) = gateway_call_and_last(fields)?;
-    match base_of(alloc, text, ops)? {
-        None => Ok(()),
-        Some(base) => tried(
-            alloc,
-            text,
-            store,
-            gateway,
-            most,
-            &Trial::Calls(call, &base),
-        ),
-    }
-}
-
-/// A gateway, the kind of a call, and the last place.
-fn gateway_call_and_last(fields: &[&str]) -> Result<(u8, OnceCall, usize), Stop> {
-    let [gateway, name, most] = fields else {
-        return Err(Stop::Line);
-    };
-    Ok((octet(gateway)?, call(name)?, count(most)?))
+pub(crate) fn retries(page: &mut Page, store: &mut Store, words: &mut Words<'_>, base: &[Delta]) {
+    let (gateway, call) = (words.octet(), call(words));
+    tried(page, store, words, gateway, &Trial::Calls(call, base));
 }
 
 /// What the three calls answer, and what is opened of the disk that they leave.
-pub(crate) fn all_calls(
-    alloc: Global,
-    disk: OnceDisk,
-    gateway: u8,
-    base: &[Delta],
-) -> Result<String, Stop> {
-    let mut said = String::new(alloc);
-    call_all(alloc, &mut said, disk, gateway, base)?;
-    Ok(said)
+pub(crate) fn call_all(said: &mut Page, disk: OnceDisk, gateway: u8, base: &[Delta]) {
+    said.word("open");
+    if let Some(journal) = open(said, disk, gateway) {
+        call_others(said, journal, gateway, base);
+    }
 }
 
-/// Adds what the three calls answer, and what is opened of the disk that they leave.
-fn call_all(
-    alloc: Global,
-    said: &mut String,
-    disk: OnceDisk,
-    gateway: u8,
-    base: &[Delta],
-) -> Result<(), Stop> {
-    let mut journal = open(alloc, said, disk, gateway)?;
-    reopen_and_compact(alloc, said, &mut journal, base)?;
+/// What the two other calls answer, and what is opened of the disk that they leave.
+fn call_others(said: &mut Page, mut journal: Journal<OnceDisk>, gateway: u8, base: &[Delta]) {
+    reopen(said, &mut journal);
+    compact(said, &mut journal, base);
     let disk = journal.into_disk().into_inner();
-    spared(&disk)?;
-    let found = opening(alloc, disk, gateway)?;
-    Ok(write!(said, "; then {found}")?)
+    spare(said, &disk);
+    said.text("; then");
+    opening(said, disk, gateway);
 }
 
-/// Ends the program if memory was refused in a disk, which then did not fail as arranged.
-fn spared(disk: &MemoryDisk) -> Result<(), Stop> {
+/// Remembers if memory was refused in a disk, which then did not fail as arranged.
+fn spare(said: &mut Page, disk: &MemoryDisk) {
     if disk.starved() {
-        return Err(Stop::Memory);
+        said.run_out();
     }
-    Ok(())
 }
 
-/// The journal is opened once more and compacted.
-fn reopen_and_compact(
-    alloc: Global,
-    said: &mut String,
-    journal: &mut Journal<OnceDisk>,
-    base: &[Delta],
-) -> Result<(), Stop> {
-    if !reopens(alloc, said, journal)? {
-        reopens(alloc, said, journal)?;
+/// The journal is opened once more, and again where that is refused.
+fn reopen(said: &mut Page, journal: &mut Journal<OnceDisk>) {
+    if !reopens(said, journal) {
+        reopens(said, journal);
     }
-    if !compacts(alloc, said, journal, base)? {
-        reopens(alloc, said, journal)?;
-        compacts(alloc, said, journal, base)?;
-    }
-    Ok(())
 }
 
-/// How many records were read.
-fn read(said: &mut String, deltas: &[Delta]) -> Result<(), Stop> {
-    let count = deltas.len();
-    Ok(write!(said, " {count}")?)
+/// The journal is compacted; where that is refused, it is opened once more, and compacted again.
+fn compact(said: &mut Page, journal: &mut Journal<OnceDisk>, base: &[Delta]) {
+    if !compacts(said, journal, base) {
+        reopens(said, journal);
+        compacts(said, journal, base);
+    }
 }
 
 /// Why a call was refused. Whether its disk was refused memory is looked at in the end.
-fn refused(said: &mut String, fault: JournalFault) -> Result<(), Stop> {
-    let why = reason(fault, false)?;
-    Ok(write!(said, " {why}")?)
-}
-
-/// The journal of an opening that read these records.
-fn opened(
-    said: &mut String,
-    journal: Journal<OnceDisk>,
-    deltas: Vec<Delta>,
-) -> Result<Journal<OnceDisk>, Stop> {
-    let told = read(said, deltas.as_slice());
-    drop(deltas);
-    match told {
-        Ok(()) => Ok(journal),
-        Err(stop) => {
-            drop(journal);
-            Err(stop)
-        }
-    }
+fn refused(said: &mut Page, fault: JournalFault) {
+    print_journal_fault(said, fault, false);
 }
 
 /// An opening, and another where it is refused.
-fn open(
-    alloc: Global,
-    said: &mut String,
-    disk: OnceDisk,
-    gateway: u8,
-) -> Result<Journal<OnceDisk>, Stop> {
-    said.push_str("open")?;
-    match calls::open(alloc, disk, gateway) {
-        Ok((journal, deltas)) => opened(said, journal, deltas),
+fn open(said: &mut Page, disk: OnceDisk, gateway: u8) -> Option<Journal<OnceDisk>> {
+    match calls::open(said.alloc, disk, gateway) {
+        Ok((journal, deltas)) => {
+            said.word(deltas.len());
+            Some(journal)
+        }
         Err((disk, fault)) => {
-            refused(said, fault)?;
-            open_again(alloc, said, disk, gateway)
+            refused(said, fault);
+            open_again(said, disk, gateway)
         }
     }
 }
 
 /// The opening after one that was refused.
-fn open_again(
-    alloc: Global,
-    said: &mut String,
-    disk: OnceDisk,
-    gateway: u8,
-) -> Result<Journal<OnceDisk>, Stop> {
-    match calls::open(alloc, disk, gateway) {
-        Ok((journal, deltas)) => opened(said, journal, deltas),
+fn open_again(said: &mut Page, disk: OnceDisk, gateway: u8) -> Option<Journal<OnceDisk>> {
+    match calls::open(said.alloc, disk, gateway) {
+        Ok((journal, deltas)) => {
+            said.word(deltas.len());
+            Some(journal)
+        }
         Err((disk, fault)) => {
-            let _why = reason(fault, disk.into_inner().starved())?;
-            Err(Stop::Line)
+            print_journal_fault(said, fault, disk.into_inner().starved());
+            None
         }
     }
 }
 
 /// The journal is opened once more: whether that went well.
-fn reopens(
-    alloc: Global,
-    said: &mut String,
-    journal: &mut Journal<OnceDisk>,
-) -> Result<bool, Stop> {
-    said.push_str("; reopen")?;
-    match calls::reopen(alloc, journal) {
+fn reopens(said: &mut Page, journal: &mut Journal<OnceDisk>) -> bool {
+    said.text("; reopen");
+    match calls::reopen(said.alloc, journal) {
         Ok(deltas) => {
-            read(said, deltas.as_slice())?;
-            Ok(true)
+            said.word(deltas.len());
+            true
         }
         Err(fault) => {
-            refused(said, fault)?;
-            Ok(false)
+            refused(said, fault);
+            false
         }
     }
 }
 
 /// The journal is compacted: whether that went well.
-fn compacts(
-    alloc: Global,
-    said: &mut String,
-    journal: &mut Journal<OnceDisk>,
-    base: &[Delta],
-) -> Result<bool, Stop> {
-    said.push_str("; compact")?;
-    match calls::compact(alloc, journal, base) {
-        Ok(()) => Ok(true),
+fn compacts(said: &mut Page, journal: &mut Journal<OnceDisk>, base: &[Delta]) -> bool {
+    said.text("; compact");
+    match calls::compact(said.alloc, journal, base) {
+        Ok(()) => true,
         Err(fault) => {
-            refused(said, fault)?;
-            Ok(false)
+            refused(said, fault);
+            false
         }
     }
 }

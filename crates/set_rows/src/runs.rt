@@ -1,56 +1,87 @@
-//! Answers at one place after the other, told together where they are equal.
+//! Answers at one place after the other, of which equal ones are told together.
 
-use std::alloc::AllocError;
+use crate::page::Page;
+use std::alloc::Global;
+use std::mem;
 
-/// Neighbouring places with one answer.
+/// An answer that is being written, and the one before it.
 #[derive(Drop)]
-pub(crate) struct Run {
-    first: usize,
-    last: usize,
-    said: String,
+pub(crate) struct Answers {
+    pub(crate) said: Page,
+    before: Page,
 }
 
-/// Adds the answer at the next place: a run that it ends is printed.
-pub(crate) fn add(
-    text: &mut String,
-    run: &mut Option<Run>,
-    at: usize,
-    said: String,
-) -> Result<(), AllocError> {
-    if let Some(run) = run {
-        if run.said.as_str() == said.as_str() {
-            run.last = at;
-            return Ok(());
+impl Answers {
+    /// No answer yet.
+    pub(crate) fn new(alloc: Global) -> Answers {
+        Answers {
+            said: Page::new(alloc),
+            before: Page::new(alloc),
         }
-        print(text, run)?;
     }
-    *run = Some(begun(at, said));
-    Ok(())
+
+    /// Whether the answer is another than the one before it.
+    pub(crate) fn is_other(&self) -> bool {
+        self.said.as_str() != self.before.as_str()
+    }
+
+    /// The answer is written, and the next begins. If memory ran out, the page remembers that.
+    pub(crate) fn turn(&mut self, page: &mut Page) {
+        page.keep_fault(&self.said);
+        self.before = mem::replace(&mut self.said, Page::new(page.alloc));
+    }
+
+    /// Prints the end of a line: the answer before.
+    pub(crate) fn print(&self, page: &mut Page) {
+        page.text(": ");
+        page.line(self.before.as_str());
+    }
 }
 
-/// A run of one place.
-fn begun(at: usize, said: String) -> Run {
-    Run {
-        first: at,
-        last: at,
-        said,
-    }
+/// Answers, and the run of neighbouring places with one answer that ends before the next place.
+#[derive(Drop)]
+pub(crate) struct Runs {
+    pub(crate) answers: Answers,
+    first: usize,
+    /// How many places the run has.
+    count: usize,
 }
 
-/// The line of a run.
-fn print(text: &mut String, run: &Run) -> Result<(), AllocError> {
-    let (first, last) = (run.first, run.last);
-    let said = run.said.as_str();
-    if first == last {
-        return writeln!(text, "{first}: {said}");
+impl Runs {
+    /// No run.
+    pub(crate) fn new(alloc: Global) -> Runs {
+        Runs {
+            answers: Answers::new(alloc),
+            first: 0,
+            count: 0,
+        }
     }
-    writeln!(text, "{first} to {last}: {said}")
-}
 
-/// Prints the last run.
-pub(crate) fn finish(text: &mut String, run: Option<Run>) -> Result<(), AllocError> {
-    match run {
-        None => Ok(()),
-        Some(run) => print(text, &run),
+    /// The answer at a place is written: a run that it ends is printed.
+    pub(crate) fn add(&mut self, page: &mut Page, at: usize) {
+        if self.answers.is_other() {
+            self.finish(page);
+            self.first = at;
+        }
+        self.count = self.count.saturating_add(1);
+        self.answers.turn(page);
+    }
+
+    /// Prints the run, if there is one.
+    pub(crate) fn finish(&mut self, page: &mut Page) {
+        if self.count > 0 {
+            page.word(self.first);
+            self.print_last(page);
+            self.answers.print(page);
+        }
+        self.count = 0;
+    }
+
+    /// The last place of the run, if it has more than one.
+    fn print_last(&self, page: &mut Page) {
+        if self.count > 1 {
+            page.word("to");
+            page.word(self.first.saturating_add(self.count).saturating_sub(1));
+        }
     }
 }

@@ -1,239 +1,239 @@
 //! Lines that describe a session, change it and ask it.
 
-use crate::changes::{change, presence};
-use crate::fields::{fields as words_of, filter, is_first, small_number, topic};
+use crate::changes::change;
+use crate::page::Page;
 use crate::printing::print_session;
 use crate::stop::Stop;
-use crate::words::{Word, known_word};
-use sn_session::Session;
+use crate::values::presence;
+use crate::words::{Words, octets_of, words_of};
+use sn_session::{Session, SessionOp};
 use sn_tables::{QosLevel, SessionFault, TopicEntry};
-use std::alloc::{AllocError, Global};
-use std::mem;
 
 /// Where the number of a change stands that is made under each of several.
 const NUMBER: char = '%';
 
+/// How many words stand in front of the change in such a line.
+const CHANGE_AT: usize = 3;
+
+/// Plays a line that describes a session, changes it or tells it; leaves all others to the lines
+/// that ask it.
+pub(crate) fn play(page: &mut Page, session: &mut Session, words: &mut Words<'_>) {
+    match words.first {
+        "session" => describe(session, words),
+        "apply" => apply(page, session, words),
+        "applies" => applies(page, session, words),
+        "tell" => print_session(page, session),
+        "sizes" => sizes(page, session),
+        _ => ask(page, session, words),
+    }
+}
+
+/// Plays a line that asks a session.
+fn ask(page: &mut Page, session: &Session, words: &mut Words<'_>) {
+    match words.first {
+        "id" => id(page, session, words),
+        "topic" => topic_of(page, session, words),
+        "filter" => qos_of(page, session, words),
+        "asked" => asked_qos(page, session, words),
+        _ => heard(page, session, words),
+    }
+}
+
 /// `session WHERE clean SECONDS` or `kept`: the session is one without anything else.
-pub(crate) fn describe(alloc: Global, session: &mut Session, fields: &[&str]) -> Result<(), Stop> {
-    let [place, kind, seconds] = fields else {
-        return Err(Stop::Line);
-    };
-    let presence = presence(place)?;
-    let clean = is_first(kind, "clean", "kept")?;
-    let duration = small_number(seconds)?;
-    drop(mem::replace(session, Session::empty(alloc)));
-    session.presence = presence;
-    session.clean = clean;
-    session.duration = duration;
-    Ok(())
+fn describe(session: &mut Session, words: &mut Words<'_>) {
+    let place = presence(words);
+    let clean = words.one_of("kept clean") == 1;
+    let duration = words.small_number();
+    if words.end() {
+        *session = Session::empty(words.alloc);
+        session.presence = place;
+        session.clean = clean;
+        session.duration = duration;
+    }
 }
 
 /// `apply CHANGE`: the session changes.
-pub(crate) fn apply(
-    alloc: Global,
-    text: &mut String,
-    session: &mut Session,
-    fields: &[&str],
-) -> Result<(), Stop> {
-    let made = change(alloc, session, fields)?;
-    let applied = session.apply(alloc, &made);
-    drop(made);
-    print_applied(text, applied)
+fn apply(page: &mut Page, session: &mut Session, words: &mut Words<'_>) {
+    if let Some(made) = change(words, session) {
+        if words.end() {
+            apply_change(page, session, &made);
+        }
+    }
 }
 
-/// Whether a session changed.
-fn print_applied(text: &mut String, applied: Result<(), SessionFault>) -> Result<(), Stop> {
-    match applied {
-        Ok(()) => Ok(()),
-        Err(SessionFault::Memory) => Err(Stop::Memory),
-        Err(SessionFault::Full) => Ok(text.push_str("refused full\n")?),
+/// The session changes, if no table is full.
+fn apply_change(page: &mut Page, session: &mut Session, change: &SessionOp) {
+    match session.apply(page.alloc, change) {
+        Ok(()) => {}
+        Err(SessionFault::Memory) => page.run_out(),
+        Err(SessionFault::Full) => page.refused("full"),
     }
 }
 
 /// `applies FIRST LAST CHANGE`: it changes so under each number from the first to the last.
-pub(crate) fn applies(
-    alloc: Global,
-    text: &mut String,
-    session: &mut Session,
-    fields: &[&str],
-) -> Result<(), Stop> {
-    let [first, last, rest @ ..] = fields else {
-        return Err(Stop::Line);
-    };
-    let (first, last) = (small_number(first)?, small_number(last)?);
-    for number in first..=last {
-        apply_numbered(alloc, text, session, rest, number)?;
+fn applies(page: &mut Page, session: &mut Session, words: &mut Words<'_>) {
+    let (first, last) = (words.small_number(), words.small_number());
+    if words.are_right() {
+        for number in first..=last {
+            words.return_to(CHANGE_AT);
+            apply_numbered(page, session, words, number);
+        }
     }
-    Ok(())
 }
 
 /// The session changes under a number.
-fn apply_numbered(
-    alloc: Global,
-    text: &mut String,
-    session: &mut Session,
-    fields: &[&str],
-    number: u16,
-) -> Result<(), Stop> {
-    let line = numbered(alloc, fields, number)?;
-    apply_line(alloc, text, session, line.as_str())
-}
-
-/// The session changes as a line says.
-fn apply_line(
-    alloc: Global,
-    text: &mut String,
-    session: &mut Session,
-    line: &str,
-) -> Result<(), Stop> {
-    let words = words_of(alloc, line)?;
-    apply(alloc, text, session, &words)
-}
-
-/// The words of a line, with a number after each word that ends in its sign.
-fn numbered(alloc: Global, fields: &[&str], number: u16) -> Result<String, AllocError> {
-    let mut line = String::new(alloc);
-    for field in fields {
-        add_word(&mut line, field, number)?;
+fn apply_numbered(page: &mut Page, session: &mut Session, words: &mut Words<'_>, number: u16) {
+    let line = numbered(words, number);
+    let mut change = words_of(words.alloc, line.as_str());
+    apply(page, session, &mut change);
+    if let Some(stop) = change.stop {
+        words.fail(stop);
     }
-    Ok(line)
-}
-
-/// Adds a word to a line, with a number after it where it ends in its sign.
-fn add_word(line: &mut String, field: &str, number: u16) -> Result<(), AllocError> {
-    if !line.is_empty() {
-        line.push(' ')?;
-    }
-    match field.strip_suffix(NUMBER) {
-        Some(word) => write!(line, "{word}{number}"),
-        None => line.push_str(field),
+    if line.is_short() {
+        words.fail(Stop::Memory);
     }
 }
 
-/// `tell`: the session and all that it has.
-pub(crate) fn tell(text: &mut String, session: &Session) -> Result<(), Stop> {
-    Ok(print_session(text, session)?)
+/// The line `apply CHANGE`, with a number in the place of its sign where a word ends in that.
+fn numbered(words: &mut Words<'_>, number: u16) -> Page {
+    let mut line = Page::new(words.alloc);
+    line.word("apply");
+    for _ in 0..words.left() {
+        add_word(&mut line, words.word(), number);
+    }
+    line
+}
+
+/// Adds a word to a line, with a number in the place of its sign where the word ends in that.
+fn add_word(line: &mut Page, word: &str, number: u16) {
+    match word.strip_suffix(NUMBER) {
+        Some(word) => {
+            line.word(word);
+            line.value(number);
+        }
+        None => line.word(word),
+    }
 }
 
 /// `sizes`: how many entries its tables have, and the least topic id that is not in use.
-pub(crate) fn sizes(text: &mut String, session: &Session) -> Result<(), Stop> {
-    let (topics, filters) = (session.topics.len(), session.subscriptions.len());
-    let received = session.received.len();
-    write!(
-        text,
-        "topics {topics}, filters {filters}, received {received}, "
-    )?;
+fn sizes(page: &mut Page, session: &Session) {
+    print_size(page, "topics", session.topics.len());
+    print_size(page, "filters", session.subscriptions.len());
+    print_size(page, "received", session.received.len());
     match session.free_id() {
-        Some(id) => Ok(writeln!(text, "free id {id}")?),
-        None => Ok(text.push_str("no free id\n")?),
+        Some(id) => print_number(page, "free id", id),
+        None => page.word("no free id"),
     }
+    page.end();
+}
+
+/// How many entries a table has.
+fn print_size(page: &mut Page, table: &str, size: usize) {
+    page.word(table);
+    page.word(size);
+    page.text(",");
+}
+
+/// A number after some words.
+fn print_number(page: &mut Page, what: &str, number: u16) {
+    page.word(what);
+    page.word(number);
 }
 
 /// `id NAME`: the least topic id of a name, and whether the client knows it.
-pub(crate) fn id(
-    alloc: Global,
-    text: &mut String,
-    session: &Session,
-    fields: &[&str],
-) -> Result<(), Stop> {
-    let [asked] = fields else {
-        return Err(Stop::Line);
-    };
-    let name = topic(alloc, asked)?;
-    let (id, entry) = (session.topic_id(&name), session.topic_named(&name));
-    Ok(print_id(text, asked, id, entry)?)
-}
-
-/// The least topic id of a name.
-fn print_id(
-    text: &mut String,
-    asked: &str,
-    id: Option<u16>,
-    entry: Option<&TopicEntry>,
-) -> Result<(), AllocError> {
-    match (id, entry) {
-        (Some(id), Some(entry)) => {
-            let known = known_word(entry.known);
-            writeln!(text, "{asked} has id {id} {known}")
+fn id(page: &mut Page, session: &Session, words: &mut Words<'_>) {
+    let asked = words.word();
+    if let Some(name) = words.topic_of(octets_of(asked)) {
+        if words.end() {
+            page.word(asked);
+            print_id(page, session.topic_id(&name), session.topic_named(&name));
         }
-        (None, None) => writeln!(text, "{asked} has no id"),
-        _ => writeln!(text, "{asked} has an id and none"),
     }
 }
 
+/// The least topic id of a name.
+fn print_id(page: &mut Page, id: Option<u16>, entry: Option<&TopicEntry>) {
+    match id {
+        Some(id) => print_number(page, "has id", id),
+        None => page.word("has no id"),
+    }
+    if let Some(entry) = entry {
+        page.either(entry.known, "known", "new");
+    }
+    page.end();
+}
+
 /// `topic ID`: the name of a topic id.
-pub(crate) fn topic_of(text: &mut String, session: &Session, fields: &[&str]) -> Result<(), Stop> {
-    let [id] = fields else {
-        return Err(Stop::Line);
-    };
-    let id = small_number(id)?;
-    match session.topic_of(id) {
-        Some(entry) => Ok(print_name(text, id, entry)?),
-        None => Ok(writeln!(text, "{id} has no name")?),
+fn topic_of(page: &mut Page, session: &Session, words: &mut Words<'_>) {
+    let id = words.small_number();
+    if words.end() {
+        page.word(id);
+        print_name(page, session.topic_of(id));
     }
 }
 
 /// The name of a topic id.
-fn print_name(text: &mut String, id: u16, entry: &TopicEntry) -> Result<(), AllocError> {
-    let name = Word(entry.name.bytes());
-    let known = known_word(entry.known);
-    writeln!(text, "{id} is {name} {known}")
+fn print_name(page: &mut Page, entry: Option<&TopicEntry>) {
+    match entry {
+        Some(entry) => {
+            page.word("is");
+            page.octets(entry.name.bytes());
+            page.either(entry.known, "known", "new");
+        }
+        None => page.word("has no name"),
+    }
+    page.end();
 }
 
 /// `filter FILTER`: the quality of service of a filter.
-pub(crate) fn qos_of(
-    alloc: Global,
-    text: &mut String,
-    session: &Session,
-    fields: &[&str],
-) -> Result<(), Stop> {
-    let [asked] = fields else {
-        return Err(Stop::Line);
-    };
-    let filter = filter(alloc, asked)?;
-    let found = session.subscription(&filter);
-    Ok(print_filter(text, asked, found)?)
+fn qos_of(page: &mut Page, session: &Session, words: &mut Words<'_>) {
+    let asked = words.word();
+    if let Some(filter) = words.filter_of(octets_of(asked)) {
+        if words.end() {
+            print_filter(page, asked, session.subscription(&filter));
+        }
+    }
 }
 
 /// The quality of service of a filter.
-fn print_filter(text: &mut String, asked: &str, found: Option<QosLevel>) -> Result<(), AllocError> {
-    match found {
-        Some(qos) => writeln!(text, "filter {asked} at {}", qos.number()),
-        None => writeln!(text, "no filter {asked}"),
+fn print_filter(page: &mut Page, asked: &str, found: Option<QosLevel>) {
+    page.either(found.is_some(), "filter", "no filter");
+    page.word(asked);
+    print_level(page, found);
+}
+
+/// The rest of a line, with a quality of service if there is one.
+fn print_level(page: &mut Page, found: Option<QosLevel>) {
+    if let Some(qos) = found {
+        page.word("at");
+        page.word(qos.number());
     }
+    page.end();
 }
 
 /// `asked NAME`: the greatest quality of service that is asked for a topic.
-pub(crate) fn asked_qos(
-    alloc: Global,
-    text: &mut String,
-    session: &Session,
-    fields: &[&str],
-) -> Result<(), Stop> {
-    let [name] = fields else {
-        return Err(Stop::Line);
-    };
-    let topic = topic(alloc, name)?;
-    let found = session.subscribed_qos(&topic);
-    Ok(print_asked(text, name, found)?)
+fn asked_qos(page: &mut Page, session: &Session, words: &mut Words<'_>) {
+    let asked = words.word();
+    if let Some(name) = words.topic_of(octets_of(asked)) {
+        if words.end() {
+            print_asked(page, asked, session.subscribed_qos(&name));
+        }
+    }
 }
 
 /// The greatest quality of service that is asked for a topic.
-fn print_asked(text: &mut String, name: &str, found: Option<QosLevel>) -> Result<(), AllocError> {
-    match found {
-        Some(qos) => writeln!(text, "{name} is asked for at {}", qos.number()),
-        None => writeln!(text, "{name} is not asked for"),
-    }
+fn print_asked(page: &mut Page, asked: &str, found: Option<QosLevel>) {
+    page.word(asked);
+    page.either(found.is_some(), "is asked for", "is not asked for");
+    print_level(page, found);
 }
 
 /// `heard ID`: whether a message of this id was received.
-pub(crate) fn heard(text: &mut String, session: &Session, fields: &[&str]) -> Result<(), Stop> {
-    let [id] = fields else {
-        return Err(Stop::Line);
-    };
-    let id = small_number(id)?;
-    if session.is_received(id) {
-        return Ok(writeln!(text, "{id} was received")?);
+fn heard(page: &mut Page, session: &Session, words: &mut Words<'_>) {
+    let id = words.small_number();
+    if words.end() {
+        page.word(id);
+        page.either(session.is_received(id), "was received", "was not received");
+        page.end();
     }
-    Ok(writeln!(text, "{id} was not received")?)
 }

@@ -1,9 +1,9 @@
 //! Why a line is not played.
 
 use octets::NoMemory;
+use rep_ops::OpsFault;
 use sn_topic::TopicFault;
-use std::alloc::{AllocError, AllocFailed};
-use std::{fmt, io};
+use std::io;
 
 /// Why a line is not played.
 #[derive(Clone, Copy)]
@@ -18,15 +18,15 @@ pub(crate) enum Stop {
     Stream,
 }
 
-impl fmt::Display for Stop {
-    fn fmt<W: fmt::Write>(&self, f: &mut fmt::Formatter<W>) -> fmt::Result {
-        let words = match self {
+impl Stop {
+    /// The reason in words.
+    pub(crate) fn reason(self) -> &'static str {
+        match self {
             Stop::Line => "no such line",
             Stop::Message => "a message of more than 4096 octets",
             Stop::Memory => "out of memory",
             Stop::Stream => "standard input or output failed",
-        };
-        f.write_str(words)
+        }
     }
 }
 
@@ -39,21 +39,19 @@ impl From<io::Error> for Stop {
     }
 }
 
-impl From<AllocError> for Stop {
-    fn from(_error: AllocError) -> Stop {
-        Stop::Memory
-    }
-}
-
 impl From<NoMemory> for Stop {
     fn from(_error: NoMemory) -> Stop {
         Stop::Memory
     }
 }
 
-impl<T: Drop> From<AllocFailed<T>> for Stop {
-    fn from(_error: AllocFailed<T>) -> Stop {
-        Stop::Memory
+/// A client that a line names and that is none.
+impl From<OpsFault> for Stop {
+    fn from(fault: OpsFault) -> Stop {
+        match fault {
+            OpsFault::Memory => Stop::Memory,
+            _ => Stop::Line,
+        }
     }
 }
 

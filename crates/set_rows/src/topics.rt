@@ -1,107 +1,89 @@
 //! Lines about what a replica retains of topics.
 
 use crate::calls;
-use crate::fields::{filter, topic};
+use crate::page::Page;
 use crate::printing::print_retained;
 use crate::replicas::print_next;
-use crate::stop::Stop;
-use crate::words::Word;
+use crate::row::{self, Row};
+use crate::words::Words;
 use rep_model::{MOST_RETAINED, Replica};
 use rep_ops::Retained;
-use sn_topic::{Filter, TopicName};
-use std::alloc::{AllocError, Global};
+use sn_topic::TopicName;
 
-/// The topic that the only field names.
-fn only_topic(alloc: Global, fields: &[&str]) -> Result<TopicName, Stop> {
-    let [name] = fields else {
-        return Err(Stop::Line);
-    };
-    topic(alloc, name)
-}
-
-/// The filter that the only field is.
-fn only_filter(alloc: Global, fields: &[&str]) -> Result<Filter, Stop> {
-    let [asked] = fields else {
-        return Err(Stop::Line);
-    };
-    filter(alloc, asked)
+/// Plays a line about what is retained; leaves all others to the lines that want no replica.
+pub(crate) fn play<R: Replica>(page: &mut Page, row: &mut Row, replica: &R, words: &mut Words<'_>) {
+    match words.first {
+        "retained" => retained(page, replica, words),
+        "clock" => next_clock(page, replica, words),
+        "matching" => matching(page, replica, words),
+        "topics" => all(page, replica),
+        _ => row::play(page, row, words),
+    }
 }
 
 /// `retained TOPIC`: what is retained of a topic.
-pub(crate) fn retained<R: Replica>(
-    alloc: Global,
-    text: &mut String,
-    replica: &R,
-    fields: &[&str],
-) -> Result<(), Stop> {
-    let topic = only_topic(alloc, fields)?;
-    Ok(print_known(text, &topic, replica.retained(&topic))?)
+fn retained<R: Replica>(page: &mut Page, replica: &R, words: &mut Words<'_>) {
+    if let Some(topic) = words.topic() {
+        if words.end() {
+            print_known(page, &topic, replica.retained(&topic));
+        }
+    }
 }
 
 /// What is retained of a topic, if anything ever was.
-fn print_known(
-    text: &mut String,
-    topic: &TopicName,
-    known: Option<&Retained>,
-) -> Result<(), AllocError> {
+fn print_known(page: &mut Page, topic: &TopicName, known: Option<&Retained>) {
     match known {
-        None => text.push_str("never retained\n"),
-        Some(retained) => print_retained(text, Word(topic.bytes()), retained),
+        None => page.line("never retained"),
+        Some(retained) => print_retained(page, topic, retained),
     }
 }
 
 /// `clock TOPIC`: the clock of what is retained next of a topic.
-pub(crate) fn next_clock<R: Replica>(
-    alloc: Global,
-    text: &mut String,
-    replica: &R,
-    fields: &[&str],
-) -> Result<(), Stop> {
-    let topic = only_topic(alloc, fields)?;
-    Ok(print_next(text, "clock", replica.next_clock(&topic))?)
+fn next_clock<R: Replica>(page: &mut Page, replica: &R, words: &mut Words<'_>) {
+    if let Some(topic) = words.topic() {
+        if words.end() {
+            print_next(page, "clock", replica.next_clock(&topic));
+        }
+    }
 }
 
 /// `matching FILTER`: what is retained of the topics that a filter asks for.
-pub(crate) fn matching<R: Replica>(
-    alloc: Global,
-    text: &mut String,
-    replica: &R,
-    fields: &[&str],
-) -> Result<(), Stop> {
-    let asked = only_filter(alloc, fields)?;
-    match replica.retained_matching(alloc, &asked) {
-        Err(_) => Err(Stop::Memory),
-        Ok(found) => Ok(print_found(text, found.as_slice())?),
+fn matching<R: Replica>(page: &mut Page, replica: &R, words: &mut Words<'_>) {
+    if let Some(asked) = words.filter() {
+        if words.end() {
+            match calls::matching(page.alloc, replica, &asked) {
+                Ok(found) => print_found(page, &found),
+                Err(_) => page.run_out(),
+            }
+        }
     }
 }
 
 /// What is retained of topics, after a line with their number.
-fn print_found(text: &mut String, found: &[(TopicName, Retained)]) -> Result<(), AllocError> {
-    let count = found.len();
-    writeln!(text, "matching {count}")?;
+fn print_found(page: &mut Page, found: &[(TopicName, Retained)]) {
+    page.counted("matching", found.len());
     for (topic, retained) in found {
-        print_retained(text, Word(topic.bytes()), retained)?;
+        print_retained(page, topic, retained);
     }
-    Ok(())
 }
 
 /// `topics`: what is retained of each topic, one place after the other, and how many places there
 /// are.
-pub(crate) fn all<R: Replica>(text: &mut String, replica: &R) -> Result<(), Stop> {
+fn all<R: Replica>(page: &mut Page, replica: &R) {
     let mut place = 0;
     for _ in 0..MOST_RETAINED {
-        place = print_at(text, replica, place)?;
+        place = print_at(page, replica, place);
     }
-    Ok(writeln!(text, "topics {place}")?)
+    page.counted("topics", place);
 }
 
 /// What is retained of the topic at a place, if one is there, and the place after it.
-fn print_at<R: Replica>(text: &mut String, replica: &R, place: usize) -> Result<usize, AllocError> {
+fn print_at<R: Replica>(page: &mut Page, replica: &R, place: usize) -> usize {
     match calls::topic_at(replica, place) {
-        None => Ok(place),
+        None => place,
         Some((after, topic, retained)) => {
-            print_retained(text, Word(topic.bytes()), retained)?;
-            Ok(after)
+            print_retained(page, topic, retained);
+            after
         }
     }
 }

@@ -1,155 +1,365 @@
-//! Values in the words of the language.
+//! The words of a line, read one after the other.
+//!
+//! What reads a word does not fail: a word that is missing or wrong gives a plain value, as 0 or no
+//! octets, and the first fault is kept. A line reads all its words, asks `end` once whether they
+//! were right, and only then does what it says. What owns memory has no plain value: there is none
+//! of it, and the fault is kept too.
 
-use jr_journal::{JournalFault, Slot};
-use rep_model::{Limit, TakeFault};
-use rep_ops::{OpsFault, Subject};
-use sn_session::{Phase, Presence};
-use std::{fmt, str};
+use crate::stop::Stop;
+use octets::Octets;
+use rep_ops::{ClientId, Stamp};
+use sn_session::Message;
+use sn_tables::QosLevel;
+use sn_topic::{Filter, TopicName};
+use std::alloc::Global;
 
-/// Octets as a word: `-` for none, hexadecimal digits after `0x` where they are no text.
+/// A line, of which so many words are read.
 #[derive(Clone, Copy)]
-pub(crate) struct Word<'a>(pub &'a [u8]);
+pub(crate) struct Words<'a> {
+    pub(crate) alloc: Global,
+    line: &'a str,
+    /// The line's first word, which says what kind of line it is.
+    pub(crate) first: &'a str,
+    /// How many words are read.
+    read: usize,
+    /// Why the line is not played, if it is not.
+    pub(crate) stop: Option<Stop>,
+}
 
-/// Octets in hexadecimal digits, `-` for none.
-#[derive(Clone, Copy)]
-pub(crate) struct Digits<'a>(pub &'a [u8]);
+/// The words of a line, of which the first is read.
+pub(crate) fn words_of<'a>(alloc: Global, line: &'a str) -> Words<'a> {
+    let first = match line.split_once(' ') {
+        Some((first, _)) => first,
+        None => line,
+    };
+    Words {
+        alloc,
+        line,
+        first,
+        read: 1,
+        stop: None,
+    }
+}
 
-/// Why a replica refuses.
-#[derive(Clone, Copy)]
-pub(crate) struct NotTaken<'a>(pub &'a TakeFault);
+impl<'a> Words<'a> {
+    /// Keeps a fault, if it is the first.
+    pub(crate) fn fail(&mut self, stop: Stop) {
+        if self.stop.is_none() {
+            self.stop = Some(stop);
+        }
+    }
 
-/// Why a journal refuses.
-#[derive(Clone, Copy)]
-pub(crate) struct NotWritten(pub JournalFault);
+    /// How many words are left.
+    pub(crate) fn left(&self) -> usize {
+        self.line.split(' ').count().saturating_sub(self.read)
+    }
 
-impl fmt::Display for Word<'_> {
-    fn fmt<W: fmt::Write>(&self, f: &mut fmt::Formatter<W>) -> fmt::Result {
-        match str::from_utf8(self.0) {
-            Ok("") => f.write_str("-"),
-            Ok(text) => f.write_str(text),
+    /// Whether the words that were read are right.
+    pub(crate) fn are_right(&self) -> bool {
+        self.stop.is_none()
+    }
+
+    /// Whether all words were right, and none is left.
+    pub(crate) fn end(&mut self) -> bool {
+        if self.left() > 0 {
+            self.fail(Stop::Line);
+        }
+        self.are_right()
+    }
+
+    /// The next word.
+    pub(crate) fn word(&mut self) -> &'a str {
+        let place = self.read;
+        self.read = place.saturating_add(1);
+        match self.line.split(' ').nth(place) {
+            Some(word) => word,
+            None => {
+                self.fail(Stop::Line);
+                ""
+            }
+        }
+    }
+
+    /// Reads once more from a word on that was read: after so many others.
+    pub(crate) fn return_to(&mut self, read: usize) {
+        self.read = read;
+    }
+
+    /// Whether the line's first word is one of these, which spaces part.
+    pub(crate) fn begin_with(&self, choices: &str) -> bool {
+        place_of(self.first, choices).is_some()
+    }
+
+    /// The place of the next word among these, which spaces part.
+    pub(crate) fn one_of(&mut self, choices: &str) -> usize {
+        match place_of(self.word(), choices) {
+            Some(place) => place,
+            None => {
+                self.fail(Stop::Line);
+                0
+            }
+        }
+    }
+
+    /// Whether this word is the next, which is the last; none may be left instead.
+    pub(crate) fn may_end_with(&mut self, word: &str) -> bool {
+        if self.left() == 0 {
+            return false;
+        }
+        if self.word() != word {
+            self.fail(Stop::Line);
+        }
+        true
+    }
+
+    /// A number.
+    pub(crate) fn number(&mut self) -> u64 {
+        let word = self.word();
+        self.number_of(word)
+    }
+
+    /// The number that a text writes.
+    pub(crate) fn number_of(&mut self, text: &str) -> u64 {
+        match text.parse::<u64>() {
+            Ok(number) => number,
             Err(_) => {
-                let digits = Digits(self.0);
-                write!(f, "0x{digits}")
+                self.fail(Stop::Line);
+                0
             }
         }
     }
-}
 
-impl fmt::Display for Digits<'_> {
-    fn fmt<W: fmt::Write>(&self, f: &mut fmt::Formatter<W>) -> fmt::Result {
-        if self.0.is_empty() {
-            return f.write_str("-");
-        }
-        for octet in self.0 {
-            write!(f, "{octet:02x}")?;
-        }
-        Ok(())
+    /// How many, or a place.
+    pub(crate) fn count(&mut self) -> usize {
+        self.number() as usize
     }
-}
 
-impl fmt::Display for NotTaken<'_> {
-    fn fmt<W: fmt::Write>(&self, f: &mut fmt::Formatter<W>) -> fmt::Result {
-        match self.0 {
-            TakeFault::Conflict {
-                of: Subject::Client(client),
-            } => {
-                let name = Word(client.bytes());
-                write!(f, "conflict {name}")
-            }
-            TakeFault::Conflict {
-                of: Subject::Topic(topic),
-            } => {
-                let name = Word(topic.bytes());
-                write!(f, "conflict topic {name}")
-            }
-            TakeFault::Full { limit } => {
-                let what = limit_word(*limit);
-                write!(f, "full {what}")
-            }
-            TakeFault::Memory => f.write_str("memory"),
+    /// How many, or a word in place of that, which stands for so many; whether it is the word.
+    pub(crate) fn count_or(&mut self, other: &str, stands_for: usize) -> (usize, bool) {
+        let word = self.word();
+        if word == other {
+            return (stands_for, true);
         }
+        (self.number_of(word) as usize, false)
     }
-}
 
-impl fmt::Display for NotWritten {
-    fn fmt<W: fmt::Write>(&self, f: &mut fmt::Formatter<W>) -> fmt::Result {
-        match self.0 {
-            JournalFault::Disk => f.write_str("disk"),
-            JournalFault::Foreign => f.write_str("foreign"),
-            JournalFault::BadRecord { slot, at } => {
-                let slot = slot_word(slot);
-                write!(f, "bad record {slot} {at}")
-            }
-            JournalFault::Memory => f.write_str("memory"),
-            JournalFault::Halted => f.write_str("halted"),
+    /// A number below 65,536.
+    pub(crate) fn small_number(&mut self) -> u16 {
+        let number = self.number();
+        self.limit(number, 65_536);
+        (number % 65_536) as u16
+    }
+
+    /// A number below 256.
+    pub(crate) fn octet(&mut self) -> u8 {
+        let number = self.number();
+        self.octet_of(number)
+    }
+
+    /// A number as an octet.
+    fn octet_of(&mut self, number: u64) -> u8 {
+        self.limit(number, 256);
+        (number % 256) as u8
+    }
+
+    /// Keeps the fault of a number that is no less than a limit.
+    fn limit(&mut self, number: u64, limit: u64) {
+        if number >= limit {
+            self.fail(Stop::Line);
         }
     }
-}
 
-/// Where a client is.
-pub(crate) fn presence_word(presence: Presence) -> &'static str {
-    match presence {
-        Presence::Active => "active",
-        Presence::Asleep => "asleep",
-        Presence::Awake => "awake",
-        Presence::Disconnected => "disconnected",
-        Presence::Lost => "lost",
+    /// A quality of service: 0, 1 or 2.
+    pub(crate) fn level(&mut self) -> QosLevel {
+        match QosLevel::new(self.octet()) {
+            Some(level) => level,
+            None => {
+                self.fail(Stop::Line);
+                QosLevel::zero()
+            }
+        }
+    }
+
+    /// Two numbers with a dot between them.
+    fn dotted(&mut self) -> (u64, u64) {
+        let word = self.word();
+        self.dotted_of(word)
+    }
+
+    /// Two numbers with a dot between them.
+    fn dotted_of(&mut self, text: &str) -> (u64, u64) {
+        match text.split_once('.') {
+            Some((first, second)) => (self.number_of(first), self.number_of(second)),
+            None => {
+                self.fail(Stop::Line);
+                (0, 0)
+            }
+        }
+    }
+
+    /// A clock and a gateway with a dot between them.
+    pub(crate) fn clock(&mut self) -> (u64, u8) {
+        let (clock, gateway) = self.dotted();
+        (clock, self.octet_of(gateway))
+    }
+
+    /// An epoch and a gateway with a dot between them.
+    pub(crate) fn stamp(&mut self) -> Stamp {
+        let (epoch, gateway) = self.clock();
+        Stamp { epoch, gateway }
+    }
+
+    /// The number of a message: its gateway and its number there, with a dot between them.
+    pub(crate) fn message_number(&mut self) -> (u8, u64) {
+        let word = self.word();
+        self.message_number_of(word)
+    }
+
+    /// The number of a message that a text writes.
+    pub(crate) fn message_number_of(&mut self, text: &str) -> (u8, u64) {
+        let (origin, seq) = self.dotted_of(text);
+        (self.octet_of(origin), seq)
+    }
+
+    /// The octets that a word is, none for `-`.
+    pub(crate) fn octets(&mut self) -> &'a [u8] {
+        octets_of(self.word())
+    }
+
+    /// So many octets, each the letter `a`.
+    pub(crate) fn letters(&mut self) -> Vec<u8> {
+        let size = self.count();
+        match vec![in self.alloc; b'a'; size] {
+            Ok(letters) => letters,
+            Err(_) => self.no_octets(),
+        }
+    }
+
+    /// No octets, as memory ran out.
+    fn no_octets(&mut self) -> Vec<u8> {
+        self.fail(Stop::Memory);
+        Vec::new(self.alloc)
+    }
+
+    /// The octets that a word of hexadecimal digits writes.
+    pub(crate) fn digits(&mut self) -> Vec<u8> {
+        let word = self.word();
+        self.digits_of(word)
+    }
+
+    /// The octets that hexadecimal digits write, two for each.
+    pub(crate) fn digits_of(&mut self, text: &str) -> Vec<u8> {
+        match hex::decode(self.alloc, text.as_bytes()) {
+            Ok(octets) => octets,
+            Err(hex::FromHexError::OutOfMemory) => self.no_octets(),
+            Err(_) => {
+                self.fail(Stop::Line);
+                Vec::new(self.alloc)
+            }
+        }
+    }
+
+    /// Puts octets after others.
+    pub(crate) fn extend(&mut self, octets: &mut Vec<u8>, more: &[u8]) {
+        if octets.extend_from_slice(more).is_err() {
+            self.fail(Stop::Memory);
+        }
+    }
+
+    /// A client.
+    pub(crate) fn client(&mut self) -> Option<ClientId> {
+        let name = self.octets();
+        self.client_of(name)
+    }
+
+    /// The client of this name.
+    pub(crate) fn client_of(&mut self, name: &[u8]) -> Option<ClientId> {
+        match ClientId::new(self.alloc, name) {
+            Ok(client) => Some(client),
+            Err(fault) => {
+                self.fail(Stop::from(fault));
+                None
+            }
+        }
+    }
+
+    /// The name of a topic.
+    pub(crate) fn topic(&mut self) -> Option<TopicName> {
+        let name = self.octets();
+        self.topic_of(name)
+    }
+
+    /// The topic of this name.
+    pub(crate) fn topic_of(&mut self, name: &[u8]) -> Option<TopicName> {
+        match TopicName::new(self.alloc, name) {
+            Ok(topic) => Some(topic),
+            Err(fault) => {
+                self.fail(Stop::from(fault));
+                None
+            }
+        }
+    }
+
+    /// A filter.
+    pub(crate) fn filter(&mut self) -> Option<Filter> {
+        let filter = self.octets();
+        self.filter_of(filter)
+    }
+
+    /// The filter of these octets.
+    pub(crate) fn filter_of(&mut self, octets: &[u8]) -> Option<Filter> {
+        match Filter::new(self.alloc, octets) {
+            Ok(filter) => Some(filter),
+            Err(fault) => {
+                self.fail(Stop::from(fault));
+                None
+            }
+        }
+    }
+
+    /// What a message says.
+    pub(crate) fn message(&mut self) -> Option<Message> {
+        let body = self.octets();
+        self.message_of(body)
+    }
+
+    /// The message of these octets.
+    pub(crate) fn message_of(&mut self, body: &[u8]) -> Option<Message> {
+        match Octets::from_slice(self.alloc, body) {
+            Ok(octets) => self.message_in(octets),
+            Err(_) => {
+                self.fail(Stop::Memory);
+                None
+            }
+        }
+    }
+
+    /// The message of these octets.
+    fn message_in(&mut self, octets: Octets) -> Option<Message> {
+        let message = Message::new(octets);
+        if message.is_none() {
+            self.fail(Stop::Message);
+        }
+        message
     }
 }
 
-/// How far an exchange is.
-pub(crate) fn phase_word(phase: Phase) -> &'static str {
-    match phase {
-        Phase::Registering => "registering",
-        Phase::Published => "published",
-        Phase::Released => "released",
+/// The octets that a word is, none for `-`.
+pub(crate) fn octets_of(word: &str) -> &[u8] {
+    match word {
+        "-" => &[],
+        _ => word.as_bytes(),
     }
 }
 
-/// Whether a client knows an id.
-pub(crate) fn known_word(known: bool) -> &'static str {
-    if known { "known" } else { "new" }
-}
-
-/// Whether a session began clean.
-pub(crate) fn kind_word(clean: bool) -> &'static str {
-    if clean { "clean" } else { "kept" }
-}
-
-/// Whether a will is to be retained.
-pub(crate) fn retain_word(retain: bool) -> &'static str {
-    if retain { "retained" } else { "fleeting" }
-}
-
-/// Why operations or octets are refused.
-pub(crate) fn ops_fault(fault: OpsFault) -> &'static str {
-    match fault {
-        OpsFault::Twice => "twice",
-        OpsFault::Limit => "limit",
-        OpsFault::Memory => "memory",
-        OpsFault::Truncated => "truncated",
-        OpsFault::Version => "version",
-        OpsFault::Kind => "kind",
-        OpsFault::Order => "order",
-        OpsFault::Trailing => "trailing",
+/// The place of a word among some, which spaces part.
+fn place_of(word: &str, choices: &str) -> Option<usize> {
+    let mut place = 0usize;
+    for choice in choices.split(' ') {
+        if choice == word {
+            return Some(place);
+        }
+        place = place.saturating_add(1);
     }
-}
-
-/// What there would be too much of.
-fn limit_word(limit: Limit) -> &'static str {
-    match limit {
-        Limit::Clients => "clients",
-        Limit::Pending => "pending",
-        Limit::Parked => "parked",
-        Limit::Exceptions => "exceptions",
-        Limit::Retained => "retained",
-    }
-}
-
-/// A slot.
-pub(crate) fn slot_word(slot: Slot) -> &'static str {
-    match slot {
-        Slot::First => "first",
-        Slot::Second => "second",
-    }
+    None
 }

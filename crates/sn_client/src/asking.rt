@@ -7,7 +7,7 @@ ghost use Rattle.sn_client.specs.inner.Asking as spec;
 ghost use Rattle.sn_client.specs.inner.Exchanges.{IsAsked};
 
 use crate::talk::{Awaited, Publication, Talk};
-use crate::words::{Command, Topic};
+use crate::words::{Command, Topic, WillWords};
 use octets::{NoMemory, Octets, append_u16};
 use sn_frame::{Flags, Frame, Qos, TopicIdType, Will};
 use std::alloc::Global;
@@ -100,35 +100,50 @@ pub(crate) fn begin(
 ) -> Result<Talk, NoMemory>
     ensures { IfOk result (λ talk. IsAsked talk) }
 {
-    let (frame, awaited) = match command {
+    match command {
         Command::Publish {
             topic,
             text,
             qos,
             retain,
-        } => return publish(alloc, *topic, text, *qos, *retain, msg_id),
-        Command::Subscribe { topic, qos } => return subscribe(alloc, *topic, *qos, msg_id),
-        Command::Unsubscribe { topic } => return unsubscribe(alloc, *topic, msg_id),
+        } => publish(alloc, *topic, text, *qos, *retain, msg_id),
+        Command::Subscribe { topic, qos } => subscribe(alloc, *topic, *qos, msg_id),
+        Command::Unsubscribe { topic } => unsubscribe(alloc, *topic, msg_id),
         Command::Connect {
             clean,
             keep_alive,
             will,
-        } => return connect(alloc, client, *clean, *keep_alive, will.is_some()),
-        Command::Search => (Frame::SearchGw { radius: 0 }, Awaited::Gateway),
-        Command::Sleep { seconds } => (
-            Frame::Disconnect {
-                duration: Some(*seconds),
-            },
-            Awaited::Farewell,
-        ),
-        Command::Wake => {
-            let client = Octets::from_slice(alloc, client.as_bytes())?;
-            (Frame::PingReq { client }, Awaited::Waking)
-        }
-        Command::Disconnect => (Frame::Disconnect { duration: None }, Awaited::Farewell),
-        Command::Listen => return Ok(Talk::of(None, Awaited::Anything)),
-    };
-    Ok(Talk::of(Some(frame), awaited))
+        } => connect(alloc, client, *clean, *keep_alive, will.is_some()),
+        Command::Wake => wake(alloc, client),
+        _ => Ok(begin_plain(command)),
+    }
+}
+
+/// The exchange of a command whose frame says nothing of the client or of a topic.
+fn begin_plain(command: &Command<'_>) -> Talk
+    ensures { IsAsked result }
+{
+    match command {
+        Command::Search => Talk::of(Some(Frame::SearchGw { radius: 0 }), Awaited::Gateway),
+        Command::Sleep { seconds } => goodbye(Some(*seconds)),
+        Command::Listen => Talk::of(None, Awaited::Anything),
+        _ => goodbye(None),
+    }
+}
+
+/// The end of a connection, or a sleep of so many seconds (sections 6.12 and 6.14).
+fn goodbye(duration: Option<u16>) -> Talk
+    ensures { IsAsked result }
+{
+    Talk::of(Some(Frame::Disconnect { duration }), Awaited::Farewell)
+}
+
+/// The end of a client's sleep (section 6.14).
+fn wake(alloc: Global, client: &str) -> Result<Talk, NoMemory>
+    ensures { IfOk result (λ talk. IsAsked talk) }
+{
+    let client = Octets::from_slice(alloc, client.as_bytes())?;
+    Ok(Talk::of(Some(Frame::PingReq { client }), Awaited::Waking))
 }
 
 /// A connection (section 6.2).
@@ -194,14 +209,24 @@ fn publish(
         body: Octets::from_slice(alloc, text.as_bytes())?,
     };
     match topic {
-        Topic::Full(name) => {
-            let name = Octets::from_slice(alloc, name.as_bytes())?;
-            Ok(Talk::registering(publication, name, msg_id))
-        }
+        Topic::Full(name) => register(alloc, publication, name, msg_id),
         Topic::Short(number) | Topic::Predefined(number) => {
             Ok(Talk::publishing(publication, number))
         }
     }
+}
+
+/// A registration, and the publication after it.
+fn register(
+    alloc: Global,
+    publication: Publication,
+    name: &str,
+    msg_id: u16,
+) -> Result<Talk, NoMemory>
+    ensures { IfOk result (λ talk. IsAsked talk) }
+{
+    let name = Octets::from_slice(alloc, name.as_bytes())?;
+    Ok(Talk::registering(publication, name, msg_id))
 }
 
 /// The topic field of a SUBSCRIBE.
@@ -231,23 +256,36 @@ pub(crate) fn told_will(
     command: &Command<'_>,
     frame: &Frame,
 ) -> Result<Option<Frame>, NoMemory> {
-    let Command::Connect {
-        will: Some(will),
-        ..
-    } = command
-    else {
-        return Ok(None);
-    };
+    match command {
+        Command::Connect {
+            will: Some(will),
+            ..
+        } => part_of_will(alloc, *will, frame),
+        _ => Ok(None),
+    }
+}
+
+/// What of a will a frame asks for.
+fn part_of_will(
+    alloc: Global,
+    will: WillWords<'_>,
+    frame: &Frame,
+) -> Result<Option<Frame>, NoMemory> {
     match frame {
         Frame::WillTopicReq => Ok(Some(Frame::WillTopic {
-            will: Some(Will {
-                flags: flags_of(will.qos, will.retain, TopicIdType::Normal),
-                topic: Octets::from_slice(alloc, will.topic.as_bytes())?,
-            }),
+            will: Some(topic_of_will(alloc, will)?),
         })),
         Frame::WillMsgReq => Ok(Some(Frame::WillMsg {
             message: Octets::from_slice(alloc, will.message.as_bytes())?,
         })),
         _ => Ok(None),
     }
+}
+
+/// The topic of a will, and its flags.
+fn topic_of_will(alloc: Global, will: WillWords<'_>) -> Result<Will, NoMemory> {
+    Ok(Will {
+        flags: flags_of(will.qos, will.retain, TopicIdType::Normal),
+        topic: Octets::from_slice(alloc, will.topic.as_bytes())?,
+    })
 }

@@ -28,14 +28,14 @@ mod telling;
 mod wire;
 mod words;
 
+use clap::Error;
 use clap::error::ErrorKind;
 use run::{Fault, converse};
-use std::io;
 use std::net::Net;
 use std::process::ExitCode;
 use std::rt::Env;
 use std::time::Clock;
-use words::{Unread, read};
+use words::{Settings, Unread, read};
 
 /// The status of a run whose socket, clock, output or memory failed.
 const FAILED: u8 = 3;
@@ -63,32 +63,63 @@ fn status<R: Env + Net + Clock + Print + Eprint + AllocGlobal>(rt: &R) -> u8 {
 
 /// Reads the arguments, and does what they ask for.
 fn carry_out<R: Env + Net + Clock + Print + Eprint + AllocGlobal>(rt: &R) -> Result<u8, Fault> {
-    let alloc = rt.alloc();
-    let words: Vec<String> = std::env::args(rt)?.collect(alloc)?;
-    match read(alloc, words.as_slice()) {
-        Ok(settings) => Ok(converse(rt, &settings)?.status()),
-        Err(unread) => Ok(explain(rt, &unread)?),
+    let words = given(rt)?;
+    let done = obey(rt, words.as_slice());
+    drop(words);
+    done
+}
+
+/// The arguments, the program's name first.
+fn given<R: Env + AllocGlobal>(rt: &R) -> Result<Vec<String>, Fault> {
+    let words = std::env::args(rt)?;
+    Ok(words.collect(rt.alloc())?)
+}
+
+/// Does what these words ask for, or says why they ask for nothing.
+fn obey<R: Net + Clock + Print + Eprint + AllocGlobal>(
+    rt: &R,
+    words: &[String],
+) -> Result<u8, Fault> {
+    match read(rt.alloc(), words) {
+        Ok(settings) => follow(rt, &settings),
+        Err(unread) => {
+            let said = explain(rt, &unread);
+            drop(unread);
+            said
+        }
     }
 }
 
+/// Does what the settings ask for.
+fn follow<R: Net + Clock + Print + AllocGlobal>(
+    rt: &R,
+    settings: &Settings<'_>,
+) -> Result<u8, Fault> {
+    let outcome = converse(rt, settings)?;
+    Ok(outcome.status())
+}
+
 /// Says why the arguments are no command, or gives the help that they ask for.
-fn explain<R: Print + Eprint>(rt: &R, unread: &Unread) -> io::Result<u8> {
+fn explain<R: Print + Eprint>(rt: &R, unread: &Unread) -> Result<u8, Fault> {
     match unread {
-        Unread::Words(error) if matches!(error.kind(), ErrorKind::OutOfMemory) => {
-            error.print(rt)?;
-            Ok(FAILED)
-        }
-        Unread::Words(error) if !error.use_stderr() => {
-            error.print(rt)?;
-            Ok(0)
-        }
         Unread::Words(error) => {
             error.print(rt)?;
-            Ok(NO_COMMAND)
+            Ok(status_of(error))
         }
         Unread::Word(fault) => {
             eprintln!(rt; "sn_client: {fault}; see sn_client --help")?;
             Ok(NO_COMMAND)
         }
+    }
+}
+
+/// The status of a run that ends with this help or error.
+fn status_of(error: &Error) -> u8 {
+    if matches!(error.kind(), ErrorKind::OutOfMemory) {
+        FAILED
+    } else if error.use_stderr() {
+        NO_COMMAND
+    } else {
+        0
     }
 }

@@ -13,7 +13,7 @@ use sn_frame::{EncodeFault, Frame, FrameFault, decode, encode};
 use std::alloc::{AllocError, Global};
 use std::net::Net;
 use std::time::{Clock, Duration, Instant, SystemTime};
-use std::{fmt, io, mem};
+use std::{fmt, io};
 
 /// The most octets of a datagram.
 const DATAGRAM: usize = 65_535;
@@ -79,10 +79,10 @@ impl From<NoMemory> for Fault {
     }
 }
 
-/// What a run has in hand.
+/// An exchange that goes on.
 #[derive(Drop)]
-struct Run {
-    wire: Wire,
+struct Run<'a> {
+    wire: &'a Wire,
     talk: Talk,
     pace: Pace,
     hex: bool,
@@ -106,31 +106,15 @@ fn millis(duration: Duration) -> u64 {
     u64::try_from(duration.as_millis()).unwrap_or(u64::MAX)
 }
 
-/// What the settings ask for, after a connection where they ask for one.
+/// What the settings ask for, by a socket of its own.
 pub(crate) fn converse<R: Net + Clock + Print + AllocGlobal>(
     rt: &R,
     settings: &Settings<'_>,
 ) -> Result<Outcome, Fault> {
-    let mut run = begun(rt, settings)?;
-    let outcome = run.carry_out(rt, settings);
-    drop(run);
-    outcome
-}
-
-/// A run that has said who speaks.
-fn begun<R: Net + Clock + Print + AllocGlobal>(
-    rt: &R,
-    settings: &Settings<'_>,
-) -> Result<Run, Fault> {
     let wire = opened(rt, settings)?;
-    introduce(rt, settings, &wire)?;
-    Ok(Run {
-        talk: talk_of(rt, settings, &CONNECT)?,
-        wire,
-        pace: Pace::of(settings.wait),
-        hex: settings.hex,
-        is_followed: settings.connect,
-    })
+    let outcome = converse_by(rt, settings, &wire);
+    drop(wire);
+    outcome
 }
 
 /// The socket that the settings ask for.
@@ -144,11 +128,50 @@ fn opened<R: Net>(rt: &R, settings: &Settings<'_>) -> Result<Wire, Fault> {
     }
 }
 
+/// The command that was asked for, after a connection where one is asked for.
+fn converse_by<R: Clock + Print + AllocGlobal>(
+    rt: &R,
+    settings: &Settings<'_>,
+    wire: &Wire,
+) -> Result<Outcome, Fault> {
+    introduce(rt, settings, wire)?;
+    if settings.connect {
+        let outcome = exchange(rt, settings, wire, &CONNECT, true)?;
+        if outcome != Outcome::Accepted {
+            return Ok(outcome);
+        }
+    }
+    exchange(rt, settings, wire, &settings.command, false)
+}
+
 /// Says who speaks, and with whom.
-fn introduce<R: Print>(rt: &R, settings: &Settings<'_>, wire: &Wire) -> Result<(), Fault> {
+fn introduce<R: Print>(rt: &R, settings: &Settings<'_>, wire: &Wire) -> io::Result<()> {
     let (client, gateway, port) = (settings.client, settings.gateway, wire.port()?);
-    println!(rt; "-- client {client:?} at port {port}, gateway {gateway}")?;
-    Ok(())
+    println!(rt; "-- client {client:?} at port {port}, gateway {gateway}")
+}
+
+/// One exchange, which another follows or not.
+fn exchange<R: Clock + Print + AllocGlobal>(
+    rt: &R,
+    settings: &Settings<'_>,
+    wire: &Wire,
+    command: &Command<'_>,
+    is_followed: bool,
+) -> Result<Outcome, Fault> {
+    let mut run = Run {
+        wire,
+        talk: talk_of(rt, settings, command)?,
+        pace: Pace::of(if is_followed {
+            settings.wait
+        } else {
+            settings.seconds
+        }),
+        hex: settings.hex,
+        is_followed,
+    };
+    let outcome = run.exchange(rt, command);
+    drop(run);
+    outcome
 }
 
 /// The beginning of an exchange for a command.
@@ -161,34 +184,31 @@ fn talk_of<R: Clock + AllocGlobal>(
     Ok(begin(rt.alloc(), settings.client, command, id)?)
 }
 
-impl Run {
-    /// The command that was asked for, after a connection where one is asked for.
-    fn carry_out<R: Clock + Print + AllocGlobal>(
-        &mut self,
-        rt: &R,
-        settings: &Settings<'_>,
-    ) -> Result<Outcome, Fault> {
-        if settings.connect {
-            let outcome = self.exchange(rt, &CONNECT)?;
-            if outcome != Outcome::Accepted {
-                return Ok(outcome);
-            }
-            self.is_followed = false;
-        }
-        let talk = talk_of(rt, settings, &settings.command)?;
-        drop(mem::replace(&mut self.talk, talk));
-        self.pace = Pace::of(settings.seconds);
-        self.exchange(rt, &settings.command)
-    }
-
-    /// One exchange, to its end.
+impl Run<'_> {
+    /// The exchange, to its end.
     fn exchange<R: Clock + Print + AllocGlobal>(
         &mut self,
         rt: &R,
         command: &Command<'_>,
     ) -> Result<Outcome, Fault> {
+        self.carry_on(rt, command)?;
+        Ok(self.conclude(rt)?)
+    }
+
+    /// Speaks and hears, with room for a datagram.
+    fn carry_on<R: Clock + Print + AllocGlobal>(
+        &mut self,
+        rt: &R,
+        command: &Command<'_>,
+    ) -> Result<(), Fault> {
         let mut buffer = vec![in rt.alloc(); 0_u8; DATAGRAM]?;
-        self.speak_and_hear(rt, command, buffer.as_mut_slice())?;
+        let done = self.speak_and_hear(rt, command, buffer.as_mut_slice());
+        drop(buffer);
+        done
+    }
+
+    /// Says how the exchange has ended where nothing says that it did.
+    fn conclude<R: Print>(&self, rt: &R) -> io::Result<Outcome> {
         let outcome = self.concluded();
         if outcome == Outcome::Unanswered {
             let why = self.silence();
@@ -206,14 +226,39 @@ impl Run {
     ) -> Result<(), Fault> {
         let start = Instant::now(rt)?;
         for _ in 0..u64::MAX {
-            let moment = millis(start.elapsed(rt)?);
-            if self.is_over(moment) {
+            if self.go_on(rt, command, buffer, start)? {
                 break;
             }
-            self.speak(rt, moment)?;
-            self.hear(rt, command, buffer, moment)?;
         }
         Ok(())
+    }
+
+    /// Speaks and hears once more. Whether the exchange is over in place of that.
+    fn go_on<R: Clock + Print + AllocGlobal>(
+        &mut self,
+        rt: &R,
+        command: &Command<'_>,
+        buffer: &mut [u8],
+        start: Instant,
+    ) -> Result<bool, Fault> {
+        let moment = millis(start.elapsed(rt)?);
+        if self.is_over(moment) {
+            return Ok(true);
+        }
+        self.take_turns(rt, command, buffer, moment)?;
+        Ok(false)
+    }
+
+    /// Speaks and hears once.
+    fn take_turns<R: Print + AllocGlobal>(
+        &mut self,
+        rt: &R,
+        command: &Command<'_>,
+        buffer: &mut [u8],
+        moment: u64,
+    ) -> Result<(), Fault> {
+        self.speak(rt, moment)?;
+        self.hear(rt, command, buffer, moment)
     }
 
     /// Whether the exchange is over. One that is followed by another is over with its answer: what
@@ -250,9 +295,14 @@ impl Run {
         if self.pace.sent.is_some() {
             self.talk.repeat();
         }
-        say(rt, &self.wire, &self.talk.pending, self.hex)?;
+        self.send_pending(rt)?;
         self.pace.note_sent(moment);
         Ok(())
+    }
+
+    /// Sends the pending frame.
+    fn send_pending<R: Print + AllocGlobal>(&self, rt: &R) -> Result<(), Fault> {
+        say(rt, self.wire, &self.talk.pending, self.hex)
     }
 
     /// Takes a datagram, if one comes within a while.
@@ -263,37 +313,40 @@ impl Run {
         buffer: &mut [u8],
         moment: u64,
     ) -> Result<(), Fault> {
-        let Some(size) = self.wire.receive(buffer)? else {
-            return Ok(());
-        };
-        let octets = &buffer[..size];
-        let spelled = frame_of(rt.alloc(), octets);
-        let done = self.heed(rt, command, &spelled, octets, moment);
-        drop(spelled);
-        done
+        match self.wire.receive(buffer)? {
+            None => Ok(()),
+            Some(size) => self.heed(rt, command, &buffer[..size], moment),
+        }
     }
 
-    /// What a datagram leads to, which spells this.
+    /// What a datagram leads to.
     fn heed<R: Print + AllocGlobal>(
         &mut self,
         rt: &R,
         command: &Command<'_>,
-        spelled: &Result<Frame, FrameFault>,
         octets: &[u8],
         moment: u64,
     ) -> Result<(), Fault> {
-        match spelled {
-            Ok(frame) => {
-                tell(rt, "<-", frame, octets, self.hex)?;
-                self.answer(rt, command, frame, moment)
-            }
-            Err(FrameFault::Memory) => Err(Fault::Memory),
-            Err(fault) => {
-                let (number, digits) = (fault.number(), Hex(octets));
-                println!(rt; "<- no frame: F{number}: {fault}: {digits}")?;
-                Ok(())
-            }
-        }
+        let spelled = frame_of(rt.alloc(), octets);
+        let done = match &spelled {
+            Ok(frame) => self.heed_frame(rt, command, frame, octets, moment),
+            Err(fault) => tell_fault(rt, fault, octets),
+        };
+        drop(spelled);
+        done
+    }
+
+    /// What the frame of a datagram leads to.
+    fn heed_frame<R: Print + AllocGlobal>(
+        &mut self,
+        rt: &R,
+        command: &Command<'_>,
+        frame: &Frame,
+        octets: &[u8],
+        moment: u64,
+    ) -> Result<(), Fault> {
+        tell(rt, "<-", frame, octets, self.hex)?;
+        self.answer(rt, command, frame, moment)
     }
 
     /// What a frame that came leads to.
@@ -317,7 +370,10 @@ impl Run {
 
     /// Sends what acknowledges a frame, if anything does.
     fn acknowledge<R: Print + AllocGlobal>(&self, rt: &R, frame: &Frame) -> Result<(), Fault> {
-        say(rt, &self.wire, &acknowledgement(frame), self.hex)
+        let reply = reply_to(frame);
+        let said = say(rt, self.wire, &reply, self.hex);
+        drop(reply);
+        said
     }
 
     /// Sends what a frame asks of a will, if it asks.
@@ -328,7 +384,7 @@ impl Run {
         frame: &Frame,
     ) -> Result<(), Fault> {
         let told = told_will(rt.alloc(), command, frame)?;
-        let said = say(rt, &self.wire, &told, self.hex);
+        let said = say(rt, self.wire, &told, self.hex);
         drop(told);
         said
     }
@@ -355,12 +411,40 @@ fn say<R: Print + AllocGlobal>(
     frame: &Option<Frame>,
     hex: bool,
 ) -> Result<(), Fault> {
-    let Some(frame) = frame else {
-        return Ok(());
-    };
+    match frame {
+        None => Ok(()),
+        Some(frame) => send(rt, wire, frame, hex),
+    }
+}
+
+/// Sends a frame, and tells it.
+fn send<R: Print + AllocGlobal>(
+    rt: &R,
+    wire: &Wire,
+    frame: &Frame,
+    hex: bool,
+) -> Result<(), Fault> {
     let octets = written(rt.alloc(), frame)?;
-    tell(rt, "->", frame, octets.as_slice(), hex)?;
-    Ok(wire.send(octets.as_slice())?)
+    let sent = tell_and_send(rt, wire, frame, octets.as_slice(), hex);
+    drop(octets);
+    Ok(sent?)
+}
+
+/// Tells a frame, and sends its octets.
+fn tell_and_send<R: Print>(
+    rt: &R,
+    wire: &Wire,
+    frame: &Frame,
+    octets: &[u8],
+    hex: bool,
+) -> io::Result<()> {
+    tell(rt, "->", frame, octets, hex)?;
+    wire.send(octets)
+}
+
+/// What a frame is acknowledged by. Nothing is said of it, so that who asks carries no clause on.
+fn reply_to(frame: &Frame) -> Option<Frame> {
+    acknowledgement(frame)
 }
 
 /// The frame that a datagram spells. Nothing is said of it, so that who asks carries no clause on.
@@ -379,9 +463,21 @@ fn written(alloc: Global, frame: &Frame) -> Result<Vec<u8>, EncodeFault> {
 fn tell<R: Print>(rt: &R, way: &str, frame: &Frame, octets: &[u8], hex: bool) -> io::Result<()> {
     let told = Told(frame);
     println!(rt; "{way} {told}")?;
-    if hex {
-        let digits = Hex(octets);
-        println!(rt; "   {digits}")?;
+    if hex { tell_octets(rt, octets) } else { Ok(()) }
+}
+
+/// Prints the octets of a frame.
+fn tell_octets<R: Print>(rt: &R, octets: &[u8]) -> io::Result<()> {
+    let digits = Hex(octets);
+    println!(rt; "   {digits}")
+}
+
+/// Prints why a datagram spells no frame.
+fn tell_fault<R: Print>(rt: &R, fault: &FrameFault, octets: &[u8]) -> Result<(), Fault> {
+    if matches!(fault, FrameFault::Memory) {
+        return Err(Fault::Memory);
     }
+    let (number, digits) = (fault.number(), Hex(octets));
+    println!(rt; "<- no frame: F{number}: {fault}: {digits}")?;
     Ok(())
 }

@@ -6,14 +6,18 @@ ghost use Rattle.sn_client.specs.inner.Talking.{status_of, repeated, turn_of};
 ghost use Rattle.sn_client.specs.inner.Talking as spec;
 ghost use Rattle.sn_client.specs.inner.Exchanges.{beginning, frame_by_id, outcome_of, planned_of, publishing_of, turned};
 ghost use Rattle.sn_client.specs.inner.Exchanges as exchanges;
+ghost use Rattle.sn_client.specs.declared.talk.Awaited.TheVariants as waits;
+ghost use Rattle.sn_frame.specs.declared.frame.Frame.TheVariants as frames;
 
 use octets::Octets;
 use sn_frame::{Flags, Frame, Qos};
+use std::mem;
 
 mod replies;
 mod turns;
 
-pub(crate) use replies::{acknowledgement, again};
+pub(crate) use replies::acknowledgement;
+use replies::again_bits;
 pub(crate) use turns::turn_of;
 
 /// What a run waits for, and under which message id.
@@ -207,16 +211,25 @@ impl Talk {
         match turn_of(self.awaited, frame) {
             Turn::Stay => false,
             Turn::Publish { topic_id } => self.publish(topic_id),
-            Turn::Release { msg_id } => {
-                self.pending = Some(Frame::PubRel { msg_id });
-                self.awaited = Awaited::Completion { msg_id };
-                true
-            }
+            Turn::Release { msg_id } => self.release(msg_id),
             Turn::End { outcome } => {
                 self.outcome = Some(ended(self.awaited, self.outcome, outcome));
                 false
             }
         }
+    }
+
+    /// The publication was received: its message id is released.
+    fn release(&mut self, msg_id: u16) -> bool
+        ensures { self.new ≡ record self.old {
+          awaited = waits.Completion msg_id;
+          pending = Some (frames.PubRel msg_id);
+        } }
+    {
+        let release = Some(Frame::PubRel { msg_id });
+        drop(mem::replace(&mut self.pending, release));
+        self.awaited = Awaited::Completion { msg_id };
+        true
     }
 
     /// The topic has an id: the publication is sent.
@@ -226,7 +239,7 @@ impl Talk {
         match self.planned.take() {
             None => false,
             Some(publication) => {
-                *self = Talk::publishing(publication, topic_id);
+                drop(mem::replace(self, Talk::publishing(publication, topic_id)));
                 true
             }
         }
@@ -236,8 +249,8 @@ impl Talk {
     pub(crate) fn repeat(&mut self)
         ensures { self.new ≡ record self.old { pending = option_map repeated self.old.pending } }
     {
-        if let Some(frame) = self.pending.take() {
-            self.pending = Some(again(frame));
+        if let Some(Frame::Publish { flags, .. }) = &mut self.pending {
+            flags.bits = again_bits(flags.bits);
         }
     }
 

@@ -58,43 +58,72 @@ impl fmt::Display for Text<'_> {
 impl fmt::Display for Code {
     fn fmt<W: fmt::Write>(&self, f: &mut fmt::Formatter<W>) -> fmt::Result {
         let code = self.0;
-        match code {
-            0 => f.write_str("accepted"),
-            1 => f.write_str("refused, congestion"),
-            2 => f.write_str("refused, invalid topic id"),
-            3 => f.write_str("refused, not supported"),
-            _ => write!(f, "refused, return code {code}"),
+        match code_words(code) {
+            Some(words) => f.write_str(words),
+            None => write!(f, "refused, return code {code}"),
         }
+    }
+}
+
+/// What a return code says, if it is a known one.
+fn code_words(code: u8) -> Option<&'static str> {
+    match code {
+        0 => Some("accepted"),
+        1 => Some("refused, congestion"),
+        2 => Some("refused, invalid topic id"),
+        3 => Some("refused, not supported"),
+        _ => None,
     }
 }
 
 impl fmt::Display for Level {
     fn fmt<W: fmt::Write>(&self, f: &mut fmt::Formatter<W>) -> fmt::Result {
-        let level = match self.0.qos() {
-            Qos::Zero => "QoS 0",
-            Qos::One => "QoS 1",
-            Qos::Two => "QoS 2",
-            Qos::MinusOne => "QoS -1",
-        };
-        let retain = if self.0.retain() { ", retain" } else { "" };
-        let again = if self.0.dup() { ", sent before" } else { "" };
-        write!(f, "{level}{retain}{again}")
+        let level = level_words(self.0.qos());
+        let marks = mark_words(self.0.retain(), self.0.dup());
+        write!(f, "{level}{marks}")
+    }
+}
+
+/// A quality of service.
+fn level_words(qos: Qos) -> &'static str {
+    match qos {
+        Qos::Zero => "QoS 0",
+        Qos::One => "QoS 1",
+        Qos::Two => "QoS 2",
+        Qos::MinusOne => "QoS -1",
+    }
+}
+
+/// Whether it is kept, and whether it was sent before.
+fn mark_words(retain: bool, again: bool) -> &'static str {
+    match (retain, again) {
+        (false, false) => "",
+        (true, false) => ", retain",
+        (false, true) => ", sent before",
+        (true, true) => ", retain, sent before",
     }
 }
 
 impl fmt::Display for TopicField {
     fn fmt<W: fmt::Write>(&self, f: &mut fmt::Formatter<W>) -> fmt::Result {
-        let number = self.1;
-        match self.0 {
-            TopicIdType::Normal => write!(f, "topic id {number}"),
-            TopicIdType::Predefined => write!(f, "predefined topic id {number}"),
-            TopicIdType::Short => {
-                let octets = number.to_be_bytes();
-                let name = Text(octets.as_slice());
-                write!(f, "topic {name}")
-            }
-            TopicIdType::Reserved => write!(f, "a topic of no type, {number}"),
+        let (words, number) = (type_words(self.0), self.1);
+        if self.0 == TopicIdType::Short {
+            let octets = number.to_be_bytes();
+            let name = Text(octets.as_slice());
+            write!(f, "{words} {name}")
+        } else {
+            write!(f, "{words} {number}")
         }
+    }
+}
+
+/// What the topic field of a PUBLISH has, in front of its number or name.
+fn type_words(kind: TopicIdType) -> &'static str {
+    match kind {
+        TopicIdType::Normal => "topic id",
+        TopicIdType::Predefined => "predefined topic id",
+        TopicIdType::Short => "topic",
+        TopicIdType::Reserved => "a topic of no type,",
     }
 }
 
@@ -118,29 +147,56 @@ impl fmt::Display for Told<'_> {
                 topic,
                 msg_id,
                 body,
-            } => {
-                let field = TopicField(flags.kind(), *topic);
-                let text = Text(body.as_slice());
-                let level = Level(*flags);
-                write!(f, "PUBLISH {text} on {field}, {level}, message id {msg_id}")
-            }
+            } => publication(f, *flags, *topic, *msg_id, body.as_slice()),
             Frame::PubAck {
                 topic_id,
                 msg_id,
                 code,
-            } => {
-                let code = Code(*code);
-                write!(f, "PUBACK: {code}, topic {topic_id}, message id {msg_id}")
-            }
-            Frame::PubRec { msg_id } => write!(f, "PUBREC: received, message id {msg_id}"),
-            Frame::PubRel { msg_id } => write!(f, "PUBREL: released, message id {msg_id}"),
-            Frame::PubComp { msg_id } => write!(f, "PUBCOMP: complete, message id {msg_id}"),
-            other => connection(f, other),
+            } => answer(f, ("PUBACK", *code), ("topic", *topic_id), *msg_id),
+            other => handshake(f, other),
         }
     }
 }
 
-/// Frames by which a gateway is found, and a connection begins, goes on and ends.
+/// Frames by which a publication at QoS 2 goes on.
+fn handshake<W: fmt::Write>(f: &mut fmt::Formatter<W>, frame: &Frame) -> fmt::Result {
+    match frame {
+        Frame::PubRec { msg_id } => numbered(f, "PUBREC: received", *msg_id),
+        Frame::PubRel { msg_id } => numbered(f, "PUBREL: released", *msg_id),
+        Frame::PubComp { msg_id } => numbered(f, "PUBCOMP: complete", *msg_id),
+        other => connection(f, other),
+    }
+}
+
+/// Words and a message id.
+fn numbered<W: fmt::Write>(f: &mut fmt::Formatter<W>, words: &str, msg_id: u16) -> fmt::Result {
+    write!(f, "{words}, message id {msg_id}")
+}
+
+/// A frame that answers with a return code, about a topic.
+fn answer<W: fmt::Write>(
+    f: &mut fmt::Formatter<W>,
+    (name, code): (&str, u8),
+    (topic, number): (&str, u16),
+    msg_id: u16,
+) -> fmt::Result {
+    let code = Code(code);
+    write!(f, "{name}: {code}, {topic} {number}, message id {msg_id}")
+}
+
+/// A PUBLISH.
+fn publication<W: fmt::Write>(
+    f: &mut fmt::Formatter<W>,
+    flags: Flags,
+    topic: u16,
+    msg_id: u16,
+    body: &[u8],
+) -> fmt::Result {
+    let (field, text, level) = (TopicField(flags.kind(), topic), Text(body), Level(flags));
+    write!(f, "PUBLISH {text} on {field}, {level}, message id {msg_id}")
+}
+
+/// Frames by which a gateway is found, and a connection begins.
 fn connection<W: fmt::Write>(f: &mut fmt::Formatter<W>, frame: &Frame) -> fmt::Result {
     match frame {
         Frame::SearchGw { .. } => f.write_str("SEARCHGW"),
@@ -150,19 +206,34 @@ fn connection<W: fmt::Write>(f: &mut fmt::Formatter<W>, frame: &Frame) -> fmt::R
             duration,
             client,
             ..
-        } => {
-            let name = Text(client.as_slice());
-            let session = if flags.clean() { "clean" } else { "kept" };
-            let will = if flags.will() { ", with a will" } else { "" };
-            write!(
-                f,
-                "CONNECT as {name}, session {session}, keep alive {duration} s{will}"
-            )
-        }
+        } => connect(f, *flags, *duration, client.as_slice()),
         Frame::ConnAck { code } => {
             let code = Code(*code);
             write!(f, "CONNACK: {code}")
         }
+        other => presence(f, other),
+    }
+}
+
+/// A CONNECT.
+fn connect<W: fmt::Write>(
+    f: &mut fmt::Formatter<W>,
+    flags: Flags,
+    duration: u16,
+    client: &[u8],
+) -> fmt::Result {
+    let name = Text(client);
+    let session = if flags.clean() { "clean" } else { "kept" };
+    let will = if flags.will() { ", with a will" } else { "" };
+    write!(
+        f,
+        "CONNECT as {name}, session {session}, keep alive {duration} s{will}"
+    )
+}
+
+/// Frames by which a connection goes on and ends.
+fn presence<W: fmt::Write>(f: &mut fmt::Formatter<W>, frame: &Frame) -> fmt::Result {
+    match frame {
         Frame::PingReq { client } if client.is_empty() => f.write_str("PINGREQ"),
         Frame::PingReq { client } => {
             let name = Text(client.as_slice());
@@ -177,7 +248,7 @@ fn connection<W: fmt::Write>(f: &mut fmt::Formatter<W>, frame: &Frame) -> fmt::R
     }
 }
 
-/// Frames about topics and subscriptions.
+/// Frames about the ids of topics, and about subscriptions.
 fn topics<W: fmt::Write>(f: &mut fmt::Formatter<W>, frame: &Frame) -> fmt::Result {
     match frame {
         Frame::Register {
@@ -195,35 +266,26 @@ fn topics<W: fmt::Write>(f: &mut fmt::Formatter<W>, frame: &Frame) -> fmt::Resul
             topic_id,
             msg_id,
             code,
-        } => {
-            let code = Code(*code);
-            write!(
-                f,
-                "REGACK: {code}, topic id {topic_id}, message id {msg_id}"
-            )
-        }
+        } => answer(f, ("REGACK", *code), ("topic id", *topic_id), *msg_id),
+        Frame::UnsubAck { msg_id } => numbered(f, "UNSUBACK", *msg_id),
+        other => subscriptions(f, other),
+    }
+}
+
+/// Frames about subscriptions.
+fn subscriptions<W: fmt::Write>(f: &mut fmt::Formatter<W>, frame: &Frame) -> fmt::Result {
+    match frame {
         Frame::Subscribe {
             flags,
             msg_id,
             topic,
-        } => {
-            let topic = Wanted(flags.kind(), topic.as_slice());
-            let level = Level(*flags);
-            write!(f, "SUBSCRIBE to {topic}, {level}, message id {msg_id}")
-        }
+        } => subscription(f, *flags, *msg_id, topic.as_slice()),
         Frame::SubAck {
             flags,
             topic_id,
             msg_id,
             code,
-        } => {
-            let code = Code(*code);
-            let level = Level(*flags);
-            write!(
-                f,
-                "SUBACK: {code}, {level}, topic id {topic_id}, message id {msg_id}"
-            )
-        }
+        } => granted(f, *flags, (*topic_id, *msg_id), *code),
         Frame::Unsubscribe {
             flags,
             msg_id,
@@ -232,9 +294,33 @@ fn topics<W: fmt::Write>(f: &mut fmt::Formatter<W>, frame: &Frame) -> fmt::Resul
             let topic = Wanted(flags.kind(), topic.as_slice());
             write!(f, "UNSUBSCRIBE from {topic}, message id {msg_id}")
         }
-        Frame::UnsubAck { msg_id } => write!(f, "UNSUBACK, message id {msg_id}"),
         other => wills(f, other),
     }
+}
+
+/// A SUBSCRIBE.
+fn subscription<W: fmt::Write>(
+    f: &mut fmt::Formatter<W>,
+    flags: Flags,
+    msg_id: u16,
+    topic: &[u8],
+) -> fmt::Result {
+    let (topic, level) = (Wanted(flags.kind(), topic), Level(flags));
+    write!(f, "SUBSCRIBE to {topic}, {level}, message id {msg_id}")
+}
+
+/// A SUBACK.
+fn granted<W: fmt::Write>(
+    f: &mut fmt::Formatter<W>,
+    flags: Flags,
+    (topic_id, msg_id): (u16, u16),
+    code: u8,
+) -> fmt::Result {
+    let (code, level) = (Code(code), Level(flags));
+    write!(
+        f,
+        "SUBACK: {code}, {level}, topic id {topic_id}, message id {msg_id}"
+    )
 }
 
 /// Frames about wills.

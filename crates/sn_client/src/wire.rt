@@ -20,12 +20,8 @@ pub(crate) struct Wire {
 impl Wire {
     /// A socket that is bound to a port; with port 0 to one that is free.
     pub(crate) fn open<N: Net>(net: &N, port: u16, gateway: SocketAddr) -> io::Result<Wire> {
-        let host = if gateway.is_ipv4() {
-            IpAddr::V4(Ipv4Addr::UNSPECIFIED)
-        } else {
-            IpAddr::V6(Ipv6Addr::UNSPECIFIED)
-        };
-        let socket = UdpSocket::bind(net, SocketAddr::new(host, port))?;
+        let own = SocketAddr::new(any_host(gateway), port);
+        let socket = UdpSocket::bind(net, own)?;
         socket.set_read_timeout(Some(Duration::from_millis(A_WHILE)))?;
         Ok(Wire { socket, gateway })
     }
@@ -55,5 +51,14 @@ impl Wire {
                     || e.kind() == ErrorKind::Interrupted => Ok(None),
             Err(e) => Err(e),
         }
+    }
+}
+
+/// Each host of this system, as the gateway's address is spelled.
+fn any_host(gateway: SocketAddr) -> IpAddr {
+    if gateway.is_ipv4() {
+        IpAddr::V4(Ipv4Addr::UNSPECIFIED)
+    } else {
+        IpAddr::V6(Ipv6Addr::UNSPECIFIED)
     }
 }

@@ -1,14 +1,12 @@
 //! From the words of a command line to what is asked for.
 
-ghost use Rattle.std.specs.Prelude.{◌≤◌, IfOk};
-
 mod grammar;
+mod reader;
 
 use clap::{ArgMatches, Error};
 use grammar::command_line;
-use octets::{MAX_CLIENT_ID, read_u16};
+use reader::Reader;
 use sn_frame::Qos;
-use sn_topic::{Filter, TopicFault, TopicName};
 use std::alloc::{AllocError, Global};
 use std::net::SocketAddr;
 
@@ -154,186 +152,132 @@ fn matched<'a>(alloc: Global, words: &'a [String]) -> Result<ArgMatches<'a>, Err
 fn settings_of<'a>(
     alloc: Global,
     name: &str,
-    inner: &ArgMatches<'a>,
+    matches: &ArgMatches<'a>,
 ) -> Result<Settings<'a>, Slip> {
-    let client = client(inner)?;
-    Ok(Settings {
-        gateway: gateway(inner)?,
+    let mut words = Reader::new(alloc, matches);
+    let settings = said(&mut words, name);
+    match words.slip() {
+        None => Ok(settings),
+        Some(slip) => Err(slip),
+    }
+}
+
+/// The settings, as far as the words say something.
+fn said<'a>(words: &mut Reader<'_, 'a>, name: &str) -> Settings<'a> {
+    let client = words.client();
+    let gateway = words.gateway();
+    let wait = words.number("wait");
+    Settings {
+        gateway,
         client,
-        port: inner.get_one::<u16>("port").unwrap_or(port_of(client)),
-        hex: inner.get_flag("hex"),
-        connect: inner.get_flag("connect"),
-        wait: number(inner, "wait")?,
-        seconds: number(inner, if name == "listen" { "length" } else { "wait" })?,
-        command: asked(alloc, name, inner)?,
-    })
-}
-
-/// The address of the gateway.
-fn gateway(matches: &ArgMatches<'_>) -> Result<SocketAddr, Slip> {
-    let Some(word) = matches.get_str("gateway") else {
-        return Err(Slip::Word("--gateway is missing: where a gateway listens, as 127.0.0.1:18841"));
-    };
-    match word.parse::<SocketAddr>() {
-        Ok(gateway) => Ok(gateway),
-        Err(_) => Err(Slip::Word(
-            "--gateway is no address with a port, as 127.0.0.1:18841; names of hosts are not taken",
-        )),
-    }
-}
-
-/// The client's id: 1 to 23 octets.
-fn client<'a>(matches: &ArgMatches<'a>) -> Result<&'a str, Slip> {
-    match matches.get_str("id") {
-        None => Err(Slip::Word("--id is missing: the client's id, as s1")),
-        Some(word) if word.is_empty() => Err(Slip::Word("--id is empty")),
-        Some(word) if word.len() > MAX_CLIENT_ID => Err(Slip::Word("--id has more than 23 octets")),
-        Some(word) => Ok(word),
-    }
-}
-
-/// A port that is the same whenever the id is, outside of those that the system gives to others.
-fn port_of(client: &str) -> u16
-    ensures least { 20000 ≤ result }
-    ensures most { result ≤ 29999 }
-{
-    let mut sum = 0_u16;
-    for octet in client.as_bytes() {
-        sum = sum.wrapping_mul(31).wrapping_add(u16::from(*octet));
-    }
-    20_000 + sum % 10_000
-}
-
-/// A number of a command line.
-fn number(matches: &ArgMatches<'_>, id: &str) -> Result<u16, Slip> {
-    match matches.get_one::<u16>(id) {
-        Some(number) => Ok(number),
-        None => Err(Slip::Word("a number from 0 to 65535 is missing")),
-    }
-}
-
-/// A word of a command line.
-fn word<'a>(matches: &ArgMatches<'a>, id: &str) -> Result<&'a str, Slip> {
-    match matches.get_str(id) {
-        Some(word) => Ok(word),
-        None => Err(Slip::Word("a word is missing")),
+        port: words.port(client),
+        hex: words.flag("hex"),
+        connect: words.flag("connect"),
+        wait,
+        seconds: if name == "listen" {
+            words.number("length")
+        } else {
+            wait
+        },
+        command: asked(words, name),
     }
 }
 
 /// The command and what stands after it.
-fn asked<'a>(alloc: Global, name: &str, matches: &ArgMatches<'a>) -> Result<Command<'a>, Slip> {
+fn asked<'a>(words: &mut Reader<'_, 'a>, name: &str) -> Command<'a> {
     match name {
-        "search" => Ok(Command::Search),
-        "connect" => Ok(Command::Connect {
-            clean: matches.get_flag("clean"),
-            keep_alive: number(matches, "keep-alive")?,
-            will: will(alloc, matches)?,
-        }),
-        "subscribe" => Ok(Command::Subscribe {
-            topic: filter(alloc, matches)?,
-            qos: qos(matches)?,
-        }),
-        "unsubscribe" => Ok(Command::Unsubscribe {
-            topic: filter(alloc, matches)?,
-        }),
-        "publish" => publish(alloc, matches),
-        "sleep" => match number(matches, "seconds")? {
-            0 => Err(Slip::Word("SECONDS is 0")),
-            seconds => Ok(Command::Sleep { seconds }),
-        },
-        "wake" => Ok(Command::Wake),
-        "listen" => Ok(Command::Listen),
-        _ => Ok(Command::Disconnect),
+        "connect" => connect(words),
+        "subscribe" => subscribe(words),
+        "unsubscribe" => unsubscribe(words),
+        "publish" => publish(words),
+        "sleep" => sleep(words),
+        _ => plain(name),
     }
 }
 
+/// A command after which nothing stands.
+fn plain<'a>(name: &str) -> Command<'a> {
+    match name {
+        "search" => Command::Search,
+        "wake" => Command::Wake,
+        "listen" => Command::Listen,
+        _ => Command::Disconnect,
+    }
+}
+
+/// The words of `connect`.
+fn connect<'a>(words: &mut Reader<'_, 'a>) -> Command<'a> {
+    Command::Connect {
+        clean: words.flag("clean"),
+        keep_alive: words.number("keep-alive"),
+        will: will(words),
+    }
+}
+
+/// The words of `subscribe`.
+fn subscribe<'a>(words: &mut Reader<'_, 'a>) -> Command<'a> {
+    Command::Subscribe {
+        topic: words.filter(),
+        qos: words.qos(),
+    }
+}
+
+/// The words of `unsubscribe`.
+fn unsubscribe<'a>(words: &mut Reader<'_, 'a>) -> Command<'a> {
+    Command::Unsubscribe {
+        topic: words.filter(),
+    }
+}
+
+/// The words of `sleep`.
+fn sleep<'a>(words: &mut Reader<'_, 'a>) -> Command<'a> {
+    let seconds = words.number("seconds");
+    if seconds == 0 {
+        words.refuse("SECONDS is 0");
+    }
+    Command::Sleep { seconds }
+}
+
 /// The will of a CONNECT.
-fn will<'a>(alloc: Global, matches: &ArgMatches<'a>) -> Result<Option<WillWords<'a>>, Slip> {
-    match (
-        matches.get_str("will-topic"),
-        matches.get_str("will-message"),
-    ) {
-        (None, None) => Ok(None),
-        (Some(topic), Some(message)) => {
-            check_name(alloc, topic)?;
-            Ok(Some(WillWords {
-                topic,
-                message,
-                qos: qos(matches)?,
-                retain: matches.get_flag("retain"),
-            }))
+fn will<'a>(words: &mut Reader<'_, 'a>) -> Option<WillWords<'a>> {
+    match (words.text("will-topic"), words.text("will-message")) {
+        (None, None) => None,
+        (Some(topic), Some(message)) => Some(will_of(words, topic, message)),
+        _ => {
+            words.refuse("--will-topic and --will-message go together");
+            None
         }
-        _ => Err(Slip::Word("--will-topic and --will-message go together")),
+    }
+}
+
+/// A will with this topic and text.
+fn will_of<'a>(words: &mut Reader<'_, 'a>, topic: &'a str, message: &'a str) -> WillWords<'a> {
+    words.check_name(topic);
+    WillWords {
+        topic,
+        message,
+        qos: words.qos(),
+        retain: words.flag("retain"),
     }
 }
 
 /// The words of `publish`. At QoS -1 no id can be asked for (MQTT-SN 1.2 section 6.8).
-fn publish<'a>(alloc: Global, matches: &ArgMatches<'a>) -> Result<Command<'a>, Slip> {
-    let name = word(matches, "topic")?;
-    let qos = qos(matches)?;
-    let topic = if matches.get_flag("predefined") {
-        topic_of_id(name)?
-    } else {
-        check_name(alloc, name)?;
-        in_form(name)
-    };
-    if qos == Qos::MinusOne && matches!(topic, Topic::Full(_)) {
-        return Err(Slip::Word("at QoS -1 TOPIC has two octets, or is an id with --predefined"));
+fn publish<'a>(words: &mut Reader<'_, 'a>) -> Command<'a> {
+    let name = words.word("topic");
+    let qos = words.qos();
+    let topic = words.topic(name);
+    if needs_id(topic) && qos == Qos::MinusOne {
+        words.refuse("at QoS -1 TOPIC has two octets, or is an id with --predefined");
     }
-    Ok(Command::Publish {
+    Command::Publish {
         topic,
-        text: word(matches, "text")?,
+        text: words.word("text"),
         qos,
-        retain: matches.get_flag("retain"),
-    })
-}
-
-/// A quality of service.
-fn qos(matches: &ArgMatches<'_>) -> Result<Qos, Slip> {
-    match matches.get_str("qos") {
-        Some("0") => Ok(Qos::Zero),
-        Some("1") => Ok(Qos::One),
-        Some("2") => Ok(Qos::Two),
-        Some("-1") => Ok(Qos::MinusOne),
-        _ => Err(Slip::Word("--qos is none of -1, 0, 1 and 2")),
+        retain: words.flag("retain"),
     }
 }
 
-/// A predefined id.
-fn topic_of_id<'a>(word: &str) -> Result<Topic<'a>, Slip> {
-    match word.parse::<u16>() {
-        Ok(id) => Ok(Topic::Predefined(id)),
-        Err(_) => Err(Slip::Word("a predefined id is a number from 0 to 65535")),
-    }
-}
-
-/// Looks whether a topic's name is one.
-fn check_name(alloc: Global, word: &str) -> Result<(), Slip> {
-    match TopicName::new(alloc, word.as_bytes()) {
-        Ok(_) => Ok(()),
-        Err(TopicFault::Memory) => Err(Slip::Memory),
-        Err(_) => Err(Slip::Word("TOPIC is no name: 1 to 256 octets without a wildcard")),
-    }
-}
-
-/// A filter, or a predefined id. A filter with a wildcard is never a short name.
-fn filter<'a>(alloc: Global, matches: &ArgMatches<'a>) -> Result<Topic<'a>, Slip> {
-    let word = word(matches, "filter")?;
-    if matches.get_flag("predefined") {
-        return topic_of_id(word);
-    }
-    match Filter::new(alloc, word.as_bytes()) {
-        Ok(filter) if filter.has_wildcard() => Ok(Topic::Full(word)),
-        Ok(_) => Ok(in_form(word)),
-        Err(TopicFault::Memory) => Err(Slip::Memory),
-        Err(_) => Err(Slip::Word("FILTER is none: + or # alone in a level, and # in the last")),
-    }
-}
-
-/// A name as it goes into a frame: one of two octets takes the place of an id.
-fn in_form<'a>(word: &'a str) -> Topic<'a> {
-    match read_u16(word.as_bytes()) {
-        Some((number, [])) => Topic::Short(number),
-        _ => Topic::Full(word),
-    }
+/// Whether a topic has to be registered before it is published to.
+fn needs_id(topic: Topic<'_>) -> bool {
+    matches!(topic, Topic::Full(_))
 }

@@ -2,8 +2,10 @@
 
 ghost use Rattle.std.specs.Prelude.{◌≡◌, IfOk, OnOk};
 ghost use Rattle.std.specs.Option.{option_copied};
+ghost use Rattle.sn_plan.specs.Drafts.{nothing};
 ghost use Rattle.sn_deliver.specs.Acknowledging as spec;
 
+use super::drafting::finished;
 use octets::NoMemory;
 use rep_ops::Put;
 use sn_exchange::{Form, Peer, form_again, message_of, open_exchange, put_named, send};
@@ -95,13 +97,12 @@ fn over(session: &Session, draft: &mut Draft) -> Result<(), NoMemory>
 }
 
 /// The message is done with.
-fn done(alloc: Global, session: &Session, put: &Put) -> Result<Draft, NoMemory>
-    ensures { IfOk result (λ draft. draft ≡ spec.done session.now put.now) }
+fn done(session: &Session, put: &Put, draft: &mut Draft) -> Result<(), NoMemory>
+    requires { draft.old ≡ nothing }
+    ensures { OnOk result (draft.new ≡ spec.done session.now put.now) }
 {
-    let mut draft = Draft::new(alloc);
     draft.ack(put.seq, put.origin)?;
-    over(session, &mut draft)?;
-    Ok(draft)
+    over(session, draft)
 }
 
 /// And then the client has this id for the name, or has it no more.
@@ -157,17 +158,17 @@ fn forget(
     session: &Session,
     put: &Put,
     entry: Option<&TopicEntry>,
-) -> Result<Draft, NoMemory>
-    ensures { IfOk result (λ draft. draft ≡ spec.forgotten session.now put.now
+    draft: &mut Draft,
+) -> Result<(), NoMemory>
+    requires { draft.old ≡ nothing }
+    ensures { OnOk result (draft.new ≡ spec.forgotten session.now put.now
         (option_copied entry.entry)) }
 {
     match entry {
-        None => done(alloc, session, put),
+        None => done(session, put, draft),
         Some(entry) => {
-            let mut draft = Draft::new(alloc);
-            tell(alloc, entry, false, &mut draft)?;
-            over(session, &mut draft)?;
-            Ok(draft)
+            tell(alloc, entry, false, draft)?;
+            over(session, draft)
         }
     }
 }
@@ -179,24 +180,26 @@ fn puback_put(
     session: &Session,
     code: u8,
     put: &Put,
-) -> Result<Draft, NoMemory>
-    ensures { IfOk result (λ draft. draft ≡ spec.puback_put predefined.now session.now
+    draft: &mut Draft,
+) -> Result<(), NoMemory>
+    requires { draft.old ≡ nothing }
+    ensures { OnOk result (draft.new ≡ spec.puback_put predefined.now session.now
         code put.now) }
 {
     if code == 0 {
         if put.qos.number() == 1 {
-            return done(alloc, session, put);
+            return done(session, put, draft);
         }
-        return Ok(Draft::new(alloc));
+        return Ok(());
     }
     if code == 1 {
-        return Ok(Draft::new(alloc));
+        return Ok(());
     }
     if code == 2 {
         let entry = entry_published(predefined, session, &put.topic);
-        return forget(alloc, session, put, entry);
+        return forget(alloc, session, put, entry, draft);
     }
-    done(alloc, session, put)
+    done(session, put, draft)
 }
 
 /// PUBACK with this code for this message, if there is one.
@@ -206,13 +209,15 @@ fn puback_of(
     session: &Session,
     code: u8,
     put: Option<&Put>,
-) -> Result<Draft, NoMemory>
-    ensures { IfOk result (λ draft. draft ≡ spec.puback_of predefined.now session.now code
+    draft: &mut Draft,
+) -> Result<(), NoMemory>
+    requires { draft.old ≡ nothing }
+    ensures { OnOk result (draft.new ≡ spec.puback_of predefined.now session.now code
         (option_copied put.entry)) }
 {
     match put {
-        None => Ok(Draft::new(alloc)),
-        Some(put) => puback_put(alloc, predefined, session, code, put),
+        None => Ok(()),
+        Some(put) => puback_put(alloc, predefined, session, code, put, draft),
     }
 }
 
@@ -224,12 +229,14 @@ fn puback(
     pending: &[Put],
     msg_id: u16,
     code: u8,
-) -> Result<Draft, NoMemory>
-    ensures { IfOk result (λ draft. draft ≡ spec.puback predefined.now session.now pending.now
+    draft: &mut Draft,
+) -> Result<(), NoMemory>
+    requires { draft.old ≡ nothing }
+    ensures { OnOk result (draft.new ≡ spec.puback predefined.now session.now pending.now
         msg_id code) }
 {
     let put = put_awaiting(session, pending, Phase::Published, msg_id);
-    puback_of(alloc, predefined, session, code, put)
+    puback_of(alloc, predefined, session, code, put, draft)
 }
 
 /// And then the PUBREL of the open exchange.
@@ -245,10 +252,10 @@ fn send_pubrel(alloc: Global, peer: &Peer, msg_id: u16, draft: &mut Draft) -> Re
 }
 
 /// The message is with the client, and the exchange waits for PUBCOMP.
-fn released(alloc: Global, session: &Session, exchange: Outbound) -> Result<Draft, NoMemory>
-    ensures { IfOk result (λ draft. draft ≡ spec.released session.now exchange) }
+fn released(session: &Session, exchange: Outbound, draft: &mut Draft) -> Result<(), NoMemory>
+    requires { draft.old ≡ nothing }
+    ensures { OnOk result (draft.new ≡ spec.released session.now exchange) }
 {
-    let mut draft = Draft::new(alloc);
     draft.ack(exchange.seq, exchange.origin)?;
     draft.change(SessionOp::Outbound {
         exchange: Some(Outbound {
@@ -259,7 +266,7 @@ fn released(alloc: Global, session: &Session, exchange: Outbound) -> Result<Draf
         }),
         next_id: session.next_id,
     })?;
-    Ok(draft)
+    Ok(())
 }
 
 /// Whether there is a message at quality of service 2.
@@ -289,15 +296,15 @@ fn pubrec_again(
     peer: &Peer,
     msg_id: u16,
     exchange: Option<Outbound>,
-) -> Result<Draft, NoMemory>
-    ensures { IfOk result (λ draft. draft ≡ spec.pubrec_again peer.now msg_id exchange) }
+    draft: &mut Draft,
+) -> Result<(), NoMemory>
+    requires { draft.old ≡ nothing }
+    ensures { OnOk result (draft.new ≡ spec.pubrec_again peer.now msg_id exchange) }
 {
-    let mut draft = Draft::new(alloc);
     match exchange {
-        None => send(alloc, peer, Frame::PubRel { msg_id }, &mut draft)?,
-        Some(_) => send_pubrel(alloc, peer, msg_id, &mut draft)?,
+        None => send(alloc, peer, Frame::PubRel { msg_id }, draft),
+        Some(_) => send_pubrel(alloc, peer, msg_id, draft),
     }
-    Ok(draft)
 }
 
 /// PUBREC of this exchange, if there is one.
@@ -308,19 +315,20 @@ fn pubrec_of(
     pending: &[Put],
     msg_id: u16,
     exchange: Option<Outbound>,
-) -> Result<Draft, NoMemory>
-    ensures { IfOk result (λ draft. draft ≡ spec.pubrec_of peer.now session.now pending.now
+    draft: &mut Draft,
+) -> Result<(), NoMemory>
+    requires { draft.old ≡ nothing }
+    ensures { OnOk result (draft.new ≡ spec.pubrec_of peer.now session.now pending.now
         msg_id exchange) }
 {
     match exchange {
         None => {
             let released = awaiting(session, pending, Phase::Released, msg_id);
-            pubrec_again(alloc, peer, msg_id, released)
+            pubrec_again(alloc, peer, msg_id, released, draft)
         }
         Some(exchange) => {
-            let mut draft = released(alloc, session, exchange)?;
-            send_pubrel(alloc, peer, msg_id, &mut draft)?;
-            Ok(draft)
+            released(session, exchange, draft)?;
+            send_pubrel(alloc, peer, msg_id, draft)
         }
     }
 }
@@ -332,40 +340,43 @@ fn pubrec(
     session: &Session,
     pending: &[Put],
     msg_id: u16,
-) -> Result<Draft, NoMemory>
-    ensures { IfOk result (λ draft. draft ≡ spec.pubrec peer.now session.now
+    draft: &mut Draft,
+) -> Result<(), NoMemory>
+    requires { draft.old ≡ nothing }
+    ensures { OnOk result (draft.new ≡ spec.pubrec peer.now session.now
         pending.now msg_id) }
 {
     let exchange = awaiting_pubrec(session, pending, msg_id);
-    pubrec_of(alloc, peer, session, pending, msg_id, exchange)
+    pubrec_of(alloc, peer, session, pending, msg_id, exchange, draft)
 }
 
 /// PUBCOMP of this exchange, if there is one.
 fn pubcomp_of(
-    alloc: Global,
     session: &Session,
     exchange: Option<Outbound>,
-) -> Result<Draft, NoMemory>
-    ensures { IfOk result (λ draft. draft ≡ spec.pubcomp_of session.now exchange) }
+    draft: &mut Draft,
+) -> Result<(), NoMemory>
+    requires { draft.old ≡ nothing }
+    ensures { OnOk result (draft.new ≡ spec.pubcomp_of session.now exchange) }
 {
-    let mut draft = Draft::new(alloc);
     if exchange.is_some() {
-        over(session, &mut draft)?;
+        return over(session, draft);
     }
-    Ok(draft)
+    Ok(())
 }
 
 /// PUBCOMP.
 fn pubcomp(
-    alloc: Global,
     session: &Session,
     pending: &[Put],
     msg_id: u16,
-) -> Result<Draft, NoMemory>
-    ensures { IfOk result (λ draft. draft ≡ spec.pubcomp session.now pending.now msg_id) }
+    draft: &mut Draft,
+) -> Result<(), NoMemory>
+    requires { draft.old ≡ nothing }
+    ensures { OnOk result (draft.new ≡ spec.pubcomp session.now pending.now msg_id) }
 {
     let exchange = awaiting(session, pending, Phase::Released, msg_id);
-    pubcomp_of(alloc, session, exchange)
+    pubcomp_of(session, exchange, draft)
 }
 
 /// The client knows the id of the topic from now on.
@@ -373,29 +384,39 @@ fn registered(
     alloc: Global,
     session: &Session,
     entry: Option<&TopicEntry>,
-) -> Result<Draft, NoMemory>
-    ensures { IfOk result (λ draft. draft ≡ spec.registered session.now
+    draft: &mut Draft,
+) -> Result<(), NoMemory>
+    requires { draft.old ≡ nothing }
+    ensures { OnOk result (draft.new ≡ spec.registered session.now
         (option_copied entry.entry)) }
 {
-    let mut draft = Draft::new(alloc);
-    if let Some(entry) = entry {
-        tell(alloc, entry, true, &mut draft)?;
-        over(session, &mut draft)?;
+    match entry {
+        None => Ok(()),
+        Some(entry) => {
+            tell(alloc, entry, true, draft)?;
+            over(session, draft)
+        }
     }
-    Ok(draft)
 }
 
 /// REGACK with this code for this message.
-fn regack_put(alloc: Global, session: &Session, code: u8, put: &Put) -> Result<Draft, NoMemory>
-    ensures { IfOk result (λ draft. draft ≡ spec.regack_put session.now code put.now) }
+fn regack_put(
+    alloc: Global,
+    session: &Session,
+    code: u8,
+    put: &Put,
+    draft: &mut Draft,
+) -> Result<(), NoMemory>
+    requires { draft.old ≡ nothing }
+    ensures { OnOk result (draft.new ≡ spec.regack_put session.now code put.now) }
 {
     if code == 0 {
-        return registered(alloc, session, session.topic_named(&put.topic));
+        return registered(alloc, session, session.topic_named(&put.topic), draft);
     }
     if code == 1 {
-        return Ok(Draft::new(alloc));
+        return Ok(());
     }
-    done(alloc, session, put)
+    done(session, put, draft)
 }
 
 /// REGACK with this code for this message, if there is one.
@@ -404,13 +425,15 @@ fn regack_of(
     session: &Session,
     code: u8,
     put: Option<&Put>,
-) -> Result<Draft, NoMemory>
-    ensures { IfOk result (λ draft. draft ≡ spec.regack_of session.now code
+    draft: &mut Draft,
+) -> Result<(), NoMemory>
+    requires { draft.old ≡ nothing }
+    ensures { OnOk result (draft.new ≡ spec.regack_of session.now code
         (option_copied put.entry)) }
 {
     match put {
-        None => Ok(Draft::new(alloc)),
-        Some(put) => regack_put(alloc, session, code, put),
+        None => Ok(()),
+        Some(put) => regack_put(alloc, session, code, put, draft),
     }
 }
 
@@ -421,11 +444,40 @@ fn regack(
     pending: &[Put],
     msg_id: u16,
     code: u8,
-) -> Result<Draft, NoMemory>
-    ensures { IfOk result (λ draft. draft ≡ spec.regack session.now pending.now msg_id code) }
+    draft: &mut Draft,
+) -> Result<(), NoMemory>
+    requires { draft.old ≡ nothing }
+    ensures { OnOk result (draft.new ≡ spec.regack session.now pending.now msg_id code) }
 {
     let put = put_awaiting(session, pending, Phase::Registering, msg_id);
-    regack_of(alloc, session, code, put)
+    regack_of(alloc, session, code, put, draft)
+}
+
+/// Writes an acknowledgement into a draft of nothing.
+fn write_acknowledgement(
+    alloc: Global,
+    predefined: &Predefined,
+    peer: &Peer,
+    session: &Session,
+    pending: &[Put],
+    frame: &Frame,
+    draft: &mut Draft,
+) -> Result<(), NoMemory>
+    requires { draft.old ≡ nothing }
+    ensures { OnOk result (draft.new ≡ spec.acknowledge predefined.now peer.now session.now
+        pending.now frame.now) }
+{
+    match frame {
+        Frame::PubAck { msg_id, code, .. } => {
+            puback(alloc, predefined, session, pending, *msg_id, *code, draft)
+        }
+        Frame::PubRec { msg_id } => pubrec(alloc, peer, session, pending, *msg_id, draft),
+        Frame::PubComp { msg_id } => pubcomp(session, pending, *msg_id, draft),
+        Frame::RegAck { msg_id, code, .. } => {
+            regack(alloc, session, pending, *msg_id, *code, draft)
+        }
+        _ => Ok(()),
+    }
 }
 
 /// An acknowledgement of a connected client: PUBACK, PUBREC, PUBCOMP or REGACK. What nothing waits
@@ -441,13 +493,7 @@ pub fn acknowledge(
     ensures { IfOk result (λ draft. draft ≡ spec.acknowledge predefined.now peer.now session.now
         pending.now frame.now) }
 {
-    match frame {
-        Frame::PubAck { msg_id, code, .. } => {
-            puback(alloc, predefined, session, pending, *msg_id, *code)
-        }
-        Frame::PubRec { msg_id } => pubrec(alloc, peer, session, pending, *msg_id),
-        Frame::PubComp { msg_id } => pubcomp(alloc, session, pending, *msg_id),
-        Frame::RegAck { msg_id, code, .. } => regack(alloc, session, pending, *msg_id, *code),
-        _ => Ok(Draft::new(alloc)),
-    }
+    let mut draft = Draft::new(alloc);
+    let done = write_acknowledgement(alloc, predefined, peer, session, pending, frame, &mut draft);
+    finished(draft, done)
 }

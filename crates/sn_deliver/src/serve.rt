@@ -3,6 +3,8 @@
 ghost use Rattle.std.specs.Prelude.{◌≡◌, Some, IfOk};
 ghost use Rattle.sn_local.specs.Seen.{seen_of};
 ghost use Rattle.sn_local.specs.Bindings as bindings;
+ghost use Rattle.sn_plan.specs.Bound.{session_of};
+ghost use Rattle.sn_publish.specs.Publishing as publishing;
 ghost use Rattle.sn_deliver.specs.Serving.{publish_of, pubrel_of, ack_of};
 ghost use Rattle.sn_deliver.specs.Serving as spec;
 
@@ -26,6 +28,39 @@ fn served(alloc: Global, client: &ClientId, now: u64, draft: Draft) -> Result<Ro
     heard_row(alloc, Some(client), now, row)
 }
 
+/// What a PUBLISH of a client does, by its session.
+fn publish_draft<R: Replica>(
+    alloc: Global,
+    config: &Config,
+    replica: &R,
+    from: Addr,
+    client: &ClientId,
+    flags: Flags,
+    topic: u16,
+    msg_id: u16,
+    body: &Octets,
+) -> Result<Draft, NoMemory>
+    ensures { IfOk result (λ draft. draft ≡ publishing.publish config.now.predefined
+        (seen_of (R.kept replica.now)) from (session_of (seen_of (R.kept replica.now)) client.now)
+        flags.bits topic msg_id body.now) }
+{
+    let empty = Session::empty(alloc);
+    let session = session_or(replica, client, &empty);
+    let draft = publish(
+        alloc,
+        &config.predefined,
+        replica,
+        from,
+        session,
+        flags,
+        topic,
+        msg_id,
+        body,
+    );
+    drop(empty);
+    draft
+}
+
 /// A PUBLISH of a bound client.
 fn publish_bound<R: Replica>(
     alloc: Global,
@@ -43,21 +78,10 @@ fn publish_bound<R: Replica>(
         (seen_of (R.kept replica.now)) from (Some client.now) flags.bits topic msg_id
         body.now now) }
 {
-    let empty = Session::empty(alloc);
-    let session = session_or(replica, client, &empty);
-    let draft = publish(
-        alloc,
-        &config.predefined,
-        replica,
-        from,
-        session,
-        flags,
-        topic,
-        msg_id,
-        body,
-    );
-    drop(empty);
-    served(alloc, client, now, draft?)
+    let draft = publish_draft(
+        alloc, config, replica, from, client, flags, topic, msg_id, body,
+    )?;
+    served(alloc, client, now, draft)
 }
 
 /// A PUBLISH that asks for a connection.

@@ -132,10 +132,10 @@ fn row_for<R: Replica>(
             alloc, config, replica, dialogs, from, *flags, *topic, *msg_id, body, now,
         ),
         Frame::PubRel { msg_id } => pubrel_in(alloc, replica, dialogs, from, *msg_id, now),
-        Frame::PubAck { .. } => ack_in(alloc, config, replica, dialogs, from, frame, now),
-        Frame::PubRec { .. } => ack_in(alloc, config, replica, dialogs, from, frame, now),
-        Frame::PubComp { .. } => ack_in(alloc, config, replica, dialogs, from, frame, now),
-        Frame::RegAck { .. } => ack_in(alloc, config, replica, dialogs, from, frame, now),
+        Frame::PubAck { .. }
+        | Frame::PubRec { .. }
+        | Frame::PubComp { .. }
+        | Frame::RegAck { .. } => ack_in(alloc, config, replica, dialogs, from, frame, now),
         Frame::PingReq { client } => wake(
             alloc,
             config,

@@ -7,11 +7,15 @@ ghost use Rattle.rep_model.specs.Views.{view};
 ghost use Rattle.octets.specs.declared.client_id.TheConstants.{MAX_CLIENT_ID};
 ghost use Rattle.sn_local.specs.Seen.{seen_of};
 ghost use Rattle.sn_plan.specs.declared.row.Follow.TheVariants.{Delivery};
+ghost use Rattle.sn_session.specs.declared.change.SessionOp.TheVariants.{Presence as SetPresence};
+ghost use Rattle.sn_plan.specs.Bound.{bound_to};
+ghost use Rattle.sn_plan.specs.Drafts.{nothing, changed};
 ghost use Rattle.sn_plan.specs.Rows.{row_of};
 ghost use Rattle.sn_plan.specs.Rows as rows;
 ghost use Rattle.rep_op.specs.ClientIds.{IsClientId};
 ghost use Rattle.sn_deliver.specs.Waking as spec;
 
+use super::drafting::finished;
 use octets::NoMemory;
 use rep_model::{ClientView, Replica};
 use rep_ops::{ClientId, OpsFault, Put};
@@ -22,21 +26,42 @@ use sn_plan::{Draft, Follow, Row, bind_to, heard_row, turn_away, unseen, view_or
 use sn_session::{Presence, Session, SessionOp};
 use std::alloc::Global;
 
-/// The client is claimed: where another gateway owns it, it is taken over with the session as it
-/// is.
+/// The client is claimed and bound to an address: where another gateway owns it, it is taken over
+/// with the session as it is.
 fn claimed(
     alloc: Global,
     gateway: u8,
     view: &ClientView,
     session: &Session,
+    to: Addr,
+    client: &ClientId,
+    now: u64,
 ) -> Result<Draft, NoMemory>
-    ensures { IfOk result (λ draft. draft ≡ spec.claimed gateway view.now session.now) }
+    ensures { IfOk result (λ draft. draft ≡ bound_to to client.now now
+        (spec.claimed gateway view.now session.now)) }
 {
     let mut draft = Draft::new(alloc);
+    let done = write_claim(alloc, gateway, view, session, &mut draft);
+    let mut draft = finished(draft, done)?;
+    let done = bind_to(alloc, &mut draft, to, client, now);
+    finished(draft, done)
+}
+
+/// Claims the client in a draft of nothing.
+fn write_claim(
+    alloc: Global,
+    gateway: u8,
+    view: &ClientView,
+    session: &Session,
+    draft: &mut Draft,
+) -> Result<(), NoMemory>
+    requires { draft.old ≡ nothing }
+    ensures { OnOk result (draft.new ≡ spec.claimed gateway view.now session.now) }
+{
     if !is_stamp_of(gateway, view.stamp) {
         draft.change(SessionOp::Take(session.copied(alloc)?))?;
     }
-    Ok(draft)
+    Ok(())
 }
 
 /// Whether there is nothing for the client: no message waits, and no exchange is open.
@@ -56,6 +81,31 @@ fn answer(alloc: Global, to: Addr, draft: &mut Draft) -> Result<(), NoMemory>
     }
 }
 
+/// The draft, with PINGRESP.
+fn answered(alloc: Global, to: Addr, draft: Draft) -> Result<Draft, NoMemory>
+    ensures { IfOk result (λ made. made ≡ spec.answered to draft) }
+{
+    let mut draft = draft;
+    let done = answer(alloc, to, &mut draft);
+    finished(draft, done)
+}
+
+/// The draft, with another presence of the client.
+fn in_presence(session: &Session, presence: Presence, draft: Draft) -> Result<Draft, NoMemory>
+    ensures { IfOk result (λ made. made ≡ changed
+        (SetPresence presence session.now.duration) draft) }
+{
+    let mut draft = draft;
+    let duration = session.duration;
+    match draft.change(SessionOp::Presence { presence, duration }) {
+        Ok(()) => Ok(draft),
+        Err(_) => {
+            drop(draft);
+            Err(NoMemory)
+        }
+    }
+}
+
 /// A client that is Asleep wakes, where there is something for it.
 fn from_sleep(
     alloc: Global,
@@ -63,18 +113,15 @@ fn from_sleep(
     client: &ClientId,
     session: &Session,
     idle: bool,
-    mut draft: Draft,
+    draft: Draft,
 ) -> Result<Row, NoMemory>
     ensures { IfOk result (λ row. row ≡ spec.from_sleep to client.now session.now idle draft) }
 {
     if idle {
-        answer(alloc, to, &mut draft)?;
+        let draft = answered(alloc, to, draft)?;
         return Row::new(alloc, Follow::Nothing, client, draft);
     }
-    draft.change(SessionOp::Presence {
-        presence: Presence::Awake,
-        duration: session.duration,
-    })?;
+    let draft = in_presence(session, Presence::Awake, draft)?;
     Row::new(alloc, Follow::Resend, client, draft)
 }
 
@@ -85,31 +132,23 @@ fn from_wake(
     client: &ClientId,
     session: &Session,
     idle: bool,
-    mut draft: Draft,
+    draft: Draft,
 ) -> Result<Row, NoMemory>
     ensures { IfOk result (λ row. row ≡ spec.from_wake to client.now session.now idle draft) }
 {
     if !idle {
         return Row::new(alloc, Follow::Resend, client, draft);
     }
-    draft.change(SessionOp::Presence {
-        presence: Presence::Asleep,
-        duration: session.duration,
-    })?;
-    answer(alloc, to, &mut draft)?;
+    let draft = in_presence(session, Presence::Asleep, draft)?;
+    let draft = answered(alloc, to, draft)?;
     Row::new(alloc, Follow::Nothing, client, draft)
 }
 
 /// A client that is Active gets PINGRESP, and then what waits for it.
-fn from_activity(
-    alloc: Global,
-    to: Addr,
-    client: &ClientId,
-    mut draft: Draft,
-) -> Result<Row, NoMemory>
+fn from_activity(alloc: Global, to: Addr, client: &ClientId, draft: Draft) -> Result<Row, NoMemory>
     ensures { IfOk result (λ row. row ≡ row_of Delivery client.now (spec.answered to draft)) }
 {
-    answer(alloc, to, &mut draft)?;
+    let draft = answered(alloc, to, draft)?;
     Row::new(alloc, Follow::Delivery, client, draft)
 }
 
@@ -149,8 +188,7 @@ fn woken_view(
     match &view.session {
         None => turn_away(alloc, to),
         Some(session) => {
-            let mut draft = claimed(alloc, gateway, view, session)?;
-            bind_to(alloc, &mut draft, to, client, now)?;
+            let draft = claimed(alloc, gateway, view, session, to, client, now)?;
             let idle = has_nothing(session, view.pending.as_slice());
             woken_by(alloc, to, client, session, idle, draft)
         }

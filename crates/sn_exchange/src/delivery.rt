@@ -27,7 +27,7 @@ use std::alloc::Global;
 
 /// The id that a client is told for a topic, and the change that the session needs for it, if it
 /// needs one.
-#[derive(Debug, Drop)]
+#[derive(Drop)]
 pub struct ToldId {
     /// The topic id.
     pub id: u16,

@@ -17,7 +17,7 @@ use sn_topic::{Predefined, TopicName};
 use std::alloc::Global;
 
 /// How a topic is named: what the topic field holds, and the field.
-#[derive(Clone, Copy, Debug, PartialEq, Eq)]
+#[derive(Clone, Copy, PartialEq, Eq)]
 pub struct Form {
     /// How the topic is named: by a registered id, a predefined id, or its two octets.
     pub kind: TopicIdType,

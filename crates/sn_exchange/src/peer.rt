@@ -4,7 +4,7 @@ use rep_ops::ClientId;
 use sn_local::Addr;
 
 /// A client, the address that it speaks from, and the moment of the step in seconds.
-#[derive(Debug, Drop)]
+#[derive(Drop)]
 pub struct Peer {
     /// Where its frames go to.
     pub address: Addr,

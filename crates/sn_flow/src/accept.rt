@@ -2,10 +2,11 @@
 
 ghost use Rattle.std.specs.Prelude.{◌≡◌, IfOk, OnOk};
 ghost use Rattle.sn_local.specs.Seen.{seen_of};
-ghost use Rattle.sn_plan.specs.Drafts.{acked_all};
+ghost use Rattle.sn_plan.specs.Drafts.{acked_all, nothing};
 ghost use Rattle.sn_flow.specs.Accept.{cleared};
 ghost use Rattle.sn_flow.specs.Accept as spec;
 
+use super::drafting::finished;
 use octets::NoMemory;
 use rep_model::rep_ops::{ClientId, Put};
 use rep_model::{ClientView, Replica};
@@ -19,7 +20,7 @@ use std::alloc::Global;
 pub const MAX_CLIENTS: usize = 1024;
 
 /// What becomes of the will of a session.
-#[derive(Debug, Drop)]
+#[derive(Drop)]
 pub enum GivenWill {
     /// It stays.
     AsItIs,
@@ -110,16 +111,31 @@ pub fn accept(
 ) -> Result<Draft, NoMemory>
     ensures { IfOk result (λ draft. draft ≡ spec.accept request.now given view.now now) }
 {
-    let session = accepted(alloc, request, given, &view.session)?;
     let mut draft = Draft::new(alloc);
+    let done = write_accept(alloc, &mut draft, request, given, view, now);
+    finished(draft, done)
+}
+
+/// Writes that into a draft of nothing.
+fn write_accept(
+    alloc: Global,
+    draft: &mut Draft,
+    request: &Request,
+    given: GivenWill,
+    view: &ClientView,
+    now: u64,
+) -> Result<(), NoMemory>
+    requires { draft.old ≡ nothing }
+    ensures { OnOk result (draft.new ≡ spec.accept request.now given view.now now) }
+{
+    let session = accepted(alloc, request, given, &view.session)?;
     draft.change(SessionOp::Take(session))?;
-    clear(&mut draft, request.clean, view.pending.as_slice())?;
-    bind_to(alloc, &mut draft, request.address, &request.client, now)?;
+    clear(draft, request.clean, view.pending.as_slice())?;
+    bind_to(alloc, draft, request.address, &request.client, now)?;
     draft.note(LocalChange::EndDialog {
         address: request.address,
     })?;
-    draft.send(alloc, request.address, Frame::ConnAck { code: ACCEPTED })?;
-    Ok(draft)
+    draft.send(alloc, request.address, Frame::ConnAck { code: ACCEPTED })
 }
 
 /// Whether there is no room for the client.

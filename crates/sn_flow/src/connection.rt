@@ -1,14 +1,18 @@
 //! CONNECT and DISCONNECT (MQTT-SN 1.2 sections 6.2, 6.12 and 6.14).
 
-ghost use Rattle.std.specs.Prelude.{◌≡◌, Some, IfOk};
+ghost use Rattle.std.specs.Prelude.{◌≡◌, Some, IfOk, OnOk};
 ghost use Rattle.std.specs.Option.{option_copied};
 ghost use Rattle.rep_model.specs.Views.{view};
 ghost use Rattle.sn_local.specs.Seen.{seen_of};
+ghost use Rattle.sn_plan.specs.declared.row.Follow.TheVariants as follows;
 ghost use Rattle.sn_plan.specs.Bound.{session_of};
+ghost use Rattle.sn_plan.specs.Drafts.{nothing};
+ghost use Rattle.sn_plan.specs.Rows.{row_of};
 ghost use Rattle.sn_flow.specs.Connection.{has_bit};
 ghost use Rattle.sn_flow.specs.Connection as spec;
 
 use super::accept::{GivenWill, accept, has_no_room};
+use super::drafting::finished;
 use octets::NoMemory;
 use rep_model::rep_ops::ClientId;
 use rep_model::{ClientView, Replica};
@@ -84,16 +88,39 @@ fn refusal_of<R: Replica>(
 fn ask_topic(alloc: Global, request: Request, now: u64) -> Result<Draft, NoMemory>
     ensures { IfOk result (λ draft. draft ≡ spec.ask_topic request now) }
 {
+    let mut draft = Draft::new(alloc);
+    let done = write_ask_topic(alloc, &mut draft, request, now);
+    finished(draft, done)
+}
+
+/// Writes that into a draft of nothing.
+fn write_ask_topic(
+    alloc: Global,
+    draft: &mut Draft,
+    request: Request,
+    now: u64,
+) -> Result<(), NoMemory>
+    requires { draft.old ≡ nothing }
+    ensures { OnOk result (draft.new ≡ spec.ask_topic request now) }
+{
     let to = request.address;
     let dialog = WillDialog {
         request,
         begun: now,
         awaited: Awaited::Topic,
     };
-    let mut draft = Draft::new(alloc);
     draft.note(LocalChange::Ask { dialog })?;
-    draft.send(alloc, to, Frame::WillTopicReq)?;
-    Ok(draft)
+    draft.send(alloc, to, Frame::WillTopicReq)
+}
+
+/// A CONNECT with a will, which is not refused.
+fn asked(alloc: Global, request: Request, now: u64) -> Result<Row, NoMemory>
+    ensures { IfOk result (λ row. row ≡ row_of follows.Nothing request.client
+        (spec.ask_topic request now)) }
+{
+    let client = request.client.copied(alloc)?;
+    let draft = ask_topic(alloc, request, now)?;
+    Row::new(alloc, Follow::Nothing, &client, draft)
 }
 
 /// A CONNECT that is not refused.
@@ -106,14 +133,11 @@ fn welcomed(
 ) -> Result<Row, NoMemory>
     ensures { IfOk result (λ row. row ≡ spec.welcomed request will view.now now) }
 {
-    let client = request.client.copied(alloc)?;
     if will {
-        let draft = ask_topic(alloc, request, now)?;
-        Row::new(alloc, Follow::Nothing, &client, draft)
-    } else {
-        let draft = accept(alloc, &request, GivenWill::AsItIs, view, now)?;
-        Row::new(alloc, Follow::Resend, &client, draft)
+        return asked(alloc, request, now);
     }
+    let draft = accept(alloc, &request, GivenWill::AsItIs, view, now)?;
+    Row::new(alloc, Follow::Resend, &request.client, draft)
 }
 
 /// What a CONNECT does, but for the client that is bound so far.
@@ -154,11 +178,27 @@ pub fn connect<R: Replica>(
 {
     let refusal = refusal_of(alloc, replica, dialogs, from, client, flags, protocol)?;
     let request = request_of(alloc, from, flags, duration, client)?;
+    let row = connect_seen(alloc, replica, request, has_will(flags), now, refusal)?;
+    heard_row(alloc, dialogs.client_at(from), now, row)
+}
+
+/// What a CONNECT does for the client as it is seen.
+fn connect_seen<R: Replica>(
+    alloc: Global,
+    replica: &R,
+    request: Request,
+    will: bool,
+    now: u64,
+    refusal: Option<u8>,
+) -> Result<Row, NoMemory>
+    ensures { IfOk result (λ row. row ≡ spec.connect_row request will
+        ((seen_of (R.kept replica.now)).of request.client) now refusal) }
+{
     let unseen = unseen(alloc);
-    let view = view_or(replica, client, &unseen);
-    let row = connect_row(alloc, request, has_will(flags), view, now, refusal);
+    let view = view_or(replica, &request.client, &unseen);
+    let row = connect_row(alloc, request, will, view, now, refusal);
     drop(unseen);
-    heard_row(alloc, dialogs.client_at(from), now, row?)
+    row
 }
 
 /// The client says good-bye: its session stays as it is.
@@ -166,6 +206,21 @@ fn leave(alloc: Global, to: Addr, client: &ClientId, session: &Session) -> Resul
     ensures { IfOk result (λ draft. draft ≡ spec.leave to client.now session.now) }
 {
     let mut draft = Draft::new(alloc);
+    let done = write_leave(alloc, &mut draft, to, client, session);
+    finished(draft, done)
+}
+
+/// Writes that into a draft of nothing.
+fn write_leave(
+    alloc: Global,
+    draft: &mut Draft,
+    to: Addr,
+    client: &ClientId,
+    session: &Session,
+) -> Result<(), NoMemory>
+    requires { draft.old ≡ nothing }
+    ensures { OnOk result (draft.new ≡ spec.leave to client.now session.now) }
+{
     draft.change(SessionOp::Presence {
         presence: Presence::Disconnected,
         duration: session.duration,
@@ -173,8 +228,7 @@ fn leave(alloc: Global, to: Addr, client: &ClientId, session: &Session) -> Resul
     draft.note(LocalChange::Unbind {
         client: client.copied(alloc)?,
     })?;
-    draft.send(alloc, to, Frame::Disconnect { duration: None })?;
-    Ok(draft)
+    draft.send(alloc, to, Frame::Disconnect { duration: None })
 }
 
 /// The client falls asleep for a duration, and keeps its address.
@@ -182,12 +236,20 @@ fn fall_asleep(alloc: Global, to: Addr, duration: u16) -> Result<Draft, NoMemory
     ensures { IfOk result (λ draft. draft ≡ spec.fall_asleep to duration) }
 {
     let mut draft = Draft::new(alloc);
+    let done = write_sleep(alloc, &mut draft, to, duration);
+    finished(draft, done)
+}
+
+/// Writes that into a draft of nothing.
+fn write_sleep(alloc: Global, draft: &mut Draft, to: Addr, duration: u16) -> Result<(), NoMemory>
+    requires { draft.old ≡ nothing }
+    ensures { OnOk result (draft.new ≡ spec.fall_asleep to duration) }
+{
     draft.change(SessionOp::Presence {
         presence: Presence::Asleep,
         duration,
     })?;
-    draft.send(alloc, to, Frame::Disconnect { duration: None })?;
-    Ok(draft)
+    draft.send(alloc, to, Frame::Disconnect { duration: None })
 }
 
 /// What a DISCONNECT of a client with this session does, before its operations have names.

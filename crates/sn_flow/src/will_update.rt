@@ -1,10 +1,15 @@
 //! WILLTOPICUPD and WILLMSGUPD (MQTT-SN 1.2 section 6.4).
 
-ghost use Rattle.std.specs.Prelude.{◌≡◌, IfOk, if◌then◌else◌, None, Some};
+ghost use Rattle.std.specs.Prelude.{◌≡◌, ◌≤◌, IfOk, OnOk, if◌then◌else◌, None, Some};
+ghost use Rattle.sn_frame.specs.declared.frame.TheConstants.{MAX_FRAME};
+ghost use Rattle.sn_frame.specs.Bodies.{IsMessage};
+ghost use Rattle.sn_frame.specs.Grammar.{total_of};
+ghost use Rattle.sn_plan.specs.Drafts.{nothing, changed, sent};
 ghost use Rattle.sn_flow.specs.Connection.{has_bit};
 ghost use Rattle.sn_flow.specs.WillUpdate.{topic_accepted, topic_set, message_accepted};
 ghost use Rattle.sn_flow.specs.WillUpdate as spec;
 
+use super::drafting::finished;
 use octets::{NoMemory, Octets};
 use sn_frame::{Flags, Frame, Will};
 use sn_local::Addr;
@@ -44,9 +49,29 @@ fn accept_topic(alloc: Global, to: Addr, topic: Option<WillTopic>) -> Result<Dra
     ensures { IfOk result (λ draft. draft ≡ topic_accepted to topic) }
 {
     let mut draft = Draft::new(alloc);
-    draft.change(SessionOp::WillTopic(topic))?;
-    draft.send(alloc, to, Frame::WillTopicResp { code: ACCEPTED })?;
-    Ok(draft)
+    let answer = Frame::WillTopicResp { code: ACCEPTED };
+    let done = write_change(alloc, &mut draft, to, SessionOp::WillTopic(topic), answer);
+    finished(draft, done)
+}
+
+/// Writes a change and its answer into a draft of nothing.
+fn write_change(
+    alloc: Global,
+    draft: &mut Draft,
+    to: Addr,
+    change: SessionOp,
+    answer: Frame,
+) -> Result<(), NoMemory>
+    requires nothing { draft.old ≡ nothing }
+    requires message { IsMessage answer }
+    requires size { total_of answer ≤ MAX_FRAME }
+    ensures { OnOk result (draft.new ≡ sent to answer (changed change nothing)) }
+{
+    if draft.change(change).is_err() {
+        drop(answer);
+        return Err(NoMemory);
+    }
+    draft.send(alloc, to, answer)
 }
 
 /// Gives the will this topic; refuses where there is none.
@@ -95,9 +120,9 @@ fn accept_message(alloc: Global, to: Addr, message: Message) -> Result<Draft, No
     ensures { IfOk result (λ draft. draft ≡ message_accepted to message) }
 {
     let mut draft = Draft::new(alloc);
-    draft.change(SessionOp::WillMsg(message))?;
-    draft.send(alloc, to, Frame::WillMsgResp { code: ACCEPTED })?;
-    Ok(draft)
+    let answer = Frame::WillMsgResp { code: ACCEPTED };
+    let done = write_change(alloc, &mut draft, to, SessionOp::WillMsg(message), answer);
+    finished(draft, done)
 }
 
 /// WILLMSGUPD: the client gives its will another message. WILLMSGRESP says whether it is done: a

@@ -1,13 +1,18 @@
 //! WILLTOPIC and WILLMSG (MQTT-SN 1.2 sections 6.2 and 6.3), and their updates of a bound client
 //! (section 6.4).
 
-ghost use Rattle.std.specs.Prelude.{◌≡◌, Some, IfOk};
+ghost use Rattle.std.specs.Prelude.{◌≡◌, Some, IfOk, OnOk};
 ghost use Rattle.std.specs.Option.{option_copied};
+ghost use Rattle.sn_frame.specs.declared.frame.Frame.TheVariants as frames;
+ghost use Rattle.sn_local.specs.declared.local.Awaited.TheVariants as waits;
+ghost use Rattle.sn_local.specs.declared.local.LocalChange.TheVariants.{Ask, EndDialog};
 ghost use Rattle.sn_local.specs.Seen.{seen_of};
+ghost use Rattle.sn_plan.specs.Drafts.{nothing, sent, moved};
 ghost use Rattle.sn_flow.specs.Wills.{dismissed, topic_update_of, message_update_of};
 ghost use Rattle.sn_flow.specs.Wills as spec;
 
 use super::accept::{GivenWill, accept, has_no_room};
+use super::drafting::finished;
 use super::will_update::{
     topic_asked, will_msg_update as draft_message, will_topic_update as draft_topic,
 };
@@ -27,11 +32,20 @@ use std::alloc::Global;
 fn dismiss(alloc: Global, request: &Request, code: u8) -> Result<Row, NoMemory>
     ensures { IfOk result (λ row. row ≡ dismissed request.now code) }
 {
-    let to = request.address;
     let mut draft = Draft::new(alloc);
-    draft.note(LocalChange::EndDialog { address: to })?;
-    draft.send(alloc, to, Frame::ConnAck { code })?;
+    let done = write_dismiss(alloc, &mut draft, request.address, code);
+    let draft = finished(draft, done)?;
     Row::new(alloc, Follow::Nothing, &request.client, draft)
+}
+
+/// Writes that into a draft of nothing.
+fn write_dismiss(alloc: Global, draft: &mut Draft, to: Addr, code: u8) -> Result<(), NoMemory>
+    requires { draft.old ≡ nothing }
+    ensures { OnOk result (draft.new
+        ≡ sent to (frames.ConnAck code) (moved (EndDialog to) nothing)) }
+{
+    draft.note(LocalChange::EndDialog { address: to })?;
+    draft.send(alloc, to, Frame::ConnAck { code })
 }
 
 /// Ends a dialog with a connection, if there is room for the client still.
@@ -59,16 +73,30 @@ fn concluded<R: Replica>(
 fn ask_message(alloc: Global, dialog: &WillDialog, topic: WillTopic) -> Result<Row, NoMemory>
     ensures { IfOk result (λ row. row ≡ spec.ask_message dialog.now topic) }
 {
-    let to = dialog.request.address;
+    let mut draft = Draft::new(alloc);
+    let done = write_ask_message(alloc, &mut draft, dialog, topic);
+    let draft = finished(draft, done)?;
+    Row::new(alloc, Follow::Nothing, &dialog.request.client, draft)
+}
+
+/// Writes that into a draft of nothing.
+fn write_ask_message(
+    alloc: Global,
+    draft: &mut Draft,
+    dialog: &WillDialog,
+    topic: WillTopic,
+) -> Result<(), NoMemory>
+    requires { draft.old ≡ nothing }
+    ensures { OnOk result (draft.new ≡ sent dialog.now.request.address frames.WillMsgReq
+        (moved (Ask (record dialog.now { awaited = waits.Message topic })) nothing)) }
+{
     let goes_on = WillDialog {
         request: dialog.request.copied(alloc)?,
         begun: dialog.begun,
         awaited: Awaited::Message(topic),
     };
-    let mut draft = Draft::new(alloc);
     draft.note(LocalChange::Ask { dialog: goes_on })?;
-    draft.send(alloc, to, Frame::WillMsgReq)?;
-    Row::new(alloc, Follow::Nothing, &dialog.request.client, draft)
+    draft.send(alloc, dialog.request.address, Frame::WillMsgReq)
 }
 
 /// Goes on with this topic; ends the dialog where there is none.

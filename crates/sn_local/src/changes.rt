@@ -41,14 +41,29 @@ fn commit_one(
     match change {
         LocalChange::Bind { address, client } => bind(bindings, address, client),
         LocalChange::Unbind { client } => unbind(bindings, &client),
+        LocalChange::Ask { dialog } => ask(dialogs, dialog),
+        LocalChange::EndDialog { address } => end_dialog(dialogs, address),
+        LocalChange::Advertised { moment } => *advertised = Some(moment),
+        timed => commit_timed(timers, timed),
+    }
+}
+
+/// Carries out one change of the timers; others change none. There is room for one more timer.
+fn commit_timed(timers: &mut Vec<Timer>, change: LocalChange)
+    requires room { vec_len timers.old + 1 ≤ vec_capacity timers.old }
+    requires order { AreTimers timers.old.items }
+    ensures timers { timers.new.items ≡ timer_change timers.old.items change }
+    ensures order { AreTimers timers.new.items }
+    ensures capacity { vec_capacity timers.old ≤ vec_capacity timers.new }
+    ensures len { vec_len timers.new ≤ vec_len timers.old + 1 }
+{
+    match change {
         LocalChange::Time { timer } => set_timer(timers, timer),
         LocalChange::Heard { client, moment } => hear(timers, client, moment),
         LocalChange::Sent { client, moment } => send_anew(timers, client, moment),
         LocalChange::Resent { client, moment } => send_again(timers, client, moment),
         LocalChange::Retried { client, moment } => try_again(timers, client, moment),
-        LocalChange::Ask { dialog } => ask(dialogs, dialog),
-        LocalChange::EndDialog { address } => end_dialog(dialogs, address),
-        LocalChange::Advertised { moment } => *advertised = Some(moment),
+        other => drop(other),
     }
 }
 

@@ -6,7 +6,7 @@ use sn_topic::Predefined;
 use std::alloc::Global;
 
 /// An address of the transport below: a host and a port. Addresses are ordered by host, then port.
-#[derive(Clone, Copy, Debug, PartialEq, Eq, PartialOrd, Ord)]
+#[derive(Clone, Copy, PartialEq, Eq, PartialOrd, Ord)]
 pub struct Addr {
     /// The IPv4 address, its first octet the highest.
     pub host: u32,
@@ -15,7 +15,7 @@ pub struct Addr {
 }
 
 /// What a gateway is told when it starts.
-#[derive(Debug, Drop)]
+#[derive(Drop)]
 pub struct Config {
     /// Its number, 1 to 255; no other gateway of the field has it.
     pub gateway: u8,
@@ -56,7 +56,7 @@ impl Config {
 }
 
 /// A datagram to be sent.
-#[derive(Debug, Drop, PartialEq, Eq)]
+#[derive(Drop, PartialEq, Eq)]
 pub struct Send {
     /// Where the datagram goes to.
     pub to: Addr,

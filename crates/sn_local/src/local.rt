@@ -16,7 +16,7 @@ use std::alloc::{AllocError, Global};
 use std::marker::Model;
 
 /// An address and the client that speaks from it.
-#[derive(Debug, Drop)]
+#[derive(Drop)]
 pub struct Binding {
     /// Where the client is reached.
     pub address: Addr,
@@ -25,7 +25,7 @@ pub struct Binding {
 }
 
 /// What a will dialog waits for.
-#[derive(Debug, Drop)]
+#[derive(Drop)]
 pub enum Awaited {
     /// The topic of the will.
     Topic,
@@ -34,7 +34,7 @@ pub enum Awaited {
 }
 
 /// What a CONNECT asks for.
-#[derive(Debug, Drop)]
+#[derive(Drop)]
 pub struct Request {
     /// Where it came from.
     pub address: Addr,
@@ -62,7 +62,7 @@ impl Request {
 
 /// A CONNECT with a will that is not accepted yet: the client is asked for its will first (MQTT-SN
 /// 1.2 section 6.2).
-#[derive(Debug, Drop)]
+#[derive(Drop)]
 pub struct WillDialog {
     /// What the CONNECT asks for.
     pub request: Request,
@@ -73,7 +73,7 @@ pub struct WillDialog {
 }
 
 /// The moments of a client, in seconds.
-#[derive(Debug, Drop)]
+#[derive(Drop)]
 pub struct Timer {
     /// The client.
     pub client: ClientId,
@@ -86,7 +86,7 @@ pub struct Timer {
 }
 
 /// A change of a gateway's local state.
-#[derive(Debug, Drop)]
+#[derive(Drop)]
 pub enum LocalChange {
     /// From now on the address and the client belong together, and neither to another.
     Bind { address: Addr, client: ClientId },
@@ -115,7 +115,7 @@ pub enum LocalChange {
 /// awaited, when which client was heard of, and when the gateway advertised itself. It begins
 /// empty, and is gone when the gateway stops. The bindings ascend by address, and no client has
 /// two; the timers ascend by client.
-#[derive(Debug, Drop)]
+#[derive(Drop)]
 pub struct Dialogs {
     bindings: Vec<Binding>,
     dialogs: Vec<WillDialog>,

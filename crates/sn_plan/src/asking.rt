@@ -14,7 +14,7 @@ use sn_topic::{Filter, Predefined, TopicFault, TopicName};
 use std::alloc::Global;
 
 /// What a SUBSCRIBE or UNSUBSCRIBE asks for.
-#[derive(Debug, Drop)]
+#[derive(Drop)]
 pub enum Asked {
     /// The topics that this filter asks for.
     Topics(Filter),

@@ -18,7 +18,7 @@ use std::marker::Model;
 use std::mem;
 
 /// A message for a client, before it has a sequence number.
-#[derive(Debug, Drop)]
+#[derive(Drop)]
 pub struct NewPut {
     /// Whom it is for.
     pub client: ClientId,
@@ -31,7 +31,7 @@ pub struct NewPut {
 }
 
 /// What is posted to a topic: for whoever subscribes later, or handed to one that subscribes.
-#[derive(Debug, Drop)]
+#[derive(Drop)]
 pub struct Posted {
     /// The name that it is published under.
     pub topic: TopicName,
@@ -42,7 +42,7 @@ pub struct Posted {
 }
 
 /// What a step does, before its operations have names. Contracts see its parts (`Drafted`).
-#[derive(Debug, Drop)]
+#[derive(Drop)]
 pub struct Draft {
     pub(crate) changes: Vec<SessionOp>,
     pub(crate) acks: Vec<(u64, u8)>,

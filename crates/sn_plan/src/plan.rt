@@ -19,7 +19,7 @@ use sn_local::{LocalChange, Send, StepFault};
 use std::alloc::Global;
 
 /// What a step does. Nothing of it is done yet.
-#[derive(Debug, Drop)]
+#[derive(Drop)]
 pub struct Plan {
     /// The operations, under names that no operation has had.
     pub ops: Sequence<Op>,

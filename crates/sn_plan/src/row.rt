@@ -18,7 +18,7 @@ use sn_local::{Addr, StepFault};
 use std::alloc::Global;
 
 /// What follows a row.
-#[derive(Debug, Drop)]
+#[derive(Drop)]
 pub enum Follow {
     /// Nothing.
     Nothing,
@@ -30,7 +30,7 @@ pub enum Follow {
 }
 
 /// What a frame does, before its operations have names.
-#[derive(Debug, Drop)]
+#[derive(Drop)]
 pub struct Row {
     /// Whose session changes, and who is served by what follows. Where it is nobody the draft has
     /// what is retained, messages, frames and local changes alone.

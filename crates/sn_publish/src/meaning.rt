@@ -15,7 +15,7 @@ use sn_topic::{Predefined, TopicName};
 use std::alloc::Global;
 
 /// What a PUBLISH is about.
-#[derive(Debug, Drop)]
+#[derive(Drop)]
 pub enum Meant {
     /// This topic.
     Topic(TopicName),

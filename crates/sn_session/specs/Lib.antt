@@ -1,3 +1,4 @@
 pub mod Messages
 pub mod Wills
 pub mod Session
+pub mod inner

@@ -2,6 +2,7 @@
 
 ghost use Rattle.std.specs.Prelude.{◌≡◌, ◌↔◌, false, IfOk, OnOk, OnErr, IsErrOf, IsTrue};
 ghost use Rattle.sn_session.specs.Session.{applied};
+ghost use Rattle.sn_session.specs.inner.Holding.{holds_octets};
 ghost use Rattle.sn_session.specs.Session as spec;
 
 use super::message::Message;
@@ -15,7 +16,7 @@ use sn_tables::{QosLevel, SessionFault};
 use std::alloc::Global;
 
 /// A change of a session.
-#[derive(Debug, Drop, PartialEq, Eq)]
+#[derive(Drop, PartialEq, Eq)]
 pub enum SessionOp {
     /// A gateway takes the client over, with this session.
     Take(Session),
@@ -73,10 +74,6 @@ impl SessionOp {
     {
         match self {
             SessionOp::Take(taken) => Ok(SessionOp::Take(taken.copied(alloc)?)),
-            SessionOp::Presence { presence, duration } => Ok(SessionOp::Presence {
-                presence: *presence,
-                duration: *duration,
-            }),
             SessionOp::Register { id, name, known } => Ok(SessionOp::Register {
                 id: *id,
                 name: name.copied(alloc)?,
@@ -89,17 +86,31 @@ impl SessionOp {
             SessionOp::Unsubscribe { filter } => Ok(SessionOp::Unsubscribe {
                 filter: filter.copied(alloc)?,
             }),
-            SessionOp::WillTopic(None) => Ok(SessionOp::WillTopic(None)),
             SessionOp::WillTopic(Some(asked)) => Ok(SessionOp::WillTopic(Some(asked.copied(
                 alloc,
             )?))),
             SessionOp::WillMsg(message) => Ok(SessionOp::WillMsg(message.copied(alloc)?)),
-            SessionOp::Received { id } => Ok(SessionOp::Received { id: *id }),
-            SessionOp::Released { id } => Ok(SessionOp::Released { id: *id }),
-            SessionOp::Outbound { exchange, next_id } => Ok(SessionOp::Outbound {
+            _ => Ok(self.light_copied()),
+        }
+    }
+
+    /// An equal operation, of one that holds no octets.
+    fn light_copied(&self) -> SessionOp
+        requires { holds_octets self.now ≡ false }
+        ensures { result ≡ self.now }
+    {
+        match self {
+            SessionOp::Presence { presence, duration } => SessionOp::Presence {
+                presence: *presence,
+                duration: *duration,
+            },
+            SessionOp::Received { id } => SessionOp::Received { id: *id },
+            SessionOp::Released { id } => SessionOp::Released { id: *id },
+            SessionOp::Outbound { exchange, next_id } => SessionOp::Outbound {
                 exchange: *exchange,
                 next_id: *next_id,
-            }),
+            },
+            _ => SessionOp::WillTopic(None),
         }
     }
 }
@@ -138,29 +149,35 @@ impl Session {
                 *self = taken.copied(alloc)?;
                 Ok(())
             }
-            SessionOp::Presence { presence, duration } => {
-                self.presence = *presence;
-                self.duration = *duration;
-                Ok(())
-            }
             SessionOp::Register { id, name, known } => self.topics.set(alloc, *id, name, *known),
             SessionOp::Subscribe { filter, qos } => self.subscriptions.set(alloc, filter, *qos),
-            SessionOp::Unsubscribe { filter } => {
-                self.subscriptions.remove(filter);
-                Ok(())
-            }
             SessionOp::WillTopic(asked) => Ok(set_topic(&mut self.will, alloc, asked)?),
             SessionOp::WillMsg(message) => Ok(set_message(&mut self.will, alloc, message)?),
             SessionOp::Received { id } => self.received.add(*id),
-            SessionOp::Released { id } => {
-                self.received.remove(*id);
+            _ => {
+                self.apply_light(change);
                 Ok(())
             }
+        }
+    }
+
+    /// Changes the session by one operation that puts no octets and no entry into it.
+    fn apply_light(&mut self, change: &SessionOp)
+        requires { IsTrue (spec.is_light change.now) }
+        ensures { self.new ≡ applied self.old change.now }
+    {
+        match change {
+            SessionOp::Presence { presence, duration } => {
+                self.presence = *presence;
+                self.duration = *duration;
+            }
+            SessionOp::Unsubscribe { filter } => self.subscriptions.remove(filter),
+            SessionOp::Released { id } => self.received.remove(*id),
             SessionOp::Outbound { exchange, next_id } => {
                 self.outbound = *exchange;
                 self.next_id = *next_id;
-                Ok(())
             }
+            _ => self.will = None,
         }
     }
 }

@@ -12,7 +12,7 @@ use std::marker::Model;
 pub const MAX_MESSAGE: usize = 4096;
 
 /// What a message says: at most 4,096 octets, which copies share. Contracts see the list of them.
-#[derive(Debug, Drop)]
+#[derive(Drop)]
 pub struct Message {
     octets: Octets,
 }

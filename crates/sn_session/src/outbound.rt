@@ -1,7 +1,7 @@
 //! The exchange by which a gateway hands one message to a client.
 
 /// How far an exchange is.
-#[derive(Clone, Copy, Debug, PartialEq, Eq)]
+#[derive(Clone, Copy, PartialEq, Eq)]
 pub enum Phase {
     /// The topic's id was sent by a REGISTER and waits for its REGACK.
     Registering,
@@ -12,7 +12,7 @@ pub enum Phase {
 }
 
 /// The exchange that a gateway has begun with a client; it has one at a time.
-#[derive(Clone, Copy, Debug, PartialEq, Eq)]
+#[derive(Clone, Copy, PartialEq, Eq)]
 pub struct Outbound {
     /// The gateway that the message came from.
     pub origin: u8,

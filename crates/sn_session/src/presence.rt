@@ -1,7 +1,7 @@
 //! Where a client is.
 
 /// Where a client is (MQTT-SN 1.2 section 6.14).
-#[derive(Clone, Copy, Debug, PartialEq, Eq)]
+#[derive(Clone, Copy, PartialEq, Eq)]
 pub enum Presence {
     /// It is connected and its messages are sent to it.
     Active,

@@ -17,7 +17,7 @@ use sn_tables::{QosLevel, Received, SessionFault, Subscriptions, TopicEntry, Top
 use std::alloc::Global;
 
 /// What a gateway knows of a client.
-#[derive(Debug, Drop, PartialEq, Eq)]
+#[derive(Drop, PartialEq, Eq)]
 pub struct Session {
     /// Where the client is.
     pub presence: Presence,
@@ -116,10 +116,6 @@ impl Session {
     pub fn copied(&self, alloc: Global) -> Result<Session, NoMemory>
         ensures { IfOk result (λ made. made ≡ self.now) }
     {
-        let will = match &self.will {
-            None => None,
-            Some(will) => Some(will.copied(alloc)?),
-        };
         Ok(Session {
             presence: self.presence,
             clean: self.clean,
@@ -127,8 +123,8 @@ impl Session {
             next_id: self.next_id,
             topics: self.topics.copied(alloc)?,
             subscriptions: self.subscriptions.copied(alloc)?,
-            will,
             received: self.received.copied(alloc)?,
+            will: copied_will(&self.will, alloc)?,
             outbound: self.outbound,
         })
     }
@@ -139,5 +135,15 @@ impl Session {
         ensures err { IfErr result (λ fault. fault ≡ SessionFault.Memory) }
     {
         Ok(self.copied(alloc)?)
+    }
+}
+
+/// An equal will, if there is one.
+fn copied_will(will: &Option<Will>, alloc: Global) -> Result<Option<Will>, NoMemory>
+    ensures { IfOk result (λ made. made ≡ will.now) }
+{
+    match will {
+        None => Ok(None),
+        Some(will) => Ok(Some(will.copied(alloc)?)),
     }
 }

@@ -1,6 +1,6 @@
 //! The will of a client: what is published when the client is lost (MQTT-SN 1.2 section 6.3).
 
-ghost use Rattle.std.specs.Prelude.{◌≡◌, false, IfOk, OnOk, OnErr, is_none};
+ghost use Rattle.std.specs.Prelude.{◌≡◌, false, IfOk, OnOk, OnErr, is_none, Some, None};
 ghost use Rattle.sn_session.specs.Wills.{with_will_topic, with_will_message};
 
 use super::message::Message;
@@ -10,7 +10,7 @@ use sn_tables::sn_topic::TopicName;
 use std::alloc::Global;
 
 /// What a client says of its will by WILLTOPIC or WILLTOPICUPD.
-#[derive(Debug, Drop, PartialEq, Eq)]
+#[derive(Drop, PartialEq, Eq)]
 pub struct WillTopic {
     /// Where the will is published.
     pub topic: TopicName,
@@ -21,7 +21,7 @@ pub struct WillTopic {
 }
 
 /// A will.
-#[derive(Debug, Drop, PartialEq, Eq)]
+#[derive(Drop, PartialEq, Eq)]
 pub struct Will {
     /// Where it is published.
     pub topic: TopicName,
@@ -42,6 +42,18 @@ impl WillTopic {
             topic: self.topic.copied(alloc)?,
             qos: self.qos,
             retain: self.retain,
+        })
+    }
+
+    /// The will with this topic and an empty message.
+    fn new_will(&self, alloc: Global) -> Result<Will, NoMemory>
+        ensures { IfOk result (λ made. Some made ≡ with_will_topic (Some self.now) None) }
+    {
+        Ok(Will {
+            topic: self.topic.copied(alloc)?,
+            qos: self.qos,
+            retain: self.retain,
+            message: Message::empty(alloc)?,
         })
     }
 }
@@ -75,18 +87,10 @@ pub fn set_topic(
         *will = None;
         return Ok(());
     };
-    let topic = asked.topic.copied(alloc)?;
     match will {
-        None => {
-            *will = Some(Will {
-                topic,
-                qos: asked.qos,
-                retain: asked.retain,
-                message: Message::empty(alloc)?,
-            });
-        }
+        None => *will = Some(asked.new_will(alloc)?),
         Some(will) => {
-            will.topic = topic;
+            will.topic = asked.topic.copied(alloc)?;
             will.qos = asked.qos;
             will.retain = asked.retain;
         }

@@ -6,8 +6,10 @@
 //! - `topic_rows`: REGISTER, SUBSCRIBE and UNSUBSCRIBE, of whoever sends them.
 //! - `registration`, `subscription`: the same of a bound client, as drafts.
 //! - `handing`: what a subscriber is handed of what is retained.
+//! - `drafting`: drafts that are written in one go.
 #![tactic(auto)]
 
+mod drafting;
 mod handing;
 mod registration;
 mod subscription;

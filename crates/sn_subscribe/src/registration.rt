@@ -5,6 +5,7 @@ ghost use Rattle.sn_frame.specs.declared.frame.Frame.TheVariants.{RegAck};
 ghost use Rattle.sn_plan.specs.Drafts.{nothing, sent};
 ghost use Rattle.sn_subscribe.specs.Registration as spec;
 
+use super::drafting::answered;
 use octets::NoMemory;
 use sn_frame::Frame;
 use sn_local::Addr;
@@ -15,7 +16,7 @@ use sn_topic::TopicName;
 use std::alloc::Global;
 
 /// The topic id of a name, and the change that the session needs for it, if it needs one.
-#[derive(Debug, Drop)]
+#[derive(Drop)]
 pub struct NamedId {
     /// The topic id.
     pub id: u16,
@@ -81,15 +82,13 @@ fn registered(
     match named {
         None => refuse(alloc, to, msg_id, CONGESTION),
         Some(named) => {
-            let mut draft = Draft::new(alloc);
-            draft.change_if(named.change)?;
+            let NamedId { id, change } = named;
             let answer = Frame::RegAck {
-                topic_id: named.id,
+                topic_id: id,
                 msg_id,
                 code: ACCEPTED,
             };
-            draft.send(alloc, to, answer)?;
-            Ok(draft)
+            answered(alloc, to, change, answer)
         }
     }
 }

@@ -1,12 +1,13 @@
 //! SUBSCRIBE and UNSUBSCRIBE (MQTT-SN 1.2 section 6.9).
 
-ghost use Rattle.std.specs.Prelude.{◌≡◌, Some, IfOk};
+ghost use Rattle.std.specs.Prelude.{◌≡◌, Some, IfOk, OnOk};
 ghost use Rattle.sn_frame.specs.FlagBits.{kind_of};
 ghost use Rattle.sn_local.specs.Seen.{seen_of};
-ghost use Rattle.sn_plan.specs.Drafts.{nothing, sent};
+ghost use Rattle.sn_plan.specs.Drafts.{nothing, hand_all, sent};
 ghost use Rattle.sn_subscribe.specs.Subscription.{refused};
 ghost use Rattle.sn_subscribe.specs.Subscription as spec;
 
+use super::drafting::{answered, finished};
 use super::handing::handed_for;
 use super::registration::{NamedId, id_for};
 use octets::NoMemory;
@@ -14,7 +15,8 @@ use rep_model::Replica;
 use sn_frame::{Flags, Frame, TopicIdType};
 use sn_local::Addr;
 use sn_plan::{
-    ACCEPTED, Asked, CONGESTION, Draft, NOT_SUPPORTED, id_in, name_asked, qos_asked, topics_asked,
+    ACCEPTED, Asked, CONGESTION, Draft, NOT_SUPPORTED, Posted, id_in, name_asked, qos_asked,
+    topics_asked,
 };
 use sn_session::{Session, SessionOp};
 use sn_tables::QosLevel;
@@ -110,12 +112,34 @@ fn granted(
     ensures { IfOk result (λ draft. draft ≡ spec.granted to session.now flags.bits msg_id filter
         qos named) }
 {
-    let before = session.subscription(&filter);
     let mut draft = Draft::new(alloc);
-    draft.change_if(named.change)?;
+    let done = write_granted(
+        alloc, &mut draft, to, session, flags, msg_id, filter, qos, named,
+    );
+    finished(draft, done)
+}
+
+/// Writes that into a draft of nothing.
+fn write_granted(
+    alloc: Global,
+    draft: &mut Draft,
+    to: Addr,
+    session: &Session,
+    flags: Flags,
+    msg_id: u16,
+    filter: Filter,
+    qos: QosLevel,
+    named: NamedId,
+) -> Result<(), NoMemory>
+    requires { draft.old ≡ nothing }
+    ensures { OnOk result (draft.new ≡ spec.granted to session.now flags.bits msg_id filter
+        qos named) }
+{
+    let NamedId { id, change } = named;
+    let before = session.subscription(&filter);
+    draft.change_if(change)?;
     draft.change_if(subscribe_change(filter, qos, before))?;
-    draft.send(alloc, to, suback(flags, named.id, msg_id, ACCEPTED))?;
-    Ok(draft)
+    draft.send(alloc, to, suback(flags, id, msg_id, ACCEPTED))
 }
 
 /// Answers with that id, and hands the client what is retained.
@@ -142,15 +166,27 @@ fn granted_and_handed<R: Replica>(
             return Err(NoMemory);
         }
     };
-    let mut draft = match granted(alloc, to, session, flags, msg_id, filter, qos, named) {
-        Ok(draft) => draft,
+    match granted(alloc, to, session, flags, msg_id, filter, qos, named) {
+        Ok(draft) => hand(draft, handed),
         Err(_) => {
             drop(handed);
-            return Err(NoMemory);
+            Err(NoMemory)
         }
-    };
-    draft.hand_all(handed)?;
-    Ok(draft)
+    }
+}
+
+/// And then hands the client this.
+fn hand(draft: Draft, handed: Vec<Posted>) -> Result<Draft, NoMemory>
+    ensures { IfOk result (λ made. made ≡ hand_all handed.items draft) }
+{
+    let mut draft = draft;
+    match draft.hand_all(handed) {
+        Ok(()) => Ok(draft),
+        Err(_) => {
+            drop(draft);
+            Err(NoMemory)
+        }
+    }
 }
 
 /// Answers with that id, if there is one.
@@ -288,8 +324,6 @@ pub fn unsubscribe(
         flags.bits msg_id field.now) }
 {
     let asked = topics_asked(alloc, predefined, flags.kind(), field)?;
-    let mut draft = Draft::new(alloc);
-    draft.change_if(unsubscribe_asked(session, asked))?;
-    draft.send(alloc, to, Frame::UnsubAck { msg_id })?;
-    Ok(draft)
+    let change = unsubscribe_asked(session, asked);
+    answered(alloc, to, change, Frame::UnsubAck { msg_id })
 }

@@ -7,7 +7,7 @@ use std::marker::Model;
 
 /// A level of quality of service (MQTT-SN 1.2 section 5.3.4): 0 is at most once, 1 at least once, 2
 /// exactly once. Contracts see the number.
-#[derive(Clone, Copy, Debug)]
+#[derive(Clone, Copy)]
 pub struct QosLevel {
     number: u8,
 }

@@ -15,7 +15,7 @@ use std::alloc::Global;
 use std::marker::Model;
 
 /// Message ids: at most 256, strictly ascending. Contracts see the list of them.
-#[derive(Debug, Drop)]
+#[derive(Drop)]
 pub struct Received {
     ids: Vec<u16>,
 }

@@ -20,7 +20,7 @@ use std::cmp::Ordering;
 use std::marker::Model;
 
 /// What a client asked for.
-#[derive(Debug, Drop)]
+#[derive(Drop)]
 pub struct Subscription {
     /// Which topics.
     pub filter: Filter,
@@ -42,7 +42,7 @@ impl Subscription {
 
 /// The subscriptions of a session: at most 256, strictly ascending by the octets of their filters.
 /// Contracts see the list of them.
-#[derive(Debug, Drop)]
+#[derive(Drop)]
 pub struct Subscriptions {
     entries: Vec<Subscription>,
 }

@@ -17,7 +17,7 @@ use std::alloc::{AllocError, Global};
 use std::marker::Model;
 
 /// A topic id of a session.
-#[derive(Debug, Drop)]
+#[derive(Drop)]
 pub struct TopicEntry {
     /// The id.
     pub id: u16,
@@ -42,7 +42,7 @@ impl TopicEntry {
 
 /// The topic ids of a session: at most 256, strictly ascending. Contracts see the list of the
 /// entries.
-#[derive(Debug, Drop)]
+#[derive(Drop)]
 pub struct Topics {
     entries: Vec<TopicEntry>,
 }

@@ -24,7 +24,7 @@ pub const RETRY_AFTER: u64 = 10;
 pub const MAX_TRIES: u8 = 4;
 
 /// What is due with a client.
-#[derive(Clone, Copy, Debug, PartialEq, Eq)]
+#[derive(Clone, Copy, PartialEq, Eq)]
 pub enum Due {
     /// It is lost: nothing was heard of it for too long.
     Loss,

@@ -6,21 +6,35 @@ ghost use Rattle.sn_topic.specs.declared.fault.TopicFault.TheVariants as faults;
 
 use octets::NoMemory;
 use std::alloc::{AllocError, AllocFailed};
+use std::fmt;
 use thiserror::Error;
 
 /// Why octets are no topic name or filter, or entries no table of predefined ids.
 #[derive(Debug, Drop, PartialEq, Eq, Error)]
 pub enum TopicFault {
-    #[error("a topic without octets")]
+    /// There is no octet.
     Empty,
-    #[error("a topic of more than 256 octets")]
+    /// There are more than 256 octets.
     TooLong,
-    #[error("a wildcard where none may stand")]
+    /// A wildcard stands where none may.
     Wildcard,
-    #[error("out of memory")]
+    /// Memory ran out.
     Memory,
-    #[error("a topic id that is reserved or stands twice")]
+    /// A topic id is reserved, or stands twice.
     Id,
+}
+
+impl fmt::Display for TopicFault {
+    /// Says why the topic is refused.
+    fn fmt<W: fmt::Write>(&self, f: &mut fmt::Formatter<W>) -> fmt::Result {
+        f.write_str(match self {
+            TopicFault::Empty => "a topic without octets",
+            TopicFault::TooLong => "a topic of more than 256 octets",
+            TopicFault::Wildcard => "a wildcard where none may stand",
+            TopicFault::Memory => "out of memory",
+            TopicFault::Id => "a topic id that is reserved or stands twice",
+        })
+    }
 }
 
 impl TopicFault {

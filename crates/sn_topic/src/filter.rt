@@ -14,7 +14,7 @@ use std::marker::Model;
 
 /// Which topics a client asks for: 1 to 256 octets, in which a wildcard stands alone in its level
 /// and `#` in the last level only. Contracts see it as the list of its octets.
-#[derive(Debug, Drop)]
+#[derive(Drop)]
 pub struct Filter {
     octets: Octets,
 }

@@ -17,7 +17,7 @@ pub const MAX_TOPIC_ID: u16 = 65534;
 /// Predefined topic ids with their names (MQTT-SN 1.2 section 6.7). Contracts see the list of the
 /// entries in the order in which they were given. Each look-up reads the entries from the front,
 /// since tables are small.
-#[derive(Debug, Drop)]
+#[derive(Drop)]
 pub struct Predefined {
     entries: Vec<(u16, TopicName)>,
 }

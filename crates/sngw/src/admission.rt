@@ -25,7 +25,7 @@ pub(crate) const CONGESTION: u8 = 1;
 const A_WHILE: u64 = 10;
 
 /// What becomes of a datagram.
-#[derive(Clone, Copy, Debug, PartialEq, Eq)]
+#[derive(Clone, Copy, PartialEq, Eq)]
 pub enum Verdict {
     /// It becomes a call.
     Comes,

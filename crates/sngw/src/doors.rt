@@ -36,7 +36,7 @@ const A_LOOK: u64 = 50;
 const MOST_LINES: usize = 16;
 
 /// Where links come from: a peer, or whoever dials.
-#[derive(Clone, Copy, Debug)]
+#[derive(Clone, Copy)]
 pub struct Door {
     origin: Origin,
     at: Addr,

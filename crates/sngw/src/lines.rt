@@ -15,7 +15,7 @@ const MOST_WAITING: usize = 256;
 const AT_THE_END: u64 = 2_000;
 
 /// Where lines are printed.
-#[derive(Clone, Copy, Debug, PartialEq, Eq)]
+#[derive(Clone, Copy, PartialEq, Eq)]
 pub(crate) enum Output {
     /// Standard output.
     Standard,

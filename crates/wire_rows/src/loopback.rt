@@ -1,8 +1,8 @@
 //! A datagram over UDP sockets of this machine.
 
-use crate::printing::shown;
-use crate::serving::{Outcome, Shared, serve_all};
-use crate::stop::Stop;
+use crate::page::Page;
+use crate::serving::{Outcome, Shared, serve_all, unserved};
+use crate::stop::{Stop, missing};
 use gw_shift::{Pass, Shift};
 use gw_wire::{FieldClock, OpenGate, Post, Socket, Wire, address};
 use jr_disk::Disk;
@@ -29,11 +29,14 @@ const HOME: Addr = Addr {
     port: 0,
 };
 
+/// The octets that an answer has at most.
+const ROOM: usize = 64;
+
 /// What is asked: a first datagram, and another one once it is answered.
 #[derive(Drop)]
-pub(crate) struct Questions<'a> {
-    pub(crate) first: &'a [u8],
-    pub(crate) second: &'a [u8],
+pub(crate) struct Questions {
+    pub(crate) first: Vec<u8>,
+    pub(crate) second: Vec<u8>,
 }
 
 /// The socket of somebody who asks, and the address of the gateway.
@@ -45,36 +48,74 @@ struct Asker {
     is_over: AtomicBool,
 }
 
-/// The octets that an answer has at most.
-const ROOM: usize = 64;
-
 /// Asks, prints the first answer, and tells how serving ended.
 pub(crate) fn over_sockets<T: Threads + Wait + Sync + Clock + Net>(
     rt: &T,
-    alloc: Global,
-    text: &mut String,
+    page: &mut Page,
     shift: &Shared,
     passes: Vec<Pass>,
-    questions: &Questions<'_>,
-) -> Result<Outcome, Stop> {
-    let (mut socket, asker, room) = ends_of(rt, alloc)?;
+    questions: &Questions,
+) -> Outcome {
+    match Socket::bind(rt, page.alloc(), HOME) {
+        Ok(mut socket) => over_socket(rt, page, shift, passes, &mut socket, questions),
+        Err(error) => {
+            page.stop(missing(&error));
+            unserved(page.alloc(), passes, None)
+        }
+    }
+}
+
+/// The same once the gateway has its socket.
+fn over_socket<T: Threads + Wait + Sync + Clock + Net>(
+    rt: &T,
+    page: &mut Page,
+    shift: &Shared,
+    passes: Vec<Pass>,
+    socket: &mut Socket,
+    questions: &Questions,
+) -> Outcome {
+    match UdpSocket::bind(rt, address(HOME)) {
+        Ok(asking) => {
+            let asker = Asker {
+                socket: asking,
+                at: socket.local,
+                is_over: AtomicBool::new(false),
+            };
+            over_both(rt, page, shift, passes, socket, &asker, questions)
+        }
+        Err(error) => {
+            page.stop(missing(&error));
+            unserved(page.alloc(), passes, None)
+        }
+    }
+}
+
+/// The same once both have a socket. A row ends if nothing was answered, or not all came.
+fn over_both<T: Threads + Wait + Sync + Clock>(
+    rt: &T,
+    page: &mut Page,
+    shift: &Shared,
+    passes: Vec<Pass>,
+    socket: &mut Socket,
+    asker: &Asker,
+    questions: &Questions,
+) -> Outcome {
+    let room = room(page);
     let (answer, outcome) = asked(
         rt,
-        alloc,
+        page.alloc(),
         shift,
         passes,
-        &mut socket,
-        &asker,
+        socket,
+        asker,
         questions,
         room,
     );
-    drop(asker);
-    drop(socket);
-    print_answer(alloc, text, answer)?;
+    print_answer(page, &answer);
     if outcome.cause.is_none() && came(&outcome) < 2 {
-        return Err(Stop::TooLate);
+        page.stop(Stop::TooLate);
     }
-    Ok(outcome)
+    outcome
 }
 
 /// How many datagrams came.
@@ -82,21 +123,26 @@ fn came(outcome: &Outcome) -> usize {
     outcome.taken.len().saturating_add(outcome.left.len())
 }
 
-/// The socket of the gateway, somebody who asks it, and room for what it answers.
-fn ends_of<T: Net>(rt: &T, alloc: Global) -> Result<(Socket, Asker, Vec<u8>), Stop> {
-    let socket = Socket::bind(rt, alloc, HOME)?;
-    let asker = asker_of(rt, socket.local)?;
-    let room = Vec::from_elem(alloc, 0u8, ROOM)?;
-    Ok((socket, asker, room))
+/// Room for what is answered.
+fn room(page: &mut Page) -> Vec<u8> {
+    match Vec::from_elem(page.alloc(), 0u8, ROOM) {
+        Ok(room) => room,
+        Err(_) => {
+            page.stop(Stop::Memory);
+            Vec::new(page.alloc())
+        }
+    }
 }
 
-/// Somebody who asks the gateway at this address.
-fn asker_of<T: Net>(rt: &T, at: SocketAddr) -> Result<Asker, Stop> {
-    Ok(Asker {
-        socket: UdpSocket::bind(rt, address(HOME))?,
-        at,
-        is_over: AtomicBool::new(false),
-    })
+/// What was answered; the row ends if nothing was.
+fn print_answer(page: &mut Page, answer: &Option<Vec<u8>>) {
+    match answer {
+        Some(octets) => {
+            page.octets("answered ", octets.as_slice());
+            page.end();
+        }
+        None => page.stop(Stop::TooLate),
+    }
 }
 
 /// The first answer to what is asked over a socket, and how serving ended.
@@ -107,7 +153,7 @@ fn asked<T: Threads + Wait + Sync + Clock>(
     passes: Vec<Pass>,
     socket: &mut Socket,
     asker: &Asker,
-    questions: &Questions<'_>,
+    questions: &Questions,
     room: Vec<u8>,
 ) -> (Option<Vec<u8>>, Outcome) {
     let clock = FieldClock::new();
@@ -116,17 +162,6 @@ fn asked<T: Threads + Wait + Sync + Clock>(
     side_by_side(
         rt, alloc, shift, passes, &mut ears, &mouth, asker, questions, room,
     )
-}
-
-/// What was answered; the row ends if nothing was.
-fn print_answer(alloc: Global, text: &mut String, answer: Option<Vec<u8>>) -> Result<(), Stop> {
-    match answer {
-        Some(octets) => {
-            let octets = shown(alloc, octets.as_slice())?;
-            Ok(writeln!(text, "answered {octets}")?)
-        }
-        None => Err(Stop::TooLate),
-    }
 }
 
 /// One thread asks, others serve.
@@ -138,7 +173,7 @@ fn side_by_side<T, R, D, W, P>(
     wire: &mut W,
     post: &P,
     asker: &Asker,
-    questions: &Questions<'_>,
+    questions: &Questions,
     room: Vec<u8>,
 ) -> (Option<Vec<u8>>, Outcome)
 where
@@ -149,8 +184,8 @@ where
     W: Wire,
     P: Post + Sync,
 {
-    let first = questions.first;
-    let second = questions.second;
+    let first = questions.first.as_slice();
+    let second = questions.second.as_slice();
     let socket = &asker.socket;
     let at = asker.at;
     let is_over = &asker.is_over;

@@ -60,7 +60,8 @@
 //! the number of calls and the clients.
 //!
 //! - `row`: what the lines of a row have brought about (`Row`), and the play of one more.
-//! - `fields`: numbers and octets of a line.
+//! - `page`: what is printed, and why no more is (`Page`); no function hands a reason on.
+//! - `words`: the words of a line, read one after the other (`Words`).
 //! - `options`: settings, and gateways that are opened.
 //! - `wire`, `outside`: a wire that brings what the row says; a post and a gate that note what they
 //!   are asked.
@@ -72,130 +73,149 @@
 //! - `stop`: why a line is not played.
 #![tactic(auto)]
 
-mod fields;
 mod loopback;
 mod meeting;
 mod options;
 mod outside;
+mod page;
 mod pipe;
 mod printing;
 mod row;
 mod serving;
 mod stop;
 mod wire;
+mod words;
 
-use crate::row::{Row, add, begin, play};
-use crate::stop::Stop;
-use anyhow::Result;
-use std::alloc::Global;
+use crate::options::add;
+use crate::page::Page;
+use crate::row::{Row, play};
+use crate::stop::{Stop, broken};
+use crate::words::Words;
+use std::alloc::AllocError;
 use std::fs::{File, Files};
-use std::io::{self, Write};
+use std::io::{self, Input, Write};
 use std::net::Net;
+use std::process::ExitCode;
 use std::sync::Wait;
 use std::thread::Threads;
 use std::time::Clock;
 
-fn main(rt: HostRuntime) -> Result<()> {
-    let alloc = rt.alloc();
-    let mut lines = Vec::new(alloc);
-    let mut printed = String::new(alloc);
-    read_lines(&rt, alloc, &mut lines)?;
-    play_all(&rt, alloc, &mut printed, lines.as_slice())?;
-    io::writer(&rt).write_all(printed.as_bytes())?;
-    Ok(())
+fn main(rt: HostRuntime) -> ExitCode {
+    let mut page = Page::new(rt.alloc());
+    play_input(&rt, &mut page);
+    write(&rt, &mut page);
+    match page.reason() {
+        None => ExitCode::SUCCESS,
+        Some(stop) => {
+            let _ = eprintln!(&rt; "wire_rows: {stop}");
+            ExitCode::FAILURE
+        }
+    }
+}
+
+/// Plays all lines of standard input.
+fn play_input<T>(rt: &T, page: &mut Page)
+where
+    T: Threads + Wait + Sync + Clock + Net + Files<File = File> + Input + AllocGlobal,
+{
+    let mut lines = Vec::new(rt.alloc());
+    match read_lines(rt, &mut lines) {
+        Ok(()) => play_lines(rt, page, lines.as_slice()),
+        Err(stop) => page.stop(stop),
+    }
 }
 
 /// The lines of standard input.
-fn read_lines(rt: &HostRuntime, alloc: Global, lines: &mut Vec<String>) -> Result<()> {
-    for line in rt.lines(alloc) {
-        lines.push(line?)?;
+fn read_lines<T: Input + AllocGlobal>(rt: &T, lines: &mut Vec<String>) -> Result<(), Stop> {
+    for line in rt.lines(rt.alloc()) {
+        match line {
+            Ok(line) => add_line(lines, line)?,
+            Err(error) => return Err(broken(&error)),
+        }
     }
     Ok(())
 }
 
-/// Plays all lines.
-fn play_all<T>(rt: &T, alloc: Global, text: &mut String, lines: &[String]) -> Result<(), Stop>
-where
-    T: Threads + Wait + Sync + Clock + Net + Files<File = File>,
-{
-    let mut row = begin(alloc);
-    play_lines(rt, alloc, text, &mut row, lines)
+/// A line comes after the others.
+fn add_line(lines: &mut Vec<String>, line: String) -> Result<(), Stop> {
+    if lines.push(line).is_err() {
+        return Err(Stop::Memory);
+    }
+    Ok(())
 }
 
-/// Plays lines, one after the other.
-fn play_lines<T>(
-    rt: &T,
-    alloc: Global,
-    text: &mut String,
-    row: &mut Row,
-    lines: &[String],
-) -> Result<(), Stop>
+/// Writes the page, unless something else than a line ended the play.
+fn write<T: Print>(rt: &T, page: &mut Page) {
+    if page.reason().is_none() {
+        let written = io::writer(rt).write_all(page.printed().as_bytes());
+        if let Err(error) = &written {
+            page.stop(broken(error));
+        }
+    }
+}
+
+/// Plays lines, one after the other, until something else than a line ends the play.
+fn play_lines<T>(rt: &T, page: &mut Page, lines: &[String])
 where
     T: Threads + Wait + Sync + Clock + Net + Files<File = File>,
 {
+    let mut row = Row::new(page.alloc());
     for line in lines {
-        answer(rt, alloc, text, row, line.as_str())?;
+        if page.reason().is_none() {
+            answer(rt, page, &mut row, line.as_str());
+        }
     }
-    Ok(())
 }
 
-/// Plays a line; one that is none of the language is told.
-fn answer<T>(
-    rt: &T,
-    alloc: Global,
-    text: &mut String,
-    row: &mut Row,
-    line: &str,
-) -> Result<(), Stop>
+/// Plays a line; empty ones and explanations say nothing.
+fn answer<T>(rt: &T, page: &mut Page, row: &mut Row, line: &str)
 where
     T: Threads + Wait + Sync + Clock + Net + Files<File = File>,
 {
-    if line.is_empty() || line.starts_with('#') {
-        return Ok(());
-    }
-    match line.strip_prefix("== ") {
-        Some(name) => begin_row(alloc, text, row, name),
-        None => play_or_tell(rt, alloc, text, row, line),
+    if !line.is_empty() && !line.starts_with('#') {
+        match line.strip_prefix("== ") {
+            Some(name) => begin_row(page, row, name),
+            None => answer_words(rt, page, row, line),
+        }
     }
 }
 
 /// A row of this name begins.
-fn begin_row(alloc: Global, text: &mut String, row: &mut Row, name: &str) -> Result<(), Stop> {
-    *row = begin(alloc);
-    Ok(writeln!(text, "== {name}")?)
+fn begin_row(page: &mut Page, row: &mut Row, name: &str) {
+    *row = Row::new(page.alloc());
+    page.text("== ");
+    page.text(name);
+    page.end();
 }
 
-/// Plays a line of a row, or tells it.
-fn play_or_tell<T>(
-    rt: &T,
-    alloc: Global,
-    text: &mut String,
-    row: &mut Row,
-    line: &str,
-) -> Result<(), Stop>
+/// Plays a line of the settings' text or of words; tells a line that is none of the language.
+fn answer_words<T>(rt: &T, page: &mut Page, row: &mut Row, line: &str)
 where
     T: Threads + Wait + Sync + Clock + Net + Files<File = File>,
 {
-    if let Some(more) = line.strip_prefix("toml ") {
-        return add(row, more);
+    match line.strip_prefix("toml ") {
+        Some(more) => add(page, &mut row.toml, more),
+        None => play_words(rt, page, row, line),
     }
-    match play_line(rt, alloc, text, row, line) {
-        Err(Stop::Line) => Ok(writeln!(text, "no such line: {line}")?),
-        played => played,
+    if page.forgive() {
+        page.text("no such line: ");
+        page.text(line);
+        page.end();
     }
 }
 
 /// Plays a line of words.
-fn play_line<T>(
-    rt: &T,
-    alloc: Global,
-    text: &mut String,
-    row: &mut Row,
-    line: &str,
-) -> Result<(), Stop>
+fn play_words<T>(rt: &T, page: &mut Page, row: &mut Row, line: &str)
 where
     T: Threads + Wait + Sync + Clock + Net + Files<File = File>,
 {
-    let words: Vec<&str> = line.split(' ').collect(alloc)?;
-    play(rt, alloc, text, row, words.as_slice())
+    let words: Result<Vec<&str>, AllocError> = line.split(' ').collect(page.alloc());
+    match &words {
+        Ok(words) => {
+            let mut words = Words::new(page.alloc(), words.as_slice());
+            let first = words.word();
+            play(rt, page, row, first, &mut words);
+        }
+        Err(_) => page.stop(Stop::Memory),
+    }
 }

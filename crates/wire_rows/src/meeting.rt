@@ -1,11 +1,12 @@
 //! Gateways that have links: two, or a chain of three.
 
-use crate::fields::{digits, host, number};
-use crate::options::begin_on;
+use crate::options::{add, begin_on};
+use crate::page::Page;
 use crate::pipe::{Pipe, Place};
-use crate::printing::{print_answer, print_over, shown};
-use crate::serving::{Gateway, Over, Shared, close, shift_of};
+use crate::printing::{print_answer, print_over};
+use crate::serving::{Gateway, Shared, close, shift_of};
 use crate::stop::Stop;
+use crate::words::Words;
 use gw_link::{End, Link, Origin, Phase, Stage, call, talk};
 use gw_node::{Answer, Step};
 use gw_run::{Pool, Seat, sit};
@@ -13,9 +14,8 @@ use gw_shift::Pass;
 use jr_journal::MemoryDisk;
 use octets::{Octets, read_u32};
 use sn_local::Addr;
-use std::alloc::{AllocError, Global};
+use std::alloc::Global;
 use std::collections::VecDeque;
-use std::mem;
 use std::sync::{Arc, Wait};
 use std::time::Clock;
 
@@ -34,11 +34,9 @@ enum Act {
     Ask(u32, Vec<u8>),
     /// These octets come over its first link, and not from the other gateway.
     Come(Vec<u8>),
-    /// Its links talk in turn, each until nothing comes, and to the end of the shift.
-    Talk,
-    /// They talk at the end of the shift.
-    Last,
-    /// Its first link talks as with `Talk`, at a seat.
+    /// Its links talk in turn, from this phase on, and to the end of the shift.
+    Talk(Phase),
+    /// Its first link talks so at a seat.
     Sit,
     /// Its shift is closed, and the next one begins.
     Turn,
@@ -48,7 +46,7 @@ enum Act {
     Takes(u64),
 }
 
-/// One of the gateways, in a shift of it.
+/// A shift of a gateway.
 #[derive(Drop)]
 struct OpenShift {
     shift: Shared,
@@ -90,483 +88,435 @@ struct Places {
     outer: Place,
 }
 
-/// The gateways, each with its ends of links.
-#[derive(Drop)]
-struct Sides<'a, T: Wait> {
-    first: Side<'a, T>,
-    second: Side<'a, T>,
-    third: Side<'a, T>,
-    /// What the opening of the third printed.
-    aside: String,
+/// What a line says of the meeting.
+pub(crate) fn read_deed(first: &str, words: &mut Words) -> Deed {
+    let gateway = words.number();
+    let act = read_act(first, words);
+    Deed { gateway, act }
 }
 
-/// What a line says of the meeting.
-pub(crate) fn read_deed(alloc: Global, words: &[&str]) -> Result<Deed, Stop> {
-    match words {
-        [word, gateway, rest @ ..] => Ok(Deed {
-            gateway: number(gateway)?,
-            act: read_act(alloc, word, rest)?,
-        }),
-        _ => Err(Stop::Line),
+/// What the first word and those after the gateway say.
+fn read_act(first: &str, words: &mut Words) -> Act {
+    match first {
+        "ask" => Act::Ask(words.host(), words.octets()),
+        "come" => Act::Come(words.octets()),
+        "talk" => Act::Talk(Phase::Serving),
+        "last" => Act::Talk(Phase::Quiet),
+        first => read_other(first, words),
     }
 }
 
-/// What a word and the fields after the gateway say.
-fn read_act(alloc: Global, word: &str, fields: &[&str]) -> Result<Act, Stop> {
-    match (word, fields) {
-        ("talk", []) => Ok(Act::Talk),
-        ("last", []) => Ok(Act::Last),
-        ("sit", []) => Ok(Act::Sit),
-        ("turn", []) => Ok(Act::Turn),
-        ("ask", [from, octets]) => Ok(Act::Ask(host(from)?, digits(alloc, octets)?)),
-        ("come", [octets]) => Ok(Act::Come(digits(alloc, octets)?)),
-        ("idle", [count]) => Ok(Act::Idle(number(count)?)),
-        ("takes", [count]) => Ok(Act::Takes(number(count)?)),
-        _ => Err(Stop::Line),
+/// The same of the other words.
+fn read_other(first: &str, words: &mut Words) -> Act {
+    match first {
+        "idle" => Act::Idle(words.number()),
+        "takes" => Act::Takes(words.number()),
+        "sit" => Act::Sit,
+        first => {
+            words.require(first == "turn");
+            Act::Turn
+        }
     }
 }
 
 /// `meet`: gateways 1 and 2 on empty disks, and a link that 1 dialled; where a line names gateway 3,
 /// that one too, and a link that 2 dialled; and what happens then.
-pub(crate) fn meet<T: Wait + Clock>(
-    rt: &T,
-    alloc: Global,
-    text: &mut String,
-    deeds: &[Deed],
-) -> Result<(), Stop> {
-    let places = places_of(alloc);
-    let met = meet_between(rt, alloc, text, &places, deeds);
-    let said_all = said_all(&places);
-    drop(places);
-    if said_all { met } else { Err(Stop::Memory) }
+pub(crate) fn meet<T: Wait + Clock>(rt: &T, page: &mut Page, deeds: &[Deed]) {
+    let places = Places::new(page.alloc());
+    meet_between(rt, page, &places, deeds);
+    page.stop_if_short(places.are_short());
 }
 
-/// Ends of links, to which nothing has come.
-fn places_of(alloc: Global) -> Places {
-    Places {
-        near: Place::new(alloc),
-        far: Place::new(alloc),
-        inner: Place::new(alloc),
-        outer: Place::new(alloc),
+impl Places {
+    /// Ends of links, to which nothing has come.
+    fn new(alloc: Global) -> Places {
+        Places {
+            near: Place::new(alloc),
+            far: Place::new(alloc),
+            inner: Place::new(alloc),
+            outer: Place::new(alloc),
+        }
     }
-}
 
-/// Whether memory did not run out when something was said at any end of a link.
-fn said_all(places: &Places) -> bool {
-    let between_first = !places.near.is_short() && !places.far.is_short();
-    let between_last = !places.inner.is_short() && !places.outer.is_short();
-    between_first && between_last
+    /// Whether memory ran out when something was said at any of them.
+    fn are_short(&self) -> bool {
+        let is_first_short = self.near.is_short() || self.far.is_short();
+        let is_last_short = self.inner.is_short() || self.outer.is_short();
+        is_first_short || is_last_short
+    }
 }
 
 /// Gateways on empty disks meet over links with these ends.
 fn meet_between<'a, T: Wait + Clock>(
     rt: &'a T,
-    alloc: Global,
-    text: &mut String,
+    page: &mut Page,
     places: &'a Places,
     deeds: &[Deed],
-) -> Result<(), Stop> {
-    let mut sides = sides_of(alloc, text)?;
-    let played = join_and_happen(rt, alloc, text, &mut sides, places, deeds);
-    let are_spared = are_spared(&mut sides);
-    drop(sides);
-    if are_spared {
-        played
-    } else {
-        Err(Stop::Memory)
-    }
-}
-
-/// Three gateways on empty disks, without a link.
-fn sides_of<'a, T: Wait>(alloc: Global, text: &mut String) -> Result<Sides<'a, T>, Stop> {
-    let first = side_of(alloc, text, 1)?;
-    let second = side_of(alloc, text, 2)?;
-    let (third, aside) = third_of(alloc)?;
-    Ok(Sides {
-        first,
-        second,
-        third,
-        aside,
-    })
-}
-
-/// Gateway 3 on an empty disk, without a link, and what its opening printed.
-fn third_of<'a, T: Wait>(alloc: Global) -> Result<(Side<'a, T>, String), Stop> {
-    let mut aside = String::new(alloc);
-    let third = side_of(alloc, &mut aside, 3)?;
-    Ok((third, aside))
-}
-
-/// The gateways get their links, that to gateway 3 where a line names it, and then all happens.
-fn join_and_happen<'a, T: Wait + Clock>(
-    rt: &'a T,
-    alloc: Global,
-    text: &mut String,
-    sides: &mut Sides<'a, T>,
-    places: &'a Places,
-    deeds: &[Deed],
-) -> Result<(), Stop> {
-    join_first(rt, alloc, sides, places)?;
+) {
+    let mut sides = Vec::new(page.alloc());
+    add_side(page, &mut sides, 1);
+    add_side(page, &mut sides, 2);
+    join(rt, page, &mut sides, (1, &places.near), (2, &places.far));
     if deeds.iter().any(|deed| deed.gateway == 3) {
-        join_aside(rt, alloc, text, sides, places)?;
+        add_side(page, &mut sides, 3);
+        join(rt, page, &mut sides, (2, &places.inner), (3, &places.outer));
     }
-    happen_all(rt, alloc, text, sides, deeds)
-}
-
-/// The first and the second gateway have a link.
-fn join_first<'a, T: Wait>(
-    rt: &'a T,
-    alloc: Global,
-    sides: &mut Sides<'a, T>,
-    places: &'a Places,
-) -> Result<(), Stop> {
-    let Sides { first, second, .. } = sides;
-    join(rt, alloc, first, second, &places.near, &places.far)
-}
-
-/// The third gateway has a link too, and what its opening printed counts.
-fn join_aside<'a, T: Wait>(
-    rt: &'a T,
-    alloc: Global,
-    text: &mut String,
-    sides: &mut Sides<'a, T>,
-    places: &'a Places,
-) -> Result<(), Stop> {
-    text.push_str(sides.aside.as_str())?;
-    let Sides { second, third, .. } = sides;
-    join(rt, alloc, second, third, &places.inner, &places.outer)
-}
-
-/// All that happens, in its order.
-fn happen_all<'a, T: Wait + Clock>(
-    rt: &'a T,
-    alloc: Global,
-    text: &mut String,
-    sides: &mut Sides<'a, T>,
-    deeds: &[Deed],
-) -> Result<(), Stop> {
     for deed in deeds {
-        match deed.gateway {
-            1 => happen(rt, alloc, text, &mut sides.first, &deed.act)?,
-            2 => happen(rt, alloc, text, &mut sides.second, &deed.act)?,
-            3 => happen(rt, alloc, text, &mut sides.third, &deed.act)?,
-            _ => return Err(Stop::Line),
+        if page.reason().is_none() {
+            play_deed(rt, page, &mut sides, deed);
         }
     }
-    Ok(())
+    for side in sides.iter_mut() {
+        page.stop_if_short(is_starved(side));
+    }
 }
 
-/// Whether no memory was refused in the disks of the gateways, whose shifts end.
-fn are_spared<'a, T: Wait>(sides: &mut Sides<'a, T>) -> bool {
-    let is_first_spared = is_spared(&mut sides.first);
-    let is_second_spared = is_spared(&mut sides.second);
-    let is_third_spared = is_spared(&mut sides.third);
-    is_first_spared && is_second_spared && is_third_spared
-}
-
-/// Whether no memory was refused in the disk of a gateway, whose shift ends.
-fn is_spared<'a, T: Wait>(side: &mut Side<'a, T>) -> bool {
+/// Whether memory was refused in the disk of a gateway, whose shift ends.
+fn is_starved<T: Wait>(side: &mut Side<'_, T>) -> bool {
     match side.open.take() {
-        Some(opened) => end_spared(opened),
-        None => true,
+        Some(opened) => opened.shift.end().node.starved(),
+        None => false,
     }
 }
 
-/// Ends a shift: whether no memory was refused in the disk of its gateway.
-fn end_spared(opened: OpenShift) -> bool {
-    let OpenShift { shift, pass, seat } = opened;
-    drop(pass);
-    drop(seat);
-    let ended = shift.end();
-    let is_spared = !ended.node.starved();
-    drop(ended);
-    is_spared
-}
-
-/// A gateway of this number on an empty disk, without a link.
-fn side_of<'a, T: Wait>(alloc: Global, text: &mut String, number: u8) -> Result<Side<'a, T>, Stop> {
-    let opened = open_shift(alloc, node_of(alloc, text, number)?)?;
-    let Some(pool) = Pool::new(alloc, 1, &[]) else {
-        return Err(Stop::Memory);
-    };
-    Ok(Side {
-        number,
-        open: Some(opened),
-        pool,
-        ties: VecDeque::new(alloc),
-    })
-}
-
-/// A gateway of this number on an empty disk.
-fn node_of(alloc: Global, text: &mut String, number: u8) -> Result<Gateway, Stop> {
-    let mut toml = String::new(alloc);
-    writeln!(toml, "gateway = {number}")?;
-    toml.push_str("listen = \"127.0.0.1:1\"\nlink = \"127.0.0.1:2\"\njournal = \"j\"\n")?;
-    let begun = begin_on(alloc, text, toml.as_str(), MemoryDisk::new(alloc));
-    drop(toml);
-    match begun? {
-        Some(node) => Ok(node),
-        // Nothing else refuses on an empty disk in memory.
-        None => Err(Stop::Memory),
+/// A gateway of this number on an empty disk, without a link, comes after the others.
+fn add_side<'a, T: Wait>(page: &mut Page, sides: &mut Vec<Side<'a, T>>, number: u8) {
+    let open = open_on(page, number);
+    match Pool::new(page.alloc(), 1, &[]) {
+        Some(pool) => {
+            let side = Side {
+                number,
+                open,
+                pool,
+                ties: VecDeque::new(page.alloc()),
+            };
+            let is_short = sides.push(side).is_err();
+            page.stop_if_short(is_short);
+        }
+        None => page.stop(Stop::Memory),
     }
 }
 
-/// A link between two gateways, which the first one dialled.
-fn join<'a, T: Wait>(
-    rt: &'a T,
-    alloc: Global,
-    dialler: &mut Side<'a, T>,
-    dialled: &mut Side<'a, T>,
-    near: &'a Place,
-    far: &'a Place,
-) -> Result<(), Stop> {
-    let one = tie_of(rt, alloc, dialled.number, near, far, Origin::Dialled(0));
-    put_last(dialler, one)?;
-    let other = tie_of(rt, alloc, dialler.number, far, near, Origin::Accepted);
-    put_last(dialled, other)
-}
-
-/// An end of a link to the gateway of this number.
-fn tie_of<'a, T: Wait>(
-    rt: &'a T,
-    alloc: Global,
-    other: u8,
-    here: &'a Place,
-    there: &'a Place,
-    origin: Origin,
-) -> Tie<'a, T> {
-    Tie {
-        other,
-        place: here,
-        link: Some(Link::new(alloc, Pipe::new(rt, alloc, here, there), origin)),
-    }
-}
-
-/// Puts an end of a link after the others of a gateway.
-fn put_last<'a, T: Wait>(side: &mut Side<'a, T>, tie: Tie<'a, T>) -> Result<(), Stop> {
-    match side.ties.push_back(tie) {
-        Ok(()) => Ok(()),
-        Err(_) => Err(Stop::Memory),
-    }
-}
-
-/// Takes the first of a gateway's ends of links.
-fn take_first<'a, T: Wait>(side: &mut Side<'a, T>) -> Result<Tie<'a, T>, Stop> {
-    match side.ties.pop_front() {
-        Some(tie) => Ok(tie),
-        None => Err(Stop::Line),
-    }
-}
-
-/// The place of a gateway's first link.
-fn place_of<'a, T: Wait>(side: &Side<'a, T>) -> Result<&'a Place, Stop> {
-    match side.ties.front() {
-        Some(tie) => Ok(tie.place),
-        None => Err(Stop::Line),
+/// The first shift of a gateway of this number on an empty disk.
+fn open_on(page: &mut Page, number: u8) -> Option<OpenShift> {
+    let mut toml = String::new(page.alloc());
+    let is_short = writeln!(toml, "gateway = {number}").is_err();
+    page.stop_if_short(is_short);
+    add(page, &mut toml, "listen = \"127.0.0.1:1\"");
+    add(page, &mut toml, "link = \"127.0.0.1:2\"");
+    add(page, &mut toml, "journal = \"j\"");
+    let disk = MemoryDisk::new(page.alloc());
+    match begin_on(page, toml.as_str(), disk) {
+        Some(node) => open_shift(page, node),
+        None => {
+            // Nothing else refuses on an empty disk in memory.
+            page.stop(Stop::Memory);
+            None
+        }
     }
 }
 
 /// A shift of a gateway, with a pass for datagrams and one for the link.
-fn open_shift(alloc: Global, node: Gateway) -> Result<OpenShift, Stop> {
-    let (shift, mut passes) = shift_of(alloc, node, 2, 4_096)?;
-    let (Some(pass), Some(seat)) = (passes.pop(), passes.pop()) else {
-        return Err(Stop::Line);
-    };
-    Ok(OpenShift { shift, pass, seat })
-}
-
-/// Something happens at a gateway.
-fn happen<'a, T: Wait + Clock>(
-    rt: &'a T,
-    alloc: Global,
-    text: &mut String,
-    side: &mut Side<'a, T>,
-    act: &Act,
-) -> Result<(), Stop> {
-    match act {
-        Act::Ask(host, octets) => ask(rt, alloc, text, side, *host, octets.as_slice()),
-        Act::Talk => talk_all(rt, alloc, text, side, Phase::Serving),
-        Act::Last => talk_all(rt, alloc, text, side, Phase::Quiet),
-        Act::Sit => sit_down(rt, alloc, text, side),
-        Act::Turn => turn(rt, alloc, text, side),
-        Act::Come(_) | Act::Idle(_) | Act::Takes(_) => happen_to(rt, alloc, place_of(side)?, act),
+fn open_shift(page: &mut Page, node: Gateway) -> Option<OpenShift> {
+    match shift_of(page, node, 2, 4_096) {
+        Some((shift, passes)) => seated(shift, passes),
+        None => None,
     }
 }
 
-/// Something happens to the first link of a gateway, which has no part in it.
-fn happen_to<T: Wait>(rt: &T, alloc: Global, place: &Place, act: &Act) -> Result<(), Stop> {
+/// A shift with its two passes.
+fn seated(shift: Shared, mut passes: Vec<Pass>) -> Option<OpenShift> {
+    let pass = passes.pop()?;
+    let seat = passes.pop()?;
+    Some(OpenShift { shift, pass, seat })
+}
+
+/// A link between two gateways, which the first one dialled. Each has its number and its end.
+fn join<'a, T: Wait>(
+    rt: &'a T,
+    page: &mut Page,
+    sides: &mut Vec<Side<'a, T>>,
+    dialler: (u8, &'a Place),
+    dialled: (u8, &'a Place),
+) {
+    add_tie(rt, page, sides, dialler, dialled, Origin::Dialled(0));
+    add_tie(rt, page, sides, dialled, dialler, Origin::Accepted);
+}
+
+/// A gateway has an end of a link to another one, after those that it has.
+fn add_tie<'a, T: Wait>(
+    rt: &'a T,
+    page: &mut Page,
+    sides: &mut Vec<Side<'a, T>>,
+    here: (u8, &'a Place),
+    there: (u8, &'a Place),
+    origin: Origin,
+) {
+    let pipe = Pipe::new(rt, page.alloc(), here.1, there.1);
+    let tie = Tie {
+        other: there.0,
+        place: here.1,
+        link: Some(Link::new(page.alloc(), pipe, origin)),
+    };
+    if let Some(side) = side_of(sides, u64::from(here.0)) {
+        put_last(page, side, tie);
+    }
+}
+
+/// The gateway of a number.
+fn side_of<'b, 'a, T: Wait>(
+    sides: &'b mut Vec<Side<'a, T>>,
+    number: u64,
+) -> Option<&'b mut Side<'a, T>> {
+    if number == 0 {
+        return None;
+    }
+    sides.get_mut((number - 1) as usize)
+}
+
+/// Puts an end of a link after the others of a gateway.
+fn put_last<'a, T: Wait>(page: &mut Page, side: &mut Side<'a, T>, tie: Tie<'a, T>) {
+    let is_short = side.ties.push_back(tie).is_err();
+    page.stop_if_short(is_short);
+}
+
+/// Something happens at one of the gateways.
+fn play_deed<'a, T: Wait + Clock>(
+    rt: &T,
+    page: &mut Page,
+    sides: &mut Vec<Side<'a, T>>,
+    deed: &Deed,
+) {
+    match side_of(sides, deed.gateway) {
+        Some(side) => happen(rt, page, side, &deed.act),
+        None => page.stop(Stop::Line),
+    }
+}
+
+/// Something happens at a gateway.
+fn happen<'a, T: Wait + Clock>(rt: &T, page: &mut Page, side: &mut Side<'a, T>, act: &Act) {
     match act {
-        Act::Come(octets) => come(rt, alloc, place, octets.as_slice()),
-        Act::Idle(count) => {
-            place.set_idle(*count);
-            Ok(())
+        Act::Talk(phase) => talk_all(rt, page, side, *phase),
+        Act::Sit => sit_down(rt, page, side),
+        Act::Turn => turn(rt, page, side),
+        act => match place_of(side) {
+            Some(place) => happen_at(rt, page, side, place, act),
+            None => page.stop(Stop::Line),
+        },
+    }
+}
+
+/// The place of a gateway's first link.
+fn place_of<'a, T: Wait>(side: &Side<'a, T>) -> Option<&'a Place> {
+    match side.ties.front() {
+        Some(tie) => Some(tie.place),
+        None => None,
+    }
+}
+
+/// Something happens at a gateway whose first link has this place.
+fn happen_at<'a, T: Wait>(
+    rt: &T,
+    page: &mut Page,
+    side: &mut Side<'a, T>,
+    place: &Place,
+    act: &Act,
+) {
+    match act {
+        Act::Ask(host, octets) => ask(rt, page, side, place.stage(), *host, octets.as_slice()),
+        Act::Come(octets) => {
+            let has_come = place.come(rt, page.alloc(), octets.as_slice());
+            page.stop_if_short(!has_come);
         }
-        Act::Takes(count) => {
-            place.set_takes(*count);
-            Ok(())
-        }
-        Act::Ask(..) | Act::Talk | Act::Last | Act::Sit | Act::Turn => Err(Stop::Line),
+        Act::Idle(count) => place.set_idle(*count),
+        Act::Takes(count) => place.set_takes(*count),
+        _ => page.stop(Stop::Line),
     }
 }
 
 /// A datagram comes, from port 1 of a host, at moment 5.
 fn ask<'a, T: Wait>(
     rt: &T,
-    alloc: Global,
-    text: &mut String,
+    page: &mut Page,
     side: &mut Side<'a, T>,
+    stage: &Stage,
     host: u32,
     octets: &[u8],
-) -> Result<(), Stop> {
-    let place = place_of(side)?;
-    let step = step_of(alloc, host, octets)?;
-    let Some(OpenShift { shift, pass, seat }) = side.open.take() else {
-        return Err(Stop::Line);
-    };
-    let (pass, answered) = call(rt, alloc, &shift, pass, step, place.stage());
-    put_back(side, OpenShift { shift, pass, seat });
-    let printed = print_asked(alloc, text, side.number, &answered);
-    drop(answered);
-    printed
+) {
+    match step_of(page.alloc(), host, octets) {
+        Some(step) => ask_step(rt, page, side, stage, step),
+        None => page.stop(Stop::Memory),
+    }
 }
 
-/// The call of a datagram.
-fn step_of(alloc: Global, host: u32, octets: &[u8]) -> Result<Arc<Step>, Stop> {
+/// The call of a datagram, if there is memory for it.
+fn step_of(alloc: Global, host: u32, octets: &[u8]) -> Option<Arc<Step>> {
     let from = Addr { host, port: 1 };
-    let bytes = Octets::from_slice(alloc, octets)?;
-    Ok(Arc::new(
-        alloc,
-        Step::Frame {
-            from,
-            bytes,
-            now: 5,
-        },
-    )?)
+    let bytes = Octets::from_slice(alloc, octets).ok()?;
+    let step = Step::Frame {
+        from,
+        bytes,
+        now: 5,
+    };
+    Arc::new(alloc, step).ok()
 }
 
-/// Octets come to an end of the link.
-fn come<T: Wait>(rt: &T, alloc: Global, place: &Place, octets: &[u8]) -> Result<(), Stop> {
-    let octets = Vec::from_slice(alloc, octets)?;
-    Ok(place.come(rt, octets)?)
+/// A call is made.
+fn ask_step<'a, T: Wait>(
+    rt: &T,
+    page: &mut Page,
+    side: &mut Side<'a, T>,
+    stage: &Stage,
+    step: Arc<Step>,
+) {
+    match side.open.take() {
+        Some(OpenShift { shift, pass, seat }) => {
+            let (pass, answered) = call(rt, page.alloc(), &shift, pass, step, stage);
+            side.open = Some(OpenShift { shift, pass, seat });
+            print_asked(page, side.number, &answered);
+        }
+        None => page.stop(Stop::Line),
+    }
 }
 
 /// What was answered to a datagram.
-fn print_asked(
-    alloc: Global,
-    text: &mut String,
-    number: u8,
-    answered: &Result<Answer, End>,
-) -> Result<(), Stop> {
-    write!(text, "{number} was asked")?;
+fn print_asked(page: &mut Page, number: u8, answered: &Result<Answer, End>) {
+    page.shown("", &number);
+    page.text(" was asked");
     match answered {
-        Ok(answer) => print_answer(alloc, text, answer)?,
-        Err(End::Memory) => return Err(Stop::Memory),
-        Err(end) => write!(text, ": {end}")?,
+        Ok(answer) => print_answer(page, answer),
+        Err(End::Memory) => page.stop(Stop::Memory),
+        Err(end) => page.shown(": ", end),
     }
-    Ok(text.push('\n')?)
+    page.end();
 }
 
 /// The links of a gateway talk in turn, from a phase of the shift on, each to the end of the shift.
-fn talk_all<'a, T: Wait + Clock>(
-    rt: &T,
-    alloc: Global,
-    text: &mut String,
-    side: &mut Side<'a, T>,
-    phase: Phase,
-) -> Result<(), Stop> {
+fn talk_all<'a, T: Wait + Clock>(rt: &T, page: &mut Page, side: &mut Side<'a, T>, phase: Phase) {
     for _ in 0..side.ties.len() {
-        let mut tie = take_first(side)?;
-        let talked = talk_once(rt, alloc, text, side, &mut tie, phase);
-        put_last(side, tie)?;
-        talked?;
+        if page.reason().is_none() {
+            talk_next(rt, page, side, phase);
+        }
     }
-    Ok(())
+}
+
+/// The first link of a gateway talks, and is the last one then.
+fn talk_next<'a, T: Wait + Clock>(rt: &T, page: &mut Page, side: &mut Side<'a, T>, phase: Phase) {
+    match side.ties.pop_front() {
+        Some(mut tie) => {
+            talk_once(rt, page, side, &mut tie, phase);
+            put_last(page, side, tie);
+        }
+        None => page.stop(Stop::Line),
+    }
 }
 
 /// A link of a gateway talks, and what it said is printed.
 fn talk_once<'a, T: Wait + Clock>(
     rt: &T,
-    alloc: Global,
-    text: &mut String,
+    page: &mut Page,
     side: &mut Side<'a, T>,
     tie: &mut Tie<'a, T>,
     phase: Phase,
-) -> Result<(), Stop> {
-    let end = talk_over(rt, alloc, side, tie, phase)?;
-    print_said(rt, alloc, text, side.number, tie)?;
-    print_end(text, side.number, end)
+) {
+    match tie.link.take() {
+        Some(mut link) => {
+            tie.place.stage().go_to(rt, phase);
+            let end = talk_over(rt, page, side, tie.place.stage(), &mut link);
+            put_link(rt, side, tie, link, end);
+            print_said(rt, page, side.number, tie);
+            print_end(page, side.number, end);
+        }
+        None => page.stop(Stop::Line),
+    }
 }
 
-/// A link of a gateway talks from a phase of the shift on, to the end of the shift. Says why it
-/// stopped. One that is lost is left.
+/// A link of a gateway talks to the end of the shift. Says why it stopped.
 fn talk_over<'a, T: Wait + Clock>(
+    rt: &T,
+    page: &mut Page,
+    side: &mut Side<'a, T>,
+    stage: &Stage,
+    link: &mut Link<Pipe<'a, T>>,
+) -> End {
+    match Vec::from_elem(page.alloc(), 0u8, 65_536) {
+        Ok(mut piece) => talk_by(rt, page.alloc(), side, stage, link, piece.as_mut_slice()),
+        Err(_) => End::Memory,
+    }
+}
+
+/// The same, with room for what comes.
+fn talk_by<'a, T: Wait + Clock>(
     rt: &T,
     alloc: Global,
     side: &mut Side<'a, T>,
+    stage: &Stage,
+    link: &mut Link<Pipe<'a, T>>,
+    piece: &mut [u8],
+) -> End {
+    match side.open.take() {
+        Some(OpenShift { shift, pass, seat }) => {
+            let relay = &side.pool.relay;
+            let (seat, end) = talk(
+                rt,
+                alloc,
+                &shift,
+                seat,
+                link,
+                side.number,
+                piece,
+                stage,
+                relay,
+            );
+            side.open = Some(OpenShift { shift, pass, seat });
+            end
+        }
+        // A gateway without a shift had no memory for it.
+        None => End::Memory,
+    }
+}
+
+/// Puts a link back that has talked. One that is lost is left.
+fn put_link<'a, T: Wait>(
+    rt: &T,
+    side: &Side<'a, T>,
     tie: &mut Tie<'a, T>,
-    phase: Phase,
-) -> Result<End, Stop> {
-    let mut piece = Vec::from_elem(alloc, 0u8, 65_536)?;
-    let Some(mut link) = tie.link.take() else {
-        return Err(Stop::Line);
-    };
-    let Some(OpenShift { shift, pass, seat }) = side.open.take() else {
-        return Err(Stop::Line);
-    };
-    let stage = tie.place.stage();
-    stage.go_to(rt, phase);
-    let (seat, end) = talk(
-        rt,
-        alloc,
-        &shift,
-        seat,
-        &mut link,
-        side.number,
-        piece.as_mut_slice(),
-        stage,
-        &side.pool.relay,
-    );
-    put_back(side, OpenShift { shift, pass, seat });
+    link: Link<Pipe<'a, T>>,
+    end: End,
+) {
     if end == End::Full {
-        drop(mem::replace(&mut tie.link, Some(link)));
+        tie.link = Some(link);
     } else {
         side.pool.relay.leave(rt, link.place);
-        drop(link);
     }
-    Ok(end)
 }
 
 /// Why a link has stopped to talk, unless memory ran out.
-fn print_end(text: &mut String, number: u8, end: End) -> Result<(), Stop> {
-    match end {
-        End::Full => Ok(()),
-        End::Memory => Err(Stop::Memory),
-        end => Ok(writeln!(text, "{number} ends: {end}")?),
+fn print_end(page: &mut Page, number: u8, end: End) {
+    page.stop_if_short(end == End::Memory);
+    if end != End::Full {
+        page.shown("", &number);
+        page.shown(" ends: ", &end);
+        page.end();
     }
 }
 
 /// The messages that a gateway has said over a link. The front part of one waits for its rest.
-fn print_said<'a, T: Wait>(
-    rt: &T,
-    alloc: Global,
-    text: &mut String,
-    number: u8,
-    tie: &Tie<'a, T>,
-) -> Result<(), Stop> {
-    let place = tie.place;
+fn print_said<'a, T: Wait>(rt: &T, page: &mut Page, number: u8, tie: &Tie<'a, T>) {
     let to = if tie.other == 3 { " to 3" } else { "" };
-    let said = place.take_said(rt, Vec::new(alloc));
+    let said = tie.place.take_said(rt, Vec::new(page.alloc()));
     let mut rest = said.as_slice();
     for _ in 0..said.len() {
         let Some((kind, body, behind)) = first_of(rest) else {
             break;
         };
-        print_message(alloc, text, number, to, kind, body)?;
+        print_message(page, number, to, kind, body);
         rest = behind;
     }
-    let left = Vec::from_slice(alloc, rest)?;
-    let _ = place.take_said(rt, left);
-    Ok(())
+    match Vec::from_slice(page.alloc(), rest) {
+        Ok(left) => drop(tie.place.take_said(rt, left)),
+        Err(_) => page.stop(Stop::Memory),
+    }
 }
 
 /// The kind and the body of the message in front of octets, and what comes after it.
@@ -581,84 +531,99 @@ fn first_of(octets: &[u8]) -> Option<(u8, &[u8], &[u8])> {
 }
 
 /// A message, and to whom, where that is to be told.
-fn print_message(
-    alloc: Global,
-    text: &mut String,
-    number: u8,
-    to: &str,
-    kind: u8,
-    body: &[u8],
-) -> Result<(), AllocError> {
-    let body = shown(alloc, body)?;
-    match kind {
-        1 => writeln!(text, "{number} says{to} hello {body}"),
-        2 => writeln!(text, "{number} says{to} digest {body}"),
-        _ => writeln!(text, "{number} says{to} delta {body}"),
-    }
+fn print_message(page: &mut Page, number: u8, to: &str, kind: u8, body: &[u8]) {
+    let word = match kind {
+        1 => " hello ",
+        2 => " digest ",
+        _ => " delta ",
+    };
+    page.shown("", &number);
+    page.text(" says");
+    page.text(to);
+    page.octets(word, body);
+    page.end();
 }
 
 /// The first link of a gateway talks at a seat, and then it is closed.
-fn sit_down<'a, T: Wait + Clock>(
-    rt: &T,
-    alloc: Global,
-    text: &mut String,
-    side: &mut Side<'a, T>,
-) -> Result<(), Stop> {
-    let mut tie = take_first(side)?;
-    let sat = sit_with(rt, alloc, text, side, &mut tie);
-    put_last(side, tie)?;
-    sat
+fn sit_down<'a, T: Wait + Clock>(rt: &T, page: &mut Page, side: &mut Side<'a, T>) {
+    match side.ties.pop_front() {
+        Some(mut tie) => {
+            sit_with(rt, page, side, &mut tie);
+            put_last(page, side, tie);
+        }
+        None => page.stop(Stop::Line),
+    }
 }
 
 /// A link of a gateway talks at a seat, and then it is closed.
 fn sit_with<'a, T: Wait + Clock>(
     rt: &T,
-    alloc: Global,
-    text: &mut String,
+    page: &mut Page,
     side: &mut Side<'a, T>,
     tie: &mut Tie<'a, T>,
-) -> Result<(), Stop> {
-    let Some(link) = tie.link.take() else {
-        return Err(Stop::Line);
-    };
-    let origin = link.origin;
-    side.pool.open(rt, link);
-    if is_closed(rt, &side.pool, origin) {
-        return Err(Stop::Memory);
+) {
+    match tie.link.take() {
+        Some(link) => {
+            let origin = link.origin;
+            side.pool.open(rt, link);
+            if is_closed(rt, &side.pool, origin) {
+                page.stop(Stop::Memory);
+            } else {
+                sit_opened(rt, page, side, tie, origin);
+            }
+        }
+        None => page.stop(Stop::Line),
     }
-    let end = serve_seat(rt, alloc, side, tie.place.stage())?;
-    print_said(rt, alloc, text, side.number, tie)?;
-    if let Some(end) = end {
-        print_end(text, side.number, end)?;
-    }
-    print_room(rt, text, side.number, &side.pool, origin)?;
+}
+
+/// An opened link of a gateway talks at a seat, and then it is closed.
+fn sit_opened<'a, T: Wait + Clock>(
+    rt: &T,
+    page: &mut Page,
+    side: &mut Side<'a, T>,
+    tie: &Tie<'a, T>,
+    origin: Origin,
+) {
+    let end = serve_seat(rt, page, side, tie.place.stage());
+    print_said(rt, page, side.number, tie);
+    print_end(page, side.number, end.unwrap_or(End::Full));
+    print_room(rt, page, side.number, &side.pool, origin);
     side.pool.close_all(rt);
-    print_room(rt, text, side.number, &side.pool, origin)
+    print_room(rt, page, side.number, &side.pool, origin);
 }
 
 /// Serves the first seat of a gateway's pool. Says why its link stopped, if it did.
 fn serve_seat<'a, T: Wait + Clock>(
     rt: &T,
-    alloc: Global,
+    page: &mut Page,
     side: &mut Side<'a, T>,
     stage: &Stage,
-) -> Result<Option<End>, Stop> {
-    let Some(OpenShift { shift, pass, seat }) = side.open.take() else {
-        return Err(Stop::Line);
-    };
-    stage.go_to(rt, Phase::Serving);
-    let seat = Seat {
-        pass: seat,
-        end: None,
-    };
-    let Seat { pass: seat, end } = sit(rt, alloc, &shift, seat, &side.pool, side.number, stage);
-    put_back(side, OpenShift { shift, pass, seat });
-    Ok(end)
-}
-
-/// Puts a gateway's shift back, from which something was taken.
-fn put_back<'a, T: Wait>(side: &mut Side<'a, T>, opened: OpenShift) {
-    drop(mem::replace(&mut side.open, Some(opened)));
+) -> Option<End> {
+    match side.open.take() {
+        Some(OpenShift { shift, pass, seat }) => {
+            stage.go_to(rt, Phase::Serving);
+            let given = Seat {
+                pass: seat,
+                end: None,
+            };
+            let sat = sit(
+                rt,
+                page.alloc(),
+                &shift,
+                given,
+                &side.pool,
+                side.number,
+                stage,
+            );
+            let seat = sat.pass;
+            side.open = Some(OpenShift { shift, pass, seat });
+            sat.end
+        }
+        None => {
+            page.stop(Stop::Line);
+            None
+        }
+    }
 }
 
 /// Whether a link that was dialled is closed: a pool closes one that it has no memory for.
@@ -672,67 +637,52 @@ fn is_closed<T: Wait, S: Drop>(rt: &T, pool: &Pool<S>, origin: Origin) -> bool {
 /// Whether a gateway's link is open still.
 fn print_room<T: Wait, S: Drop>(
     rt: &T,
-    text: &mut String,
+    page: &mut Page,
     number: u8,
     pool: &Pool<S>,
     origin: Origin,
-) -> Result<(), Stop> {
+) {
     let state = match origin {
-        Origin::Dialled(_) if pool.may_open(rt, origin) => "may dial",
-        Origin::Dialled(_) => "has dialled",
-        Origin::Accepted => "accepts",
+        Origin::Dialled(_) if pool.may_open(rt, origin) => " may dial\n",
+        Origin::Dialled(_) => " has dialled\n",
+        Origin::Accepted => " accepts\n",
     };
-    Ok(writeln!(text, "{number} {state}")?)
+    page.shown("", &number);
+    page.text(state);
 }
 
-/// A shift of a gateway is closed, and the next one begins.
-fn turn<'a, T: Wait>(
-    rt: &T,
-    alloc: Global,
-    text: &mut String,
-    side: &mut Side<'a, T>,
-) -> Result<(), Stop> {
-    let Some(OpenShift { shift, pass, seat }) = side.open.take() else {
-        return Err(Stop::Line);
-    };
-    let over = close(shift, passes_of(alloc, pass, seat)?);
-    let printed = print_turn(alloc, text, side.number, &over);
-    open_next(alloc, side, over)?;
-    side.pool.begin_shift(rt);
-    begin_links(side)?;
-    printed
+/// A shift of a gateway is closed, and the next one begins, also for its links.
+fn turn<'a, T: Wait>(rt: &T, page: &mut Page, side: &mut Side<'a, T>) {
+    match side.open.take() {
+        Some(opened) => {
+            side.open = next_of(page, side.number, opened);
+            side.pool.begin_shift(rt);
+            begin_links(side);
+        }
+        None => page.stop(Stop::Line),
+    }
 }
 
-/// The passes of a shift, in the order in which they are closed.
-fn passes_of(alloc: Global, pass: Pass, seat: Pass) -> Result<Vec<Pass>, Stop> {
-    let mut passes = Vec::new(alloc);
-    passes.push(pass)?;
-    passes.push(seat)?;
-    Ok(passes)
-}
-
-/// How a gateway's shift went.
-fn print_turn(alloc: Global, text: &mut String, number: u8, over: &Over) -> Result<(), Stop> {
-    write!(text, "{number} ")?;
-    print_over(alloc, text, over)
-}
-
-/// The next shift of a gateway is opened.
-fn open_next<'a, T: Wait>(alloc: Global, side: &mut Side<'a, T>, over: Over) -> Result<(), Stop> {
-    let opened = open_shift(alloc, over.node)?;
-    put_back(side, opened);
-    Ok(())
+/// Closes a shift of a gateway, prints how it went, and opens the next one.
+fn next_of(page: &mut Page, number: u8, opened: OpenShift) -> Option<OpenShift> {
+    let OpenShift { shift, pass, seat } = opened;
+    let mut passes = Vec::new(page.alloc());
+    let is_pass_lost = passes.push(pass).is_err();
+    let is_seat_lost = passes.push(seat).is_err();
+    page.stop_if_short(is_pass_lost || is_seat_lost);
+    let over = close(shift, passes);
+    page.shown("", &number);
+    page.text(" ");
+    print_over(page, &over);
+    open_shift(page, over.node)
 }
 
 /// The next shift begins for the links of a gateway.
-fn begin_links<'a, T: Wait>(side: &mut Side<'a, T>) -> Result<(), Stop> {
-    for _ in 0..side.ties.len() {
-        let mut tie = take_first(side)?;
+fn begin_links<'a, T: Wait>(side: &mut Side<'a, T>) {
+    for tie in side.ties.iter_mut() {
         tie.place.turn();
         if let Some(link) = &mut tie.link {
             link.begin_shift();
         }
-        put_last(side, tie)?;
     }
-    Ok(())
 }

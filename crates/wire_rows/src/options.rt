@@ -1,18 +1,19 @@
 //! The settings of the row, and gateways that are opened as they say.
 
+use crate::page::Page;
 use crate::printing::print_answer;
 use crate::serving::Gateway;
-use crate::stop::Stop;
+use crate::stop::{Stop, missing};
+use crate::words::Words;
 use file_disk::{FileDisk, FileDiskFault};
 use gw_main::options::Settings;
 use gw_main::{SettingsFault, begin, settings};
-use gw_node::{Answer, Node};
+use gw_node::Node;
 use gw_wire::address;
 use jr_journal::{Disk, MemoryDisk};
 use rep_plain::Plain;
 use sn_local::Addr;
-use std::alloc::{AllocError, Global};
-use std::fs::{File, Files};
+use std::fs::{File, Files, remove_file};
 use std::io::ErrorKind;
 
 /// Room for all that an opening prints: its lines then take no memory.
@@ -24,200 +25,193 @@ const NO_DISK: &[u8] = b"sngw: journal J1\n";
 /// What an opening prints if memory ran out.
 const NO_MEMORY: &[u8] = b"sngw: journal J4\n";
 
-/// The settings of a text, or nothing where they are refused, which is printed.
-fn read(alloc: Global, text: &mut String, toml: &str) -> Result<Option<Settings>, Stop> {
-    match settings(alloc, toml) {
-        Ok(read) => Ok(Some(read)),
-        Err(SettingsFault::Memory) => Err(Stop::Memory),
-        Err(fault) => refused(text, fault),
+/// The settings of a text. Where they are refused there are none, and the page says why.
+fn read(page: &mut Page, toml: &str) -> Option<Settings> {
+    match settings(page.alloc(), toml) {
+        Ok(read) => Some(read),
+        Err(fault) => {
+            print_refused(page, fault);
+            None
+        }
     }
 }
 
-/// Nothing, with what is printed of refused settings.
-fn refused(text: &mut String, fault: SettingsFault) -> Result<Option<Settings>, Stop> {
-    writeln!(text, "settings {fault}")?;
-    Ok(None)
+/// Why settings are refused, unless memory ran out.
+fn print_refused(page: &mut Page, fault: SettingsFault) {
+    page.stop_if_short(fault == SettingsFault::Memory);
+    page.shown("settings ", &fault);
+    page.end();
 }
 
 /// `settings`: what they are.
-pub(crate) fn show(alloc: Global, text: &mut String, toml: &str) -> Result<(), Stop> {
-    match read(alloc, text, toml)? {
-        Some(read) => Ok(print_settings(text, &read)?),
-        None => Ok(()),
+pub(crate) fn show(page: &mut Page, toml: &str, words: &mut Words) {
+    if words.end(page) {
+        if let Some(read) = read(page, toml) {
+            print_needed(page, &read);
+            print_others(page, &read);
+        }
     }
-}
-
-/// Settings.
-fn print_settings(text: &mut String, read: &Settings) -> Result<(), AllocError> {
-    print_needed(text, read)?;
-    print_others(text, read)
 }
 
 /// The settings that must be there.
-fn print_needed(text: &mut String, read: &Settings) -> Result<(), AllocError> {
-    let (gateway, journal) = (read.gateway, read.journal.as_str());
-    write!(text, "gateway {gateway} journal {journal}")?;
-    print_address(text, "listen", read.listen)?;
-    print_address(text, "link", read.link)?;
-    text.push('\n')
+fn print_needed(page: &mut Page, read: &Settings) {
+    page.shown("gateway ", &read.gateway);
+    page.text(" journal ");
+    page.text(read.journal.as_str());
+    print_address(page, " listen ", read.listen);
+    print_address(page, " link ", read.link);
+    page.end();
 }
 
-/// An address after a word.
-fn print_address(text: &mut String, word: &str, at: Addr) -> Result<(), AllocError> {
-    let at = address(at);
-    write!(text, " {word} {at}")
+/// An address after a text.
+fn print_address(page: &mut Page, text: &str, at: Addr) {
+    page.shown(text, &address(at));
 }
 
 /// The settings that have a default.
-fn print_others(text: &mut String, read: &Settings) -> Result<(), AllocError> {
-    let (workers, steps, advertise) = (read.workers, read.steps, read.advertise);
-    write!(
-        text,
-        "workers {workers} steps {steps} advertise {advertise}"
-    )?;
-    print_addresses(text, "field", read.field.as_slice())?;
-    print_addresses(text, "peer", read.peers.as_slice())?;
-    let predefined = read.predefined.entries().len();
-    write!(text, " predefined {predefined}")?;
+fn print_others(page: &mut Page, read: &Settings) {
+    page.shown("workers ", &read.workers);
+    page.shown(" steps ", &read.steps);
+    page.shown(" advertise ", &read.advertise);
+    print_addresses(page, " field ", read.field.as_slice());
+    print_addresses(page, " peer ", read.peers.as_slice());
+    page.shown(" predefined ", &read.predefined.entries().len());
     for number in read.numbers.as_slice() {
-        write!(text, " number {number}")?;
+        page.shown(" number ", number);
     }
-    text.push('\n')
+    page.end();
 }
 
-/// Addresses, each after a word.
-fn print_addresses(text: &mut String, word: &str, all: &[Addr]) -> Result<(), AllocError> {
+/// Addresses, each after a text.
+fn print_addresses(page: &mut Page, text: &str, all: &[Addr]) {
     for at in all {
-        print_address(text, word, *at)?;
+        print_address(page, text, *at);
     }
-    Ok(())
 }
 
-/// `begin`: opens a gateway on a disk in memory. No row arranges that its opening fails.
-pub(crate) fn begin_on(
-    alloc: Global,
-    text: &mut String,
-    toml: &str,
-    disk: MemoryDisk,
-) -> Result<Option<Gateway>, Stop> {
-    match read(alloc, text, toml)? {
-        Some(read) => begun(alloc, text, &read, disk, NO_DISK),
-        None => Ok(None),
+/// `gateway NUMBER`: the settings are what a gateway must be told.
+pub(crate) fn name(page: &mut Page, toml: &mut String, words: &mut Words) {
+    let number = words.word();
+    if words.end(page) {
+        toml.clear();
+        let is_short = writeln!(toml, "gateway = {number}").is_err();
+        page.stop_if_short(is_short);
+        add(page, toml, "listen = \"127.0.0.1:1884\"");
+        add(page, toml, "link = \"127.0.0.1:1885\"");
+        add(page, toml, "journal = \"j\"");
+    }
+}
+
+/// A line of the settings' text.
+pub(crate) fn add(page: &mut Page, toml: &mut String, line: &str) {
+    let is_short = writeln!(toml, "{line}").is_err();
+    page.stop_if_short(is_short);
+}
+
+/// Opens a gateway on a disk in memory, as a text says. No row arranges that its opening fails.
+pub(crate) fn begin_on(page: &mut Page, toml: &str, disk: MemoryDisk) -> Option<Gateway> {
+    match read(page, toml) {
+        Some(read) => begun(page, &read, disk, NO_DISK),
+        None => None,
     }
 }
 
 /// A gateway as the settings say, with what is printed of it. The program ends if memory ran out,
 /// or if what is printed says so of this disk.
 fn begun<D: Disk + Drop>(
-    alloc: Global,
-    text: &mut String,
+    page: &mut Page,
     read: &Settings,
     disk: D,
     short: &[u8],
-) -> Result<Option<Node<Plain, D>>, Stop> {
-    let (mut out, mut err) = rooms(alloc)?;
-    let node = begin::<Plain, D, Vec<u8>, Vec<u8>>(alloc, read, disk, &mut out, &mut err);
-    print_both(text, out, err, short)?;
-    started(text, node)
+) -> Option<Node<Plain, D>> {
+    let mut out = room(page);
+    let mut err = room(page);
+    let node = begin(page.alloc(), read, disk, &mut out, &mut err);
+    print_octets(page, out.as_slice(), short);
+    print_octets(page, err.as_slice(), short);
+    started(page, node)
 }
 
 /// Where an opening prints to.
-fn rooms(alloc: Global) -> Result<(Vec<u8>, Vec<u8>), Stop> {
-    let out = Vec::with_capacity(alloc, ROOM)?;
-    let err = Vec::with_capacity(alloc, ROOM)?;
-    Ok((out, err))
-}
-
-/// What an opening printed, unless it says that memory ran out.
-fn print_both(text: &mut String, out: Vec<u8>, err: Vec<u8>, short: &[u8]) -> Result<(), Stop> {
-    print_octets(text, out, short)?;
-    print_octets(text, err, short)
+fn room(page: &mut Page) -> Vec<u8> {
+    match Vec::with_capacity(page.alloc(), ROOM) {
+        Ok(room) => room,
+        Err(_) => {
+            page.stop(Stop::Memory);
+            Vec::new(page.alloc())
+        }
+    }
 }
 
 /// The gateway that was opened, or nothing, with the status that is printed then.
 fn started<D: Disk + Drop>(
-    text: &mut String,
+    page: &mut Page,
     node: Result<Node<Plain, D>, u8>,
-) -> Result<Option<Node<Plain, D>>, Stop> {
+) -> Option<Node<Plain, D>> {
     match node {
-        Ok(node) => Ok(Some(node)),
+        Ok(node) => Some(node),
         Err(status) => {
-            writeln!(text, "status {status}")?;
-            Ok(None)
+            page.shown("status ", &status);
+            page.end();
+            None
         }
     }
 }
 
 /// Text that was printed, unless it says that memory ran out.
-fn print_octets(text: &mut String, octets: Vec<u8>, short: &[u8]) -> Result<(), Stop> {
-    if octets.as_slice() == NO_MEMORY || octets.as_slice() == short {
-        return Err(Stop::Memory);
-    }
-    match String::from_utf8(octets) {
-        Ok(printed) => Ok(text.push_str(printed.as_str())?),
-        Err(_) => Err(Stop::Line),
+fn print_octets(page: &mut Page, octets: &[u8], short: &[u8]) {
+    page.stop_if_short(octets == NO_MEMORY || octets == short);
+    match str::from_utf8(octets) {
+        Ok(printed) => page.text(printed),
+        Err(_) => page.stop(Stop::Line),
     }
 }
 
 /// `files OCTETS`: opens a gateway on the two files that the settings name, gives it a datagram
 /// from port 1 of host 7, and closes it.
-pub(crate) fn files<T: Files<File = File>>(
-    rt: &T,
-    alloc: Global,
-    text: &mut String,
-    toml: &str,
-    bytes: &[u8],
-) -> Result<(), Stop> {
-    match read(alloc, text, toml)? {
-        Some(read) => files_of(rt, alloc, text, &read, bytes),
-        None => Ok(()),
+pub(crate) fn files<T: Files<File = File>>(rt: &T, page: &mut Page, toml: &str, words: &mut Words) {
+    let octets = words.octets();
+    if words.end(page) {
+        if let Some(read) = read(page, toml) {
+            files_of(rt, page, &read, octets.as_slice());
+        }
     }
 }
 
 /// A gateway on the two files of these settings is opened, and asked once.
-fn files_of<T: Files<File = File>>(
-    rt: &T,
-    alloc: Global,
-    text: &mut String,
-    read: &Settings,
-    bytes: &[u8],
-) -> Result<(), Stop> {
-    match FileDisk::at(rt, alloc, read.journal.as_str()) {
-        Ok(disk) => asked(alloc, text, read, disk, bytes),
-        Err(fault) => print_fault(text, &fault),
+fn files_of<T: Files<File = File>>(rt: &T, page: &mut Page, read: &Settings, octets: &[u8]) {
+    match FileDisk::at(rt, page.alloc(), read.journal.as_str()) {
+        Ok(disk) => ask_on(page, read, disk, octets),
+        Err(fault) => print_fault(page, fault),
     }
 }
 
 /// Why there is no disk of two files, unless memory ran out.
-fn print_fault(text: &mut String, fault: &FileDiskFault) -> Result<(), Stop> {
-    match fault {
-        FileDiskFault::Memory => Err(Stop::Memory),
-        FileDiskFault::Files(ErrorKind::OutOfMemory) => Err(Stop::Memory),
-        fault => Ok(writeln!(text, "{fault}")?),
-    }
+fn print_fault(page: &mut Page, fault: FileDiskFault) {
+    page.stop_if_short(matches!(
+        fault,
+        FileDiskFault::Memory | FileDiskFault::Files(ErrorKind::OutOfMemory)
+    ));
+    page.shown("", &fault);
+    page.end();
 }
 
 /// A gateway on a disk is opened, and asked once.
-fn asked<D: Disk + Drop>(
-    alloc: Global,
-    text: &mut String,
-    read: &Settings,
-    disk: D,
-    bytes: &[u8],
-) -> Result<(), Stop> {
-    let Some(mut node) = begun(alloc, text, read, disk, NO_MEMORY)? else {
-        return Ok(());
-    };
-    let answer = node.frame(alloc, Addr { host: 7, port: 1 }, bytes, 0);
-    drop(node);
-    let printed = print_answered(alloc, text, &answer);
-    drop(answer);
-    Ok(printed?)
+fn ask_on<D: Disk + Drop>(page: &mut Page, read: &Settings, disk: D, octets: &[u8]) {
+    if let Some(mut node) = begun(page, read, disk, NO_MEMORY) {
+        let answer = node.frame(page.alloc(), Addr { host: 7, port: 1 }, octets, 0);
+        page.text("answered");
+        print_answer(page, &answer);
+        page.end();
+    }
 }
 
-/// What was answered, as a line.
-fn print_answered(alloc: Global, text: &mut String, answer: &Answer) -> Result<(), AllocError> {
-    text.push_str("answered")?;
-    print_answer(alloc, text, answer)?;
-    text.push('\n')
+/// `lose NAME`: the file of this name is not there any more.
+pub(crate) fn lose<T: Files<File = File>>(rt: &T, page: &mut Page, words: &mut Words) {
+    let name = words.word();
+    if words.end(page) {
+        if let Err(error) = &remove_file(rt, name) {
+            page.stop(missing(error));
+        }
+    }
 }

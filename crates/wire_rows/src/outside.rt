@@ -1,6 +1,5 @@
 //! Where replies go, and who is told of them: each thing is noted.
 
-use crate::stop::Stop;
 use gw_wire::{Gate, Post, Unsent};
 use octets::Octets;
 use sn_local::Addr;
@@ -13,7 +12,7 @@ use std::thread;
 const TURNS: u64 = 10_000_000;
 
 /// One thing that was asked of the outside.
-#[derive(Debug, Drop)]
+#[derive(Drop)]
 pub(crate) enum Note {
     /// The replies to the datagram of this number are about to be sent.
     Before(u64),
@@ -31,7 +30,7 @@ pub(crate) enum Note {
 }
 
 /// Which replies are held until which others are out, by the numbers of their datagrams.
-#[derive(Clone, Copy, Debug)]
+#[derive(Clone, Copy)]
 pub(crate) struct Hold {
     /// These are held.
     pub(crate) first: u64,
@@ -67,12 +66,14 @@ impl<'a, T: Wait> Outside<'a, T> {
         }
     }
 
-    /// What they were asked, in this order, unless memory ran out.
-    pub(crate) fn into_notes(self) -> Result<Vec<Note>, Stop> {
-        if self.is_short.load(Ordering::SeqCst) {
-            return Err(Stop::Memory);
-        }
-        Ok(self.notes.into_inner())
+    /// Whether memory ran out, so that a note is missing.
+    pub(crate) fn is_short(&self) -> bool {
+        self.is_short.load(Ordering::SeqCst)
+    }
+
+    /// What they were asked, in this order.
+    pub(crate) fn into_notes(self) -> Vec<Note> {
+        self.notes.into_inner()
     }
 
     /// Notes something.

@@ -1,7 +1,7 @@
 //! A stream in memory between two gateways.
 
 use gw_link::{Phase, Stage};
-use std::alloc::{AllocError, Global};
+use std::alloc::Global;
 use std::collections::VecDeque;
 use std::io::{self, ErrorKind, Read, Write};
 use std::mem;
@@ -82,11 +82,11 @@ impl Place {
         mem::replace(&mut self.said.lock(rt), left)
     }
 
-    /// Octets come to it.
-    pub(crate) fn come<T: Wait>(&self, rt: &T, octets: Vec<u8>) -> Result<(), AllocError> {
-        match self.coming.lock(rt).push_back(octets) {
-            Ok(()) => Ok(()),
-            Err(_) => Err(AllocError),
+    /// Octets come to it, unless memory runs out, which it says.
+    pub(crate) fn come<T: Wait>(&self, rt: &T, alloc: Global, octets: &[u8]) -> bool {
+        match Vec::from_slice(alloc, octets) {
+            Ok(octets) => self.coming.lock(rt).push_back(octets).is_ok(),
+            Err(_) => false,
         }
     }
 
@@ -120,11 +120,10 @@ impl<'a, T: Wait> Pipe<'a, T> {
         }
     }
 
-    /// Octets go out.
-    fn say(&self, octets: &[u8]) -> Result<(), AllocError> {
-        let come = Vec::from_slice(self.alloc, octets)?;
-        self.here.said.lock(self.rt).extend_from_slice(octets)?;
-        self.there.come(self.rt, come)
+    /// Octets go out, unless memory runs out, which it says.
+    fn say(&self, octets: &[u8]) -> bool {
+        let said = self.here.said.lock(self.rt).extend_from_slice(octets);
+        said.is_ok() && self.there.come(self.rt, self.alloc, octets)
     }
 }
 
@@ -148,13 +147,11 @@ impl<'a, T: Wait> Write for Pipe<'a, T> {
     fn write(&mut self, buf: &[u8]) -> io::Result<usize> {
         let most = self.here.takes.load(Ordering::SeqCst) as usize;
         let size = buf.len().min(most);
-        match self.say(&buf[..size]) {
-            Ok(()) => Ok(size),
-            Err(_) => {
-                self.here.is_short.store(true, Ordering::SeqCst);
-                Err(io::Error::from(ErrorKind::Other))
-            }
+        if self.say(&buf[..size]) {
+            return Ok(size);
         }
+        self.here.is_short.store(true, Ordering::SeqCst);
+        Err(io::Error::from(ErrorKind::Other))
     }
 
     fn flush(&mut self) -> io::Result<()> {

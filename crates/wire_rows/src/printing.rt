@@ -1,6 +1,7 @@
 //! What is printed of a shift that was served.
 
 use crate::outside::Note;
+use crate::page::Page;
 use crate::serving::{Gateway, Outcome, Over};
 use crate::stop::Stop;
 use crate::wire::Coming;
@@ -8,68 +9,50 @@ use gw_node::{Answer, NodeFault, Step};
 use gw_serve::{Cause, Taken};
 use gw_shift::Entry;
 use sn_local::{Addr, Send as Sending};
-use std::alloc::{AllocError, Global};
-
-/// Octets in hexadecimal digits, `-` for none.
-pub(crate) fn shown(alloc: Global, octets: &[u8]) -> Result<String, AllocError> {
-    match octets {
-        [] => String::from_str(alloc, "-"),
-        _ => hex::encode(alloc, octets),
-    }
-}
 
 /// How serving ended, and with how many passes, unless memory ran out.
-pub(crate) fn print_outcome(text: &mut String, outcome: &Outcome) -> Result<(), AllocError> {
-    let passes = outcome.passes.len();
+pub(crate) fn print_outcome(page: &mut Page, outcome: &Outcome) {
     match outcome.cause {
-        None => writeln!(text, "served, passes {passes}"),
-        Some(Cause::Memory) => Err(AllocError),
-        Some(cause) => writeln!(text, "{cause}, passes {passes}"),
+        None => page.text("served"),
+        Some(Cause::Memory) => page.stop(Stop::Memory),
+        Some(cause) => page.shown("", &cause),
     }
+    page.shown(", passes ", &outcome.passes.len());
+    page.end();
 }
 
 /// What became of the datagrams: by their numbers, or, where serving ended early, the calls of the
 /// history.
-pub(crate) fn print_calls(
-    alloc: Global,
-    text: &mut String,
-    outcome: &Outcome,
-    history: &[Entry],
-    count: usize,
-) -> Result<(), AllocError> {
-    if outcome.cause.is_some() {
+pub(crate) fn print_calls(page: &mut Page, outcome: &Outcome, history: &[Entry], count: usize) {
+    if outcome.cause.is_none() {
+        print_numbers(page, outcome, history, count);
+        print_count(page, outcome);
+    } else {
         for entry in history {
-            print_call(alloc, text, entry)?;
+            print_call(page, entry);
         }
-        return Ok(());
     }
-    print_numbers(alloc, text, outcome, history, count)
 }
 
 /// What became of the datagrams of the first so many numbers.
-fn print_numbers(
-    alloc: Global,
-    text: &mut String,
-    outcome: &Outcome,
-    history: &[Entry],
-    count: usize,
-) -> Result<(), AllocError> {
+fn print_numbers(page: &mut Page, outcome: &Outcome, history: &[Entry], count: usize) {
     for place in 0..count {
         let number = place as u64 + 1;
         if let Some(taken) = taken_of(outcome.taken.as_slice(), number) {
-            print_taken(alloc, text, taken, history)?;
+            print_taken(page, taken, history);
         }
         if outcome.left.as_slice().contains(&number) {
-            writeln!(text, "datagram {number} left")?;
+            page.shown("datagram ", &number);
+            page.text(" left\n");
         }
     }
-    print_count(text, outcome)
 }
 
 /// How many datagrams became calls, and how many did not.
-pub(crate) fn print_count(text: &mut String, outcome: &Outcome) -> Result<(), AllocError> {
-    let (taken, left) = (outcome.taken.len(), outcome.left.len());
-    writeln!(text, "taken {taken}, left {left}")
+pub(crate) fn print_count(page: &mut Page, outcome: &Outcome) {
+    page.shown("taken ", &outcome.taken.len());
+    page.shown(", left ", &outcome.left.len());
+    page.end();
 }
 
 /// The call of a datagram.
@@ -83,17 +66,12 @@ fn taken_of(all: &[Taken], number: u64) -> Option<Taken> {
 }
 
 /// The call that a datagram became, as the history has it.
-fn print_taken(
-    alloc: Global,
-    text: &mut String,
-    taken: Taken,
-    history: &[Entry],
-) -> Result<(), AllocError> {
-    let number = taken.datagram;
-    write!(text, "datagram {number} is ")?;
+fn print_taken(page: &mut Page, taken: Taken, history: &[Entry]) {
+    page.shown("datagram ", &taken.datagram);
+    page.text(" is ");
     match entry_of(history, taken.step) {
-        Some(entry) => print_call(alloc, text, entry),
-        None => writeln!(text, "no call"),
+        Some(entry) => print_call(page, entry),
+        None => page.text("no call\n"),
     }
 }
 
@@ -106,35 +84,38 @@ fn entry_of(history: &[Entry], number: u64) -> Option<&Entry> {
 }
 
 /// A call, and what was answered to it.
-fn print_call(alloc: Global, text: &mut String, entry: &Entry) -> Result<(), AllocError> {
-    print_step(alloc, text, &entry.step)?;
-    print_answer(alloc, text, &entry.answer)?;
-    text.push('\n')
+fn print_call(page: &mut Page, entry: &Entry) {
+    print_step(page, &entry.step);
+    print_answer(page, &entry.answer);
+    page.end();
 }
 
 /// A call.
-fn print_step(alloc: Global, text: &mut String, step: &Step) -> Result<(), AllocError> {
+fn print_step(page: &mut Page, step: &Step) {
     match step {
         Step::Frame { from, bytes, now } => {
-            let octets = shown(alloc, bytes.as_slice())?;
-            write!(text, "frame {}:{} {now} {octets}", from.host, from.port)
+            print_at(page, "frame ", *from);
+            page.shown(" ", now);
+            page.octets(" ", bytes.as_slice());
         }
-        _ => text.push_str("another call"),
+        _ => page.text("another call"),
     }
 }
 
+/// An address after a text.
+fn print_at(page: &mut Page, text: &str, at: Addr) {
+    page.shown(text, &at.host);
+    page.shown(":", &at.port);
+}
+
 /// What was answered, unless memory ran out.
-pub(crate) fn print_answer(
-    alloc: Global,
-    text: &mut String,
-    answer: &Answer,
-) -> Result<(), AllocError> {
+pub(crate) fn print_answer(page: &mut Page, answer: &Answer) {
     match answer {
-        Ok(out) => print_sends(alloc, text, out.sends.as_slice()),
-        Err(NodeFault::Memory) => Err(AllocError),
+        Ok(out) => print_sends(page, out.sends.as_slice()),
+        Err(NodeFault::Memory) => page.stop(Stop::Memory),
         Err(fault) => {
-            let why = fault_word(fault);
-            write!(text, ", refused {why}")
+            page.text(", refused ");
+            page.text(fault_word(fault));
         }
     }
 }
@@ -150,99 +131,76 @@ fn fault_word(fault: &NodeFault) -> &'static str {
 }
 
 /// The datagrams of an answer.
-fn print_sends(alloc: Global, text: &mut String, sends: &[Sending]) -> Result<(), AllocError> {
+fn print_sends(page: &mut Page, sends: &[Sending]) {
     for send in sends {
-        print_to(alloc, text, send.to, send.bytes.as_slice())?;
+        print_to(page, send.to, send.bytes.as_slice());
     }
-    Ok(())
 }
 
 /// A datagram that goes somewhere.
-fn print_to(alloc: Global, text: &mut String, to: Addr, bytes: &[u8]) -> Result<(), AllocError> {
-    let octets = shown(alloc, bytes)?;
-    write!(text, ", to {}:{} {octets}", to.host, to.port)
+fn print_to(page: &mut Page, to: Addr, bytes: &[u8]) {
+    print_at(page, ", to ", to);
+    page.octets(" ", bytes);
 }
 
 /// What was asked of the outside: for each datagram, and how many things in all.
-pub(crate) fn print_notes(
-    alloc: Global,
-    text: &mut String,
-    coming: &[Coming],
-    notes: &[Note],
-) -> Result<(), AllocError> {
+pub(crate) fn print_notes(page: &mut Page, coming: &[Coming], notes: &[Note]) {
     let mut number = 0u64;
     for come in coming {
         if let Coming::Datagram { host, .. } = come {
             number = number.saturating_add(1);
-            print_notes_of(alloc, text, number, *host, notes)?;
+            print_notes_of(page, number, *host, notes);
         }
     }
-    let count = notes.len();
-    writeln!(text, "outside {count}")
+    page.shown("outside ", &notes.len());
+    page.end();
 }
 
 /// What was asked of the outside for the datagram of this number, and what was sent to its host.
-fn print_notes_of(
-    alloc: Global,
-    text: &mut String,
-    number: u64,
-    host: u32,
-    notes: &[Note],
-) -> Result<(), AllocError> {
-    write!(text, "outside for {number}")?;
+fn print_notes_of(page: &mut Page, number: u64, host: u32, notes: &[Note]) {
+    page.shown("outside for ", &number);
     for note in notes {
-        print_note(alloc, text, number, host, note)?;
+        print_note(page, number, host, note);
     }
-    text.push('\n')
+    page.end();
 }
 
 /// One thing that was asked, where it is for that datagram.
-fn print_note(
-    alloc: Global,
-    text: &mut String,
-    number: u64,
-    host: u32,
-    note: &Note,
-) -> Result<(), AllocError> {
+fn print_note(page: &mut Page, number: u64, host: u32, note: &Note) {
     match note {
-        Note::Before(of) if *of == number => text.push_str(", before"),
-        Note::Behind(of) if *of == number => text.push_str(", behind"),
-        Note::GaveUp(of) if *of == number => text.push_str(", held too long"),
-        Note::Sent { to, bytes } if to.host == host => {
-            print_to(alloc, text, *to, bytes.as_slice())
-        }
-        _ => Ok(()),
+        Note::Before(of) if *of == number => page.text(", before"),
+        Note::Behind(of) if *of == number => page.text(", behind"),
+        Note::GaveUp(of) if *of == number => page.text(", held too long"),
+        Note::Sent { to, bytes } if to.host == host => print_to(page, *to, bytes.as_slice()),
+        _ => {}
     }
 }
 
-/// Whether the shift was closed, with how many calls, and which clients the gateway knows. Ends the
-/// program if memory was refused in the disk, which then did not fail as arranged.
-pub(crate) fn print_over(alloc: Global, text: &mut String, over: &Over) -> Result<(), Stop> {
-    if over.node.starved() {
-        return Err(Stop::Memory);
-    }
-    let calls = over.history.len();
+/// Whether the shift was closed, with how many calls, and which clients the gateway knows. The
+/// program ends if memory was refused in the disk, which then did not fail as arranged.
+pub(crate) fn print_over(page: &mut Page, over: &Over) {
+    page.stop_if_short(over.node.starved());
     match &over.fault {
-        None => write!(text, "closed, calls {calls}, clients")?,
-        Some(fault) => write!(text, "not closed: {fault}; calls {calls}, clients")?,
+        None => page.text("closed,"),
+        Some(fault) => {
+            page.shown("not closed: ", fault);
+            page.text(";");
+        }
     }
-    print_clients(alloc, text, &over.node)?;
-    Ok(text.push('\n')?)
+    page.shown(" calls ", &over.history.len());
+    page.text(", clients");
+    print_clients(page, &over.node);
+    page.end();
 }
 
 /// The clients that a gateway knows.
-fn print_clients(alloc: Global, text: &mut String, node: &Gateway) -> Result<(), Stop> {
-    let Ok(clients) = node.clients(alloc) else {
-        return Err(Stop::Memory);
-    };
-    for client in clients.as_slice() {
-        print_name(alloc, text, client.bytes())?;
+fn print_clients(page: &mut Page, node: &Gateway) {
+    match &node.clients(page.alloc()) {
+        Ok(clients) => {
+            for client in clients.as_slice() {
+                page.octets(" ", client.bytes());
+            }
+        }
+        Err(_) => page.stop(Stop::Memory),
     }
-    Ok(())
-}
-
-/// The name of a client.
-fn print_name(alloc: Global, text: &mut String, name: &[u8]) -> Result<(), AllocError> {
-    let name = shown(alloc, name)?;
-    write!(text, " {name}")
 }

@@ -2,6 +2,7 @@
 
 ghost use Rattle.std.specs.Prelude.{◌<◌, ◌≤◌};
 
+use crate::page::Page;
 use crate::stop::Stop;
 use gw_node::Node;
 use gw_serve::{Cause, Taken, serve};
@@ -41,17 +42,18 @@ pub(crate) struct Over {
     pub(crate) fault: Option<CloseFault>,
 }
 
-/// A shift of a gateway for so many workers and so many calls.
+/// A shift of a gateway for so many workers and so many calls. There is none if memory ran out.
 pub(crate) fn shift_of(
-    alloc: Global,
+    page: &mut Page,
     node: Gateway,
     workers: u64,
     steps: u64,
-) -> Result<(Shared, Vec<Pass>), Stop> {
-    match Shift::open(alloc, node, passes_of(workers), steps_of(steps)).ok() {
-        Some(opened) => Ok(opened),
-        None => Err(Stop::Memory),
+) -> Option<(Shared, Vec<Pass>)> {
+    let opened = Shift::open(page.alloc(), node, passes_of(workers), steps_of(steps)).ok();
+    if opened.is_none() {
+        page.stop(Stop::Memory);
     }
+    opened
 }
 
 /// How many passes a shift has.
@@ -89,30 +91,25 @@ where
     G: Gate + Sync,
 {
     if passes.is_empty() {
-        return ended_with(passes, Vec::new(alloc), Vec::new(alloc), None);
+        return unserved(alloc, passes, None);
     }
     match serve(rt, alloc, shift, passes, wire, post, gate, turns) {
-        Ok(served) => ended_with(served.passes, served.taken, served.left, None),
-        Err(fault) => ended_with(
-            fault.passes,
-            Vec::new(alloc),
-            Vec::new(alloc),
-            Some(fault.cause),
-        ),
+        Ok(served) => Outcome {
+            passes: served.passes,
+            taken: served.taken,
+            left: served.left,
+            cause: None,
+        },
+        Err(fault) => unserved(alloc, fault.passes, Some(fault.cause)),
     }
 }
 
-/// An outcome of these parts.
-fn ended_with(
-    passes: Vec<Pass>,
-    taken: Vec<Taken>,
-    left: Vec<u64>,
-    cause: Option<Cause>,
-) -> Outcome {
+/// The outcome with these passes, of which no datagram is told.
+pub(crate) fn unserved(alloc: Global, passes: Vec<Pass>, cause: Option<Cause>) -> Outcome {
     Outcome {
         passes,
-        taken,
-        left,
+        taken: Vec::new(alloc),
+        left: Vec::new(alloc),
         cause,
     }
 }

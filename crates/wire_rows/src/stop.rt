@@ -1,48 +1,45 @@
 //! Why a line is not played.
 
-use octets::NoMemory;
-use std::alloc::{AllocError, AllocFailed};
-use std::io;
-use thiserror::Error;
+use std::{fmt, io};
 
 /// Why a line is not played.
-#[derive(Clone, Copy, Debug, PartialEq, Eq, Error)]
+#[derive(Clone, Copy)]
 pub(crate) enum Stop {
     /// The line is none of the language, or wants what is not there.
-    #[error("no such line")]
     Line,
     /// Memory ran out.
-    #[error("out of memory")]
     Memory,
     /// A datagram, or its answer, came too late over a socket. A thread that is refused runs after
     /// the other ones.
-    #[error("too late: memory or a thread was refused")]
     TooLate,
+    /// Standard input or output failed.
+    Stream,
 }
 
-impl From<AllocError> for Stop {
-    fn from(_error: AllocError) -> Stop {
-        Stop::Memory
+impl fmt::Display for Stop {
+    fn fmt<W: fmt::Write>(&self, f: &mut fmt::Formatter<W>) -> fmt::Result {
+        let words = match self {
+            Stop::Line => "no such line",
+            Stop::Memory => "out of memory",
+            Stop::TooLate => "too late: memory or a thread was refused",
+            Stop::Stream => "standard input or output failed",
+        };
+        f.write_str(words)
     }
 }
 
-impl From<NoMemory> for Stop {
-    fn from(_error: NoMemory) -> Stop {
-        Stop::Memory
+/// Why a stream of the program failed.
+pub(crate) fn broken(error: &io::Error) -> Stop {
+    match error.kind() {
+        io::ErrorKind::OutOfMemory => Stop::Memory,
+        _ => Stop::Stream,
     }
 }
 
-impl<T: Drop> From<AllocFailed<T>> for Stop {
-    fn from(_error: AllocFailed<T>) -> Stop {
-        Stop::Memory
-    }
-}
-
-impl From<io::Error> for Stop {
-    fn from(error: io::Error) -> Stop {
-        match error.kind() {
-            io::ErrorKind::OutOfMemory => Stop::Memory,
-            _ => Stop::Line,
-        }
+/// Why a socket or a file of a line is not there.
+pub(crate) fn missing(error: &io::Error) -> Stop {
+    match error.kind() {
+        io::ErrorKind::OutOfMemory => Stop::Memory,
+        _ => Stop::Line,
     }
 }

@@ -8,7 +8,7 @@ use sn_local::Addr;
 use std::thread;
 
 /// What a receive brings.
-#[derive(Debug, Drop)]
+#[derive(Drop)]
 pub(crate) enum Coming {
     /// A datagram, from port 1 of a host.
     Datagram {

@@ -1,9 +1,10 @@
 //! Calls of one gateway on a disk in memory, made directly and through a shift, so that the two can
 //! be compared in one run.
 
-ghost use Rattle.std.specs.Prelude.{◌<◌};
-
-use crate::seats::{risen, seated, sit_all};
+use crate::calls::{call_thrice, close_by, open_node, over, told};
+use crate::page::Page;
+use crate::seats::{Seat, call_all, seat_all};
+use crate::shifts;
 use crate::stop::Stop;
 use gw_node::{Answer, Node, NodeFault, Step};
 use gw_shift::{Closed, Pass, Shift};
@@ -11,14 +12,15 @@ use jr_journal::MemoryDisk;
 use octets::{Octets, Sequence};
 use rep_plain::Plain;
 use sn_local::{Addr, Config};
-use sn_topic::Predefined;
-use std::alloc::Global;
 use std::sync::{Arc, Wait};
 use std::thread::Threads;
 use std::time::{Clock, Instant};
 
 /// A gateway on a disk in memory.
 type Gateway = Node<Plain, MemoryDisk>;
+
+/// At most so many threads make calls.
+pub(crate) const MOST: u32 = 8;
 
 /// How many calls a round has.
 const CALLS: usize = 4096;
@@ -35,78 +37,113 @@ const SLEEP: [u8; 4] = [4, 0x18, 1, 0x2c];
 /// Makes so many rounds of calls by so many threads, each round of a gateway of its own; with 0
 /// threads the calls are made directly. Prints the calls, and on standard error the microseconds
 /// that they took.
-pub(crate) fn run<T>(
-    rt: &T,
-    text: &mut String,
-    name: &str,
-    threads: usize,
-    rounds: u16,
-) -> Result<(), Stop>
+pub(crate) fn run<T>(rt: &T, page: &mut Page, name: &str, threads: usize, rounds: u16)
 where
     T: Threads + Wait + Sync + Clock + Eprint + AllocGlobal,
 {
-    let step = step_of(rt.alloc(), name)?;
-    let micros = all(rt, &step, threads, rounds);
-    drop(step);
-    let micros = micros?;
-    let calls = u64::from(rounds) * 4096;
-    let _ = eprintln!(rt; "{name} {threads} {rounds} {calls} {micros}");
-    Ok(writeln!(text, "{name} {threads} {rounds}: {calls} calls")?)
+    let step = step_of(page, name);
+    if let Some(step) = &step {
+        let micros = all(rt, page, step, threads, rounds);
+        tell(rt, page, name, threads, rounds, micros);
+    }
 }
 
-/// The call of a work.
-fn step_of(alloc: Global, name: &str) -> Result<Arc<Step>, Stop> {
-    let bytes = match name {
-        "search" => Octets::from_slice(alloc, &SEARCHGW)?,
-        "sleep" => Octets::from_slice(alloc, &SLEEP)?,
-        _ => return Err(Stop::Line),
-    };
+/// Prints the calls, and on standard error the microseconds that they took.
+fn tell<T>(rt: &T, page: &mut Page, name: &str, threads: usize, rounds: u16, micros: u64)
+where
+    T: Eprint + AllocGlobal,
+{
+    let calls = u64::from(rounds) * 4096;
+    page.text(name);
+    page.length(" ", threads);
+    page.number(" ", u64::from(rounds));
+    page.number(": ", calls);
+    page.text(" calls\n");
+    let mut times = Page::new(rt.alloc());
+    times.text(name);
+    times.length(" ", threads);
+    times.number(" ", u64::from(rounds));
+    times.number(" ", calls);
+    times.number(" ", micros);
+    let times = times.printed();
+    let _ = eprintln!(rt; "{times}");
+}
+
+/// The call of a work, to be shared.
+fn step_of(page: &mut Page, name: &str) -> Option<Arc<Step>> {
+    match name {
+        "search" => shared(page, &SEARCHGW),
+        "sleep" => shared(page, &SLEEP),
+        _ => {
+            page.stop(Stop::Line);
+            None
+        }
+    }
+}
+
+/// The call that brings this datagram, to be shared.
+fn shared(page: &mut Page, datagram: &[u8]) -> Option<Arc<Step>> {
+    let bytes = Octets::from_slice(page.alloc(), datagram).ok();
+    page.stop_if_short(bytes.is_none());
     let step = Step::Frame {
         from: CLIENT,
-        bytes,
+        bytes: bytes?,
         now: 0,
     };
-    Ok(Arc::new(alloc, step)?)
+    let shared = Arc::new(page.alloc(), step).ok();
+    page.stop_if_short(shared.is_none());
+    shared
 }
 
 /// The microseconds that all rounds took.
-fn all<T>(rt: &T, step: &Arc<Step>, threads: usize, rounds: u16) -> Result<u64, Stop>
+fn all<T>(rt: &T, page: &mut Page, step: &Arc<Step>, threads: usize, rounds: u16) -> u64
 where
     T: Threads + Wait + Sync + Clock + AllocGlobal,
 {
     let mut micros = 0_u64;
     for _ in 0..rounds {
-        micros = micros.wrapping_add(round(rt, step, threads)?);
+        micros = micros.wrapping_add(round(rt, page, step, threads));
     }
-    Ok(micros)
+    micros
 }
 
 /// The microseconds that a round took.
-fn round<T>(rt: &T, step: &Arc<Step>, threads: usize) -> Result<u64, Stop>
+fn round<T>(rt: &T, page: &mut Page, step: &Arc<Step>, threads: usize) -> u64
 where
     T: Threads + Wait + Sync + Clock + AllocGlobal,
 {
-    let node = gateway(rt.alloc())?;
-    match threads {
-        0 => direct(rt, rt.alloc(), node, step),
-        _ => shared(rt, rt.alloc(), node, step, threads),
+    match gateway(page) {
+        Some(node) if threads == 0 => direct(rt, page, node, step),
+        Some(node) => by_threads(rt, page, node, step, threads),
+        None => 0,
     }
 }
 
-/// Gateway 1, with a client that has connected.
-fn gateway(alloc: Global) -> Result<Gateway, Stop> {
-    let mut node = opened(alloc)?;
-    greet(alloc, &mut node)?;
-    Ok(node)
+/// Gateway 1 on an empty disk, with a client that has connected.
+fn gateway(page: &mut Page) -> Option<Gateway> {
+    let config = told(page.alloc(), 1, 0, Sequence::empty(page.alloc()));
+    page.stop_if_short(config.is_none());
+    opened(page, config?)
 }
 
-/// Gateway 1 on an empty disk.
-fn opened(alloc: Global) -> Result<Gateway, Stop> {
-    let config = config(alloc)?;
-    match open(alloc, config) {
-        Ok(node) => Ok(node),
-        Err((disk, fault)) => Err(stop_of(&fault, disk.starved())),
+/// A gateway on an empty disk, with a client that has connected.
+fn opened(page: &mut Page, config: Config) -> Option<Gateway> {
+    match open_node(page.alloc(), config, MemoryDisk::new(page.alloc())) {
+        Ok(node) => Some(greeted(page, node)),
+        Err((disk, fault)) => {
+            page.stop(stop_of(&fault, disk.starved()));
+            None
+        }
     }
+}
+
+/// The gateway once the client has connected.
+fn greeted(page: &mut Page, node: Gateway) -> Gateway {
+    let mut node = node;
+    let answer = node.frame(page.alloc(), CLIENT, &CONNECT, 0);
+    check(page, &answer, node.starved());
+    drop(answer);
+    node
 }
 
 /// Why a work stops: memory ran out, also in its disk, or a call was refused.
@@ -117,188 +154,103 @@ fn stop_of(fault: &NodeFault, is_starved: bool) -> Stop {
     Stop::Work
 }
 
-/// Whether a call was answered.
-fn check(answer: &Answer, is_starved: bool) -> Result<(), Stop> {
-    match answer {
-        Ok(_) => Ok(()),
-        Err(fault) => Err(stop_of(fault, is_starved)),
+/// Notes a call that was refused.
+fn check(page: &mut Page, answer: &Answer, is_starved: bool) {
+    if let Err(fault) = answer {
+        page.stop(stop_of(fault, is_starved));
     }
 }
 
-/// A gateway is opened. Of the call nothing is said here, so that who makes it carries no clause
-/// on.
-fn open(alloc: Global, config: Config) -> Result<Gateway, (MemoryDisk, NodeFault)> {
-    Node::open(alloc, config, MemoryDisk::new(alloc))
-}
-
-/// What gateway 1 is told.
-fn config(alloc: Global) -> Result<Config, Stop> {
-    match Predefined::new(alloc, Vec::new(alloc)) {
-        Ok(predefined) => Ok(Config {
-            gateway: 1,
-            advertise: 0,
-            field: Sequence::empty(alloc),
-            predefined,
-        }),
-        Err(_) => Err(Stop::Work),
+/// The microseconds since a moment; 0 if the clock failed.
+fn since<T: Clock>(rt: &T, page: &mut Page, start: &Option<Instant>) -> u64 {
+    if let Some(start) = start {
+        if let Ok(taken) = start.elapsed(rt) {
+            return (taken.as_micros() % 1_000_000_000_000) as u64;
+        }
     }
-}
-
-/// The client connects.
-fn greet(alloc: Global, node: &mut Gateway) -> Result<(), Stop> {
-    let answer = node.frame(alloc, CLIENT, &CONNECT, 0);
-    check(&answer, node.starved())
-}
-
-/// The moment.
-fn moment<T: Clock>(rt: &T) -> Result<Instant, Stop> {
-    match Instant::now(rt) {
-        Ok(now) => Ok(now),
-        Err(_) => Err(Stop::Work),
-    }
-}
-
-/// The microseconds since a moment.
-fn since<T: Clock>(rt: &T, start: &Instant) -> Result<u64, Stop> {
-    match start.elapsed(rt) {
-        Ok(taken) => Ok((taken.as_micros() % 1_000_000_000_000) as u64),
-        Err(_) => Err(Stop::Work),
-    }
+    page.stop(Stop::Work);
+    0
 }
 
 /// The calls, made by the one that owns the gateway: the microseconds that they took.
-fn direct<T: Clock>(rt: &T, alloc: Global, node: Gateway, step: &Step) -> Result<u64, Stop> {
+fn direct<T: Clock>(rt: &T, page: &mut Page, node: Gateway, step: &Step) -> u64 {
     let mut node = node;
-    let taken = timed(rt, alloc, &mut node, step);
-    drop(node);
-    taken
-}
-
-/// The microseconds that the calls of a round take, one after the other.
-fn timed<T: Clock>(rt: &T, alloc: Global, node: &mut Gateway, step: &Step) -> Result<u64, Stop> {
-    let start = moment(rt)?;
-    call_all(alloc, node, step)?;
-    since(rt, &start)
-}
-
-/// The calls of a round, one after the other.
-fn call_all(alloc: Global, node: &mut Gateway, step: &Step) -> Result<(), Stop> {
+    let start = Instant::now(rt).ok();
     for _ in 0..CALLS {
-        call(alloc, node, step)?;
+        call(page, &mut node, step);
     }
-    Ok(())
+    since(rt, page, &start)
 }
 
 /// A call, which is not refused.
-fn call(alloc: Global, node: &mut Gateway, step: &Step) -> Result<(), Stop> {
-    let (first, _second, _third) = node.step(alloc, step);
-    check(&first, node.starved())
+fn call(page: &mut Page, node: &mut Gateway, step: &Step) {
+    let answers = call_thrice(page.alloc(), node, step);
+    check(page, &answers.0, node.starved());
+    drop(answers);
 }
 
-/// The calls, made by 1 to 8 threads that share the gateway: the microseconds that they took. The
-/// shift is closed.
-fn shared<T: Threads + Wait + Sync + Clock>(
+/// The calls, made by threads that share the gateway: the microseconds that they took. The shift is
+/// closed.
+fn by_threads<T: Threads + Wait + Sync + Clock>(
     rt: &T,
-    alloc: Global,
+    page: &mut Page,
     node: Gateway,
     step: &Arc<Step>,
     threads: usize,
-) -> Result<u64, Stop> {
-    if threads == 0 || threads > 8 {
-        drop(node);
-        return Err(Stop::Line);
-    }
-    let each = CALLS / threads;
-    let (shift, passes) = shift_of(alloc, node, threads)?;
-    let mut seats = Vec::new(alloc);
-    let taken = timed_at_once(rt, alloc, &shift, &mut seats, passes, step, each);
-    match taken {
-        Ok(taken) => {
-            close(alloc, shift, seats, each * threads)?;
-            Ok(taken)
-        }
-        Err(stop) => {
-            drop(shift);
-            drop(seats);
-            Err(stop)
-        }
+) -> u64 {
+    let each = CALLS / threads.max(1);
+    match shifts::open(page, node, threads, 4096) {
+        Some((shift, passes)) => at_once(rt, page, shift, passes, step, each),
+        None => 0,
     }
 }
 
-/// The passes sit down and make so many calls each, all at once: the microseconds that these take.
-fn timed_at_once<T: Threads + Wait + Sync + Clock>(
+/// The passes of a shift make so many calls each, all at once: the microseconds that these take.
+/// The shift is closed.
+fn at_once<T: Threads + Wait + Sync + Clock>(
     rt: &T,
-    alloc: Global,
-    shift: &Shift<Plain, MemoryDisk>,
-    seats: &mut Vec<Option<Pass>>,
+    page: &mut Page,
+    shift: Shift<Plain, MemoryDisk>,
     passes: Vec<Pass>,
     step: &Arc<Step>,
     each: usize,
-) -> Result<u64, Stop> {
-    seated(seats, passes)?;
-    let start = moment(rt)?;
-    sit_all(rt, alloc, shift, seats.as_mut_slice(), step, each)?;
-    since(rt, &start)
+) -> u64 {
+    let mut seats = Vec::new(page.alloc());
+    seat_all(page, &mut seats, passes);
+    let start = Instant::now(rt).ok();
+    let is_short = call_all(rt, page.alloc(), &shift, seats.as_mut_slice(), step, each);
+    let micros = since(rt, page, &start);
+    page.stop_if_short(is_short);
+    close(page, shift, seats, each);
+    micros
 }
 
-/// A shift of a gateway.
-fn shift_of(
-    alloc: Global,
-    node: Gateway,
-    threads: usize,
-) -> Result<(Shift<Plain, MemoryDisk>, Vec<Pass>), Stop>
-    requires { 0 < threads }
-{
-    match Shift::open(alloc, node, threads, 4096) {
-        Ok(opened) => Ok(opened),
-        Err(refused) => {
-            drop(refused);
-            Err(Stop::Memory)
+/// Closes a shift with the passes of all seats, each of which has made so many calls.
+fn close(page: &mut Page, shift: Shift<Plain, MemoryDisk>, seats: Vec<Seat>, each: usize) {
+    let calls = each.saturating_mul(seats.len());
+    let passes = risen(page, seats);
+    match &close_by(over(shift), passes) {
+        Ok(closed) => check_closed(page, closed, calls),
+        Err(_) => page.stop(Stop::Work),
+    }
+}
+
+/// The passes of all seats.
+fn risen(page: &mut Page, seats: Vec<Seat>) -> Vec<Pass> {
+    let mut passes = Vec::new(page.alloc());
+    for seat in seats {
+        if let Some(pass) = seat {
+            let is_short = passes.push(pass).is_err();
+            page.stop_if_short(is_short);
         }
     }
+    passes
 }
 
-/// Closes a shift with the passes of all seats. It has that many calls.
-fn close(
-    alloc: Global,
-    shift: Shift<Plain, MemoryDisk>,
-    seats: Vec<Option<Pass>>,
-    calls: usize,
-) -> Result<(), Stop> {
-    match risen(alloc, seats) {
-        Ok(passes) => close_with(shift, passes, calls),
-        Err(stop) => {
-            drop(shift);
-            Err(stop)
-        }
-    }
-}
-
-/// Closes a shift with these passes.
-fn close_with(
-    shift: Shift<Plain, MemoryDisk>,
-    passes: Vec<Pass>,
-    calls: usize,
-) -> Result<(), Stop> {
-    let outcome = shift.end().close(passes);
-    let checked = check_closed(&outcome, calls);
-    drop(outcome);
-    checked
-}
-
-/// Whether a shift was closed, has that many calls, and no memory was refused in its disk.
-fn check_closed<E>(
-    outcome: &Result<Closed<Plain, MemoryDisk>, E>,
-    calls: usize,
-) -> Result<(), Stop> {
-    let Ok(closed) = outcome else {
-        return Err(Stop::Work);
-    };
-    if closed.node.starved() {
-        return Err(Stop::Memory);
-    }
+/// A closed shift has so many calls, and no memory was refused in its disk.
+fn check_closed(page: &mut Page, closed: &Closed<Plain, MemoryDisk>, calls: usize) {
+    page.stop_if_short(closed.node.starved());
     if closed.history.len() != calls {
-        return Err(Stop::Work);
+        page.stop(Stop::Work);
     }
-    Ok(())
 }

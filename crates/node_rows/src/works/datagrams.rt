@@ -1,7 +1,7 @@
 //! A mixed stream of datagrams (MQTT-SN 1.2 section 5.4).
 
+use crate::page::Page;
 use crate::works::numbers::Numbers;
-use std::alloc::{AllocError, Global};
 
 /// How many datagrams the stream has.
 const COUNT: usize = 10_000;
@@ -47,34 +47,42 @@ const SHAPES: [Shape; 32] = [
 ];
 
 /// The stream. One datagram in four has the long form of Length where the short one would do.
-pub(crate) fn stream(alloc: Global) -> Result<Vec<Vec<u8>>, AllocError> {
+pub(crate) fn stream(page: &mut Page) -> Vec<Vec<u8>> {
     let mut numbers = Numbers::new();
-    let mut made = Vec::new(alloc);
+    let mut made = Vec::new(page.alloc());
     for _ in 0..COUNT {
         let shape = SHAPES[usize::from(numbers.next() % 32)];
-        made.push(datagram(alloc, &mut numbers, shape)?)?;
+        let datagram = datagram(page, &mut numbers, shape);
+        let is_short = made.push(datagram).is_err();
+        page.stop_if_short(is_short);
     }
-    Ok(made)
+    made
 }
 
 /// A datagram of this kind.
-fn datagram(alloc: Global, numbers: &mut Numbers, shape: Shape) -> Result<Vec<u8>, AllocError> {
+fn datagram(page: &mut Page, numbers: &mut Numbers, shape: Shape) -> Vec<u8> {
     let (msg_type, first, least, more) = shape;
     let size = u16::from(least) + numbers.next() % (u16::from(more) + 1);
-    let is_long = numbers.next() % 4 == 0 || size > 253;
-    let mut made = Vec::new(alloc);
-    if is_long {
-        let total = size + 4;
-        made.extend_from_slice(&[1, (total / 256) as u8, (total % 256) as u8])?;
-    } else {
-        made.push((size + 2) as u8)?;
-    }
-    made.push(msg_type)?;
+    let is_long = numbers.next() % 4 == 0;
+    let mut made = Vec::new(page.alloc());
+    add_length(page, &mut made, size, is_long);
+    page.add(&mut made, &[msg_type]);
     if size > 0 {
-        made.push(first)?;
+        page.add(&mut made, &[first]);
     }
     for _ in 1..size {
-        made.push(numbers.octet())?;
+        page.add(&mut made, &[numbers.octet()]);
     }
-    Ok(made)
+    made
+}
+
+/// The Length of a datagram whose body has so many octets, in its long form if the short one would
+/// not do.
+fn add_length(page: &mut Page, made: &mut Vec<u8>, size: u16, is_long: bool) {
+    if is_long || size > 253 {
+        let [high, low] = size.saturating_add(4).to_be_bytes();
+        page.add(made, &[1, high, low]);
+    } else {
+        page.add(made, &[(size + 2) as u8]);
+    }
 }

@@ -1,45 +1,49 @@
 //! The codec of deltas at work.
 
-use crate::stop::Stop;
+use crate::calls::{delta_of, read_delta, write_delta};
+use crate::page::Page;
 use crate::works::numbers::checksum;
 use crate::works::operations::operations;
-use crate::works::{delta_of, write_delta};
+use crate::works::worked;
 use rep_ops::Delta;
-use std::alloc::{AllocError, Global};
 
 /// Encodes and decodes the delta so often, and says how many operations were read, and what was
 /// written.
-pub(crate) fn run(alloc: Global, text: &mut String, rounds: u32) -> Result<(), Stop> {
-    let delta = delta_of(alloc, operations(alloc)?)?;
-    let mut bytes = Vec::new(alloc);
-    let count = all(alloc, &delta, &mut bytes, rounds)?;
-    Ok(print(text, count, bytes.as_slice())?)
+pub(crate) fn run(page: &mut Page, rounds: u32) {
+    let ops = operations(page);
+    let delta = delta_of(page.alloc(), ops);
+    if let Some(delta) = &worked(page, delta) {
+        print_rounds(page, delta, rounds);
+    }
 }
 
 /// What the rounds read and wrote.
-fn print(text: &mut String, count: u64, bytes: &[u8]) -> Result<(), AllocError> {
-    let (size, sum) = (bytes.len(), checksum(bytes));
-    writeln!(
-        text,
-        "deltas: {count} operations, {size} octets a round, checksum {sum:016x}"
-    )
+fn print_rounds(page: &mut Page, delta: &Delta, rounds: u32) {
+    let mut octets = Vec::new(page.alloc());
+    let count = all(page, delta, &mut octets, rounds);
+    page.number("deltas: ", count);
+    page.length(" operations, ", octets.len());
+    page.checksum(" octets a round, checksum ", checksum(&octets));
+    page.end();
 }
 
 /// All rounds: how many operations were read.
-fn all(alloc: Global, delta: &Delta, bytes: &mut Vec<u8>, rounds: u32) -> Result<u64, Stop> {
+fn all(page: &mut Page, delta: &Delta, octets: &mut Vec<u8>, rounds: u32) -> u64 {
     let mut count = 0_u64;
     for _ in 0..rounds {
-        bytes.clear();
-        write_delta(alloc, delta, bytes)?;
-        count = count.wrapping_add(read(alloc, bytes.as_slice())?);
+        octets.clear();
+        let written = write_delta(page.alloc(), delta, octets);
+        let _written = worked(page, written);
+        count = count.wrapping_add(read(page, octets));
     }
-    Ok(count)
+    count
 }
 
 /// How many operations the delta has that octets spell.
-fn read(alloc: Global, bytes: &[u8]) -> Result<u64, Stop> {
-    match Delta::decode(alloc, bytes) {
-        Ok(delta) => Ok(delta.ops().len() as u64),
-        Err(fault) => Err(Stop::from(fault)),
+fn read(page: &mut Page, octets: &[u8]) -> u64 {
+    let delta = read_delta(page.alloc(), octets);
+    match &worked(page, delta) {
+        Some(delta) => delta.ops().len() as u64,
+        None => 0,
     }
 }

@@ -1,70 +1,59 @@
 //! The codec of frames at work.
 
+use crate::calls::read_frame;
+use crate::page::Page;
 use crate::stop::Stop;
 use crate::works::datagrams::stream;
 use crate::works::numbers::checksum;
-use sn_frame::{EncodeFault, Frame, FrameFault, decode, encode};
-use std::alloc::{AllocError, Global};
+use sn_frame::{EncodeFault, Frame, FrameFault, encode};
 
 /// Decodes and encodes the stream so often, and says how many datagrams that were, and what the
 /// last round wrote.
-pub(crate) fn run(alloc: Global, text: &mut String, rounds: u32) -> Result<(), Stop> {
-    let datagrams = stream(alloc)?;
-    let mut out = Vec::new(alloc);
-    let count = all(alloc, datagrams.as_slice(), &mut out, rounds)?;
-    Ok(print(text, count, out.as_slice())?)
-}
-
-/// What the rounds read and wrote.
-fn print(text: &mut String, count: u64, out: &[u8]) -> Result<(), AllocError> {
-    let (size, sum) = (out.len(), checksum(out));
-    writeln!(
-        text,
-        "frames: {count} datagrams, {size} octets a round, checksum {sum:016x}"
-    )
+pub(crate) fn run(page: &mut Page, rounds: u32) {
+    let datagrams = stream(page);
+    let mut out = Vec::new(page.alloc());
+    let count = all(page, datagrams.as_slice(), &mut out, rounds);
+    page.number("frames: ", count);
+    page.length(" datagrams, ", out.len());
+    page.checksum(" octets a round, checksum ", checksum(&out));
+    page.end();
 }
 
 /// All rounds: how many datagrams were decoded.
-fn all(alloc: Global, datagrams: &[Vec<u8>], out: &mut Vec<u8>, rounds: u32) -> Result<u64, Stop> {
+fn all(page: &mut Page, datagrams: &[Vec<u8>], out: &mut Vec<u8>, rounds: u32) -> u64 {
     let mut count = 0_u64;
     for _ in 0..rounds {
         out.clear();
-        round(alloc, datagrams, out)?;
+        round(page, datagrams, out);
         count = count.wrapping_add(datagrams.len() as u64);
     }
-    Ok(count)
+    count
 }
 
 /// Decodes each datagram, and encodes what it says.
-fn round(alloc: Global, datagrams: &[Vec<u8>], out: &mut Vec<u8>) -> Result<(), Stop> {
+fn round(page: &mut Page, datagrams: &[Vec<u8>], out: &mut Vec<u8>) {
     for datagram in datagrams {
-        decode_and_encode(alloc, datagram.as_slice(), out)?;
+        decode_and_encode(page, datagram.as_slice(), out);
     }
-    Ok(())
 }
 
 /// Decodes a datagram, and encodes what it says.
-fn decode_and_encode(alloc: Global, datagram: &[u8], out: &mut Vec<u8>) -> Result<(), Stop> {
-    let frame = read(alloc, datagram)?;
-    let written = write(alloc, &frame, out);
-    drop(frame);
-    written
-}
-
-/// The frame that a datagram spells.
-fn read(alloc: Global, datagram: &[u8]) -> Result<Frame, Stop> {
-    match decode(alloc, datagram) {
-        Ok(frame) => Ok(frame),
-        Err(FrameFault::Memory) => Err(Stop::Memory),
-        Err(_) => Err(Stop::Work),
+fn decode_and_encode(page: &mut Page, datagram: &[u8], out: &mut Vec<u8>) {
+    match read_frame(page.alloc(), datagram) {
+        Ok(frame) => {
+            write(page, &frame, out);
+            drop(frame);
+        }
+        Err(FrameFault::Memory) => page.stop(Stop::Memory),
+        Err(_) => page.stop(Stop::Work),
     }
 }
 
 /// Puts the octets of a frame after those that are there.
-fn write(alloc: Global, frame: &Frame, out: &mut Vec<u8>) -> Result<(), Stop> {
-    match encode(alloc, frame, out) {
-        Ok(()) => Ok(()),
-        Err(EncodeFault::Memory) => Err(Stop::Memory),
-        Err(_) => Err(Stop::Work),
+fn write(page: &mut Page, frame: &Frame, out: &mut Vec<u8>) {
+    match encode(page.alloc(), frame, out) {
+        Ok(()) => {}
+        Err(EncodeFault::Memory) => page.stop(Stop::Memory),
+        Err(_) => page.stop(Stop::Work),
     }
 }

@@ -1,13 +1,12 @@
 //! The operations of a delta of about 8 MiB: 100 clients, each with a Take, three changes of
 //! presence, 20 puts with bodies of 4,096 octets and five ranges of acknowledgements.
 
+use crate::page::Page;
+use crate::works::making::{self, STAMP, push, take};
 use crate::works::numbers::Numbers;
-use octets::Octets;
-use rep_ops::{ClientId, Op, OpsFault, Put, Stamp};
-use sn_session::{Message, Presence, Session, SessionOp};
+use rep_ops::{ClientId, Op};
+use sn_session::{Presence, SessionOp};
 use sn_tables::QosLevel;
-use sn_topic::TopicName;
-use std::alloc::{AllocError, Global};
 
 const CLIENTS: u8 = 100;
 
@@ -20,36 +19,24 @@ const RANGES: u64 = 5;
 /// The octets of a put's body.
 const BODY: usize = 4096;
 
-/// The stamp of every session.
-const STAMP: Stamp = Stamp {
-    epoch: 1,
-    gateway: 1,
-};
-
 /// All of them.
-pub(crate) fn operations(alloc: Global) -> Result<Vec<Op>, OpsFault> {
-    let mut ops = Vec::new(alloc);
+pub(crate) fn operations(page: &mut Page) -> Vec<Op> {
+    let mut ops = Vec::new(page.alloc());
     let mut numbers = Numbers::new();
     for client in 0..CLIENTS {
-        ops.push(take(alloc, client)?)?;
-        for counter in 1..=CHANGES {
-            ops.push(change(alloc, client, counter)?)?;
-        }
-        for seq in 1..=PUTS {
-            ops.push(put(alloc, client, seq, &mut numbers)?)?;
-        }
-        for range in 0..RANGES {
-            ops.push(ack(alloc, client, 1 + range * 10)?)?;
-        }
+        add_take(page, &mut ops, client);
+        add_changes(page, &mut ops, client, CHANGES);
+        add_puts(page, &mut ops, client, &mut numbers);
+        add_acks(page, &mut ops, client);
     }
-    Ok(ops)
+    ops
 }
 
 /// One change of one client's session.
-pub(crate) fn presence(alloc: Global) -> Result<Vec<Op>, OpsFault> {
-    let mut ops = Vec::new(alloc);
-    ops.push(change(alloc, 0, 1)?)?;
-    Ok(ops)
+pub(crate) fn presence(page: &mut Page) -> Vec<Op> {
+    let mut ops = Vec::new(page.alloc());
+    add_changes(page, &mut ops, 0, 1);
+    ops
 }
 
 /// The digits of a number below 100.
@@ -57,77 +44,89 @@ fn digits(number: u8) -> [u8; 2] {
     [b'0' + number / 10 % 10, b'0' + number % 10]
 }
 
-fn name(alloc: Global, client: u8) -> Result<ClientId, OpsFault> {
-    let [tens, ones] = digits(client);
-    ClientId::new(
-        alloc,
-        &[b's', b'e', b'n', b's', b'o', b'r', b'-', tens, ones],
-    )
+/// The client of this number.
+fn client_of(page: &mut Page, number: u8) -> Option<ClientId> {
+    making::client(page, &digits(number))
 }
 
-fn take(alloc: Global, client: u8) -> Result<Op, OpsFault> {
-    let mut session = Session::empty(alloc);
-    session.duration = 60;
-    Ok(Op::Session {
-        client: name(alloc, client)?,
-        stamp: STAMP,
-        counter: 0,
-        change: SessionOp::Take(session),
-    })
+/// The client's session begins.
+fn add_take(page: &mut Page, ops: &mut Vec<Op>, client: u8) {
+    if let Some(client) = client_of(page, client) {
+        let op = take(page.alloc(), client);
+        push(page, ops, op);
+    }
 }
 
-fn change(alloc: Global, client: u8, counter: u8) -> Result<Op, OpsFault> {
-    let change = SessionOp::Presence {
-        presence: Presence::Asleep,
-        duration: u16::from(counter) * 60,
-    };
-    Ok(Op::Session {
-        client: name(alloc, client)?,
+/// So many changes of the client's session.
+fn add_changes(page: &mut Page, ops: &mut Vec<Op>, client: u8, changes: u8) {
+    for counter in 1..=changes {
+        if let Some(client) = client_of(page, client) {
+            push(page, ops, change(client, counter));
+        }
+    }
+}
+
+/// A change of a client's session.
+fn change(client: ClientId, counter: u8) -> Op {
+    Op::Session {
+        client,
         stamp: STAMP,
         counter,
-        change,
-    })
-}
-
-fn put(alloc: Global, client: u8, seq: u64, numbers: &mut Numbers) -> Result<Op, OpsFault> {
-    let [tens, ones] = digits(client);
-    let topic = TopicName::new(
-        alloc,
-        &[
-            b'f', b'i', b'e', b'l', b'd', b'/', tens, ones, b'/', b's', b'o', b'i', b'l',
-        ],
-    )?;
-    let put = Put {
-        origin: 1,
-        seq,
-        topic,
-        qos: level(client),
-        retain: false,
-        expires: 0,
-        body: body(alloc, numbers)?,
-    };
-    Ok(Op::Put {
-        client: name(alloc, client)?,
-        put,
-    })
-}
-
-fn body(alloc: Global, numbers: &mut Numbers) -> Result<Message, OpsFault> {
-    let mut octets = Vec::with_capacity(alloc, BODY)?;
-    for _ in 0..BODY {
-        octets.push(numbers.octet())?;
+        change: SessionOp::Presence {
+            presence: Presence::Asleep,
+            duration: u16::from(counter) * 60,
+        },
     }
-    Message::new(Octets::new(octets)?).ok_or(OpsFault::Kind)
+}
+
+/// The messages for the client.
+fn add_puts(page: &mut Page, ops: &mut Vec<Op>, client: u8, numbers: &mut Numbers) {
+    for seq in 1..=PUTS {
+        add_put(page, ops, client, seq, numbers);
+    }
+}
+
+/// A message for the client.
+fn add_put(page: &mut Page, ops: &mut Vec<Op>, client: u8, seq: u64, numbers: &mut Numbers) {
+    let [tens, ones] = digits(client);
+    let topic = [
+        b'f', b'i', b'e', b'l', b'd', b'/', tens, ones, b'/', b's', b'o', b'i', b'l',
+    ];
+    let body = body(page, numbers);
+    let put = making::put(page, (1, seq), &topic, level(client), body);
+    if let Some(client) = client_of(page, client) {
+        if let Some(put) = put {
+            push(page, ops, Op::Put { client, put });
+        }
+    }
+}
+
+/// The body of a message.
+fn body(page: &mut Page, numbers: &mut Numbers) -> Vec<u8> {
+    let mut octets = Vec::new(page.alloc());
+    for _ in 0..BODY {
+        page.add(&mut octets, &[numbers.octet()]);
+    }
+    octets
+}
+
+/// The acknowledgements of the client, of five messages each.
+fn add_acks(page: &mut Page, ops: &mut Vec<Op>, client: u8) {
+    for range in 0..RANGES {
+        if let Some(client) = client_of(page, client) {
+            push(page, ops, ack(client, 1 + range * 10));
+        }
+    }
 }
 
 /// Five acknowledgements from a first one on.
-fn ack(alloc: Global, client: u8, first: u64) -> Result<Op, OpsFault> {
-    Ok(Op::Ack {
-        client: name(alloc, client)?,
+fn ack(client: ClientId, first: u64) -> Op {
+    Op::Ack {
+        client,
         origin: 2,
         first,
         last: first.saturating_add(4),
-    })
+    }
 }
 
 /// A quality of service, by turns.

@@ -2,17 +2,16 @@
 //! four origins, with bodies of 64 octets. One message in a hundred has not come to the one that
 //! was away.
 
+use crate::calls::{delta_of, take_delta};
+use crate::page::Page;
 use crate::stop::Stop;
-use crate::works::delta_of;
+use crate::works::making::{self, push, take};
 use crate::works::numbers::Numbers;
-use octets::Octets;
+use crate::works::worked;
 use rep_model::{Replica, TakeFault};
-use rep_ops::{ClientId, Delta, Op, OpsFault, Put, Stamp};
+use rep_ops::{ClientId, Delta, Op};
 use rep_plain::Plain;
-use sn_session::{Message, Session, SessionOp};
 use sn_tables::QosLevel;
-use sn_topic::TopicName;
-use std::alloc::Global;
 
 const CLIENTS: u16 = 1000;
 
@@ -24,109 +23,109 @@ const ORIGINS: u16 = 4;
 const BODY: usize = 64;
 
 /// The gateway that has all.
-pub(crate) fn peer(alloc: Global) -> Result<Plain, Stop> {
-    taken(alloc, operations(alloc, false)?)
+pub(crate) fn peer(page: &mut Page) -> Option<Plain> {
+    let ops = operations(page, false);
+    taken(page, ops)
 }
 
 /// The gateway that was away.
-pub(crate) fn asker(alloc: Global) -> Result<Plain, Stop> {
-    taken(alloc, operations(alloc, true)?)
+pub(crate) fn asker(page: &mut Page) -> Option<Plain> {
+    let ops = operations(page, true);
+    taken(page, ops)
 }
 
 /// A gateway that has taken these operations.
-fn taken(alloc: Global, ops: Vec<Op>) -> Result<Plain, Stop> {
-    let delta = delta_of(alloc, ops)?;
-    let mut replica = empty(alloc)?;
-    take_all(alloc, &mut replica, &delta)?;
-    Ok(replica)
+fn taken(page: &mut Page, ops: Vec<Op>) -> Option<Plain> {
+    let delta = delta_of(page.alloc(), ops);
+    match &worked(page, delta) {
+        Some(delta) => taker(page, delta),
+        None => None,
+    }
 }
 
-/// A gateway that has nothing.
-fn empty(alloc: Global) -> Result<Plain, Stop> {
-    match Plain::empty(alloc) {
-        Ok(replica) => Ok(replica),
-        Err(_) => Err(Stop::Memory),
+/// A gateway that has taken this delta.
+fn taker(page: &mut Page, delta: &Delta) -> Option<Plain> {
+    match Plain::empty(page.alloc()) {
+        Ok(replica) => {
+            let mut replica = replica;
+            take_all(page, &mut replica, delta);
+            Some(replica)
+        }
+        Err(_) => {
+            page.stop(Stop::Memory);
+            None
+        }
     }
 }
 
 /// A gateway takes a delta.
-fn take_all(alloc: Global, replica: &mut Plain, delta: &Delta) -> Result<(), Stop> {
-    match replica.prepare(alloc, delta) {
-        Ok(staged) => {
-            replica.commit(staged);
-            Ok(())
-        }
-        Err(TakeFault::Memory) => Err(Stop::Memory),
-        Err(_) => Err(Stop::Work),
+fn take_all(page: &mut Page, replica: &mut Plain, delta: &Delta) {
+    match take_delta(page.alloc(), replica, delta) {
+        Ok(()) => {}
+        Err(TakeFault::Memory) => page.stop(Stop::Memory),
+        Err(_) => page.stop(Stop::Work),
     }
 }
 
 /// All operations, or all but one message in a hundred.
-fn operations(alloc: Global, was_away: bool) -> Result<Vec<Op>, OpsFault> {
-    let mut ops = Vec::new(alloc);
+fn operations(page: &mut Page, was_away: bool) -> Vec<Op> {
+    let mut ops = Vec::new(page.alloc());
     for client in 0..CLIENTS {
-        ops.push(take(alloc, client)?)?;
-        for message in 0..MESSAGES {
-            if !was_away || (client % 5 != 0 || message != 7) {
-                ops.push(put(alloc, client, message)?)?;
-            }
-        }
+        add_take(page, &mut ops, client);
+        add_puts(page, &mut ops, client, was_away && client % 5 == 0);
     }
-    Ok(ops)
+    ops
 }
 
+/// The client's session begins.
+fn add_take(page: &mut Page, ops: &mut Vec<Op>, client: u16) {
+    if let Some(client) = client_of(page, client) {
+        let op = take(page.alloc(), client);
+        push(page, ops, op);
+    }
+}
+
+/// The messages for the client, or all but one.
+fn add_puts(page: &mut Page, ops: &mut Vec<Op>, client: u16, lacks_one: bool) {
+    for message in 0..MESSAGES {
+        if !lacks_one || message != 7 {
+            add_put(page, ops, client, message);
+        }
+    }
+}
+
+/// The last decimal digit of a number.
 fn digit(number: u16) -> u8 {
     b'0' + (number % 10) as u8
 }
 
-fn name(alloc: Global, client: u16) -> Result<ClientId, OpsFault> {
-    let number = [digit(client / 100), digit(client / 10), digit(client)];
-    let [hundreds, tens, ones] = number;
-    ClientId::new(
-        alloc,
-        &[
-            b's', b'e', b'n', b's', b'o', b'r', b'-', hundreds, tens, ones,
-        ],
+/// The client of this number.
+fn client_of(page: &mut Page, number: u16) -> Option<ClientId> {
+    making::client(
+        page,
+        &[digit(number / 100), digit(number / 10), digit(number)],
     )
 }
 
-/// The client's session.
-fn take(alloc: Global, client: u16) -> Result<Op, OpsFault> {
-    let mut session = Session::empty(alloc);
-    session.duration = 60;
-    Ok(Op::Session {
-        client: name(alloc, client)?,
-        stamp: Stamp {
-            epoch: 1,
-            gateway: 1,
-        },
-        counter: 0,
-        change: SessionOp::Take(session),
-    })
-}
-
 /// A message for the client.
-fn put(alloc: Global, client: u16, message: u16) -> Result<Op, OpsFault> {
-    let put = Put {
-        origin: 1 + (message % ORIGINS) as u8,
-        seq: 1 + u64::from(message / ORIGINS),
-        topic: TopicName::new(alloc, b"field/soil")?,
-        qos: QosLevel::one(),
-        retain: false,
-        expires: 0,
-        body: body(alloc, client.wrapping_add(message))?,
-    };
-    Ok(Op::Put {
-        client: name(alloc, client)?,
-        put,
-    })
+fn add_put(page: &mut Page, ops: &mut Vec<Op>, client: u16, message: u16) {
+    let origin = 1 + (message % ORIGINS) as u8;
+    let seq = 1 + u64::from(message / ORIGINS);
+    let body = body(page, client.wrapping_add(message));
+    let put = making::put(page, (origin, seq), b"field/soil", QosLevel::one(), body);
+    if let Some(client) = client_of(page, client) {
+        if let Some(put) = put {
+            push(page, ops, Op::Put { client, put });
+        }
+    }
 }
 
-fn body(alloc: Global, seed: u16) -> Result<Message, OpsFault> {
-    let mut octets = Vec::with_capacity(alloc, BODY)?;
+/// The body of a message.
+fn body(page: &mut Page, seed: u16) -> Vec<u8> {
+    let mut octets = Vec::new(page.alloc());
     let mut numbers = Numbers::new();
     for _ in 0..BODY {
-        octets.push(numbers.octet() ^ (seed % 256) as u8)?;
+        page.add(&mut octets, &[numbers.octet() ^ (seed % 256) as u8]);
     }
-    Message::new(Octets::new(octets)?).ok_or(OpsFault::Kind)
+    octets
 }

@@ -1,36 +1,43 @@
 //! The journal at work.
 
+use crate::calls::{append, delta_of, open_journal};
+use crate::page::Page;
 use crate::stop::Stop;
-use crate::works::delta_of;
 use crate::works::operations::presence;
+use crate::works::worked;
 use jr_journal::{Journal, JournalFault, MemoryDisk};
 use rep_ops::Delta;
-use std::alloc::Global;
 
 /// Appends so many records of one change of a session to a new journal on a disk in memory, each
 /// synced, and says how many it appended.
-pub(crate) fn run(alloc: Global, text: &mut String, rounds: u32) -> Result<(), Stop> {
-    let delta = delta_of(alloc, presence(alloc)?)?;
-    let count = appended(alloc, &delta, rounds);
-    drop(delta);
-    let count = count?;
-    Ok(writeln!(text, "records: {count} appended, each synced")?)
-}
-
-/// Appends the delta so often to a new journal: how many records that were.
-fn appended(alloc: Global, delta: &Delta, rounds: u32) -> Result<u64, Stop> {
-    let mut journal = journal(alloc)?;
-    let count = append_all(alloc, &mut journal, delta, rounds);
-    drop(journal);
-    count
-}
-
-/// A new journal on a disk in memory.
-fn journal(alloc: Global) -> Result<Journal<MemoryDisk>, Stop> {
-    match Journal::open(alloc, MemoryDisk::new(alloc), 1) {
-        Ok((journal, _)) => Ok(journal),
-        Err((disk, fault)) => Err(stop_of(fault, disk.starved())),
+pub(crate) fn run(page: &mut Page, rounds: u32) {
+    let ops = presence(page);
+    let delta = delta_of(page.alloc(), ops);
+    if let Some(delta) = &worked(page, delta) {
+        append_to_new(page, delta, rounds);
     }
+}
+
+/// Appends the delta so often to a new journal.
+fn append_to_new(page: &mut Page, delta: &Delta, rounds: u32) {
+    match open_journal(page.alloc(), MemoryDisk::new(page.alloc()), 1) {
+        Ok((journal, _)) => {
+            let mut journal = journal;
+            append_all(page, &mut journal, delta, rounds);
+        }
+        Err((disk, fault)) => page.stop(stop_of(fault, disk.starved())),
+    }
+}
+
+/// Appends the delta so often.
+fn append_all(page: &mut Page, journal: &mut Journal<MemoryDisk>, delta: &Delta, rounds: u32) {
+    for _ in 0..rounds {
+        if let Err(fault) = append(page.alloc(), journal, delta) {
+            page.stop(stop_of(fault, journal.starved()));
+        }
+    }
+    page.number("records: ", u64::from(rounds));
+    page.text(" appended, each synced\n");
 }
 
 /// Why a work stops: memory ran out, also in its disk, or a call was refused.
@@ -39,27 +46,4 @@ fn stop_of(fault: JournalFault, is_starved: bool) -> Stop {
         return Stop::Memory;
     }
     Stop::Work
-}
-
-/// Appends the delta so often: how many records that were.
-fn append_all(
-    alloc: Global,
-    journal: &mut Journal<MemoryDisk>,
-    delta: &Delta,
-    rounds: u32,
-) -> Result<u64, Stop> {
-    let mut count = 0_u64;
-    for _ in 0..rounds {
-        append(alloc, journal, delta)?;
-        count = count.wrapping_add(1);
-    }
-    Ok(count)
-}
-
-/// Appends the delta.
-fn append(alloc: Global, journal: &mut Journal<MemoryDisk>, delta: &Delta) -> Result<(), Stop> {
-    match journal.append(alloc, delta) {
-        Ok(()) => Ok(()),
-        Err(fault) => Err(stop_of(fault, journal.starved())),
-    }
 }

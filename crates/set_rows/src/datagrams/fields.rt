@@ -1,40 +1,51 @@
-//! Fields of a line about datagrams: octets.
+//! Octets of a line about datagrams.
 
-use crate::fields::{count, digits};
-use crate::stop::Stop;
-use std::alloc::Global;
+use crate::words::Words;
 
-/// The octets that fields write, one after the other.
-pub(crate) fn octets(alloc: Global, fields: &[&str]) -> Result<Vec<u8>, Stop> {
-    let mut octets = Vec::new(alloc);
-    for field in fields {
-        let some = field_octets(alloc, field)?;
-        octets.extend_from_slice(&some)?;
+/// The octets that the words write which are left, one after the other.
+pub(crate) fn octets(words: &mut Words<'_>) -> Vec<u8> {
+    let mut octets = Vec::new(words.alloc);
+    for _ in 0..words.left() {
+        add_field(words, &mut octets);
     }
-    Ok(octets)
+    octets
 }
 
-/// The octets that a field writes: `-` for none, a text after an apostrophe, hexadecimal digits,
-/// or these after how often they stand.
-pub(crate) fn field_octets(alloc: Global, field: &str) -> Result<Vec<u8>, Stop> {
-    if field == "-" {
-        return Ok(Vec::new(alloc));
+/// The octets that the next word writes.
+pub(crate) fn field(words: &mut Words<'_>) -> Vec<u8> {
+    let mut octets = Vec::new(words.alloc);
+    add_field(words, &mut octets);
+    octets
+}
+
+/// Adds the octets that the next word writes: `-` none, a text after an apostrophe, or hexadecimal
+/// digits.
+fn add_field(words: &mut Words<'_>, octets: &mut Vec<u8>) {
+    let word = words.word();
+    if word == "-" {
+        return;
     }
-    if let Some(text) = field.strip_prefix('\'') {
-        return Ok(Vec::from_slice(alloc, text.as_bytes())?);
-    }
-    match field.split_once('x') {
-        Some((times, some)) => repeated(alloc, count(times)?, some),
-        None => digits(alloc, field),
+    match word.strip_prefix('\'') {
+        Some(text) => words.extend(octets, text.as_bytes()),
+        None => add_digits(words, octets, word),
     }
 }
 
-/// The octets of hexadecimal digits, so often.
-fn repeated(alloc: Global, times: usize, field: &str) -> Result<Vec<u8>, Stop> {
-    let some = digits(alloc, field)?;
-    let mut octets = Vec::new(alloc);
+/// Adds the octets of hexadecimal digits, or of these after how often they stand.
+fn add_digits(words: &mut Words<'_>, octets: &mut Vec<u8>, word: &str) {
+    match word.split_once('x') {
+        Some((times, digits)) => {
+            let times = words.number_of(times);
+            add_times(words, octets, times, digits);
+        }
+        None => add_times(words, octets, 1, word),
+    }
+}
+
+/// Adds the octets of hexadecimal digits, so often.
+fn add_times(words: &mut Words<'_>, octets: &mut Vec<u8>, times: u64, digits: &str) {
+    let some = words.digits_of(digits);
     for _ in 0..times {
-        octets.extend_from_slice(&some)?;
+        words.extend(octets, &some);
     }
-    Ok(octets)
 }

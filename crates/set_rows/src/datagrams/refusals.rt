@@ -1,31 +1,41 @@
-//! What is said of datagrams and topics that are refused.
+//! What is said of datagrams and topics that are refused; if memory ran out, the page remembers it.
 
-use crate::stop::Stop;
+use crate::page::Page;
 use sn_frame::{EncodeFault, FrameFault};
 use sn_topic::TopicFault;
+use std::fmt::Display;
 
-/// A refused datagram's line; want of memory ends the program.
-pub(crate) fn refused_frame(text: &mut String, fault: FrameFault) -> Result<(), Stop> {
+/// A refused datagram's line.
+pub(crate) fn refused_frame(page: &mut Page, fault: FrameFault) {
     if fault == FrameFault::Memory {
-        return Err(Stop::Memory);
+        page.run_out();
     }
-    let number = fault.number();
-    Ok(writeln!(text, "refused {number}: {fault}")?)
+    refused(page, fault.number(), fault);
 }
 
 /// The same of a frame that is not written.
-pub(crate) fn not_written(text: &mut String, fault: EncodeFault) -> Result<(), Stop> {
+pub(crate) fn not_written(page: &mut Page, fault: EncodeFault) {
     if fault == EncodeFault::Memory {
-        return Err(Stop::Memory);
+        page.run_out();
     }
-    Ok(writeln!(text, "  not written: {fault}")?)
+    page.text("  not written: ");
+    page.value(fault);
+    page.end();
 }
 
 /// The same of a name, a filter or a table.
-pub(crate) fn refused_topic(text: &mut String, fault: TopicFault) -> Result<(), Stop> {
+pub(crate) fn refused_topic(page: &mut Page, fault: TopicFault) {
     if fault == TopicFault::Memory {
-        return Err(Stop::Memory);
+        page.run_out();
     }
-    let number = fault.number();
-    Ok(writeln!(text, "refused {number}: {fault}")?)
+    refused(page, fault.number(), fault);
+}
+
+/// The number of a fault, and what it says.
+fn refused<D: Display + Drop>(page: &mut Page, number: u8, fault: D) {
+    page.word("refused");
+    page.word(number);
+    page.text(": ");
+    page.value(fault);
+    page.end();
 }

@@ -1,20 +1,13 @@
 //! Octets as they are printed.
 
-use std::{fmt, str};
+use crate::page::Page;
+use std::str;
 
 /// From so many octets on, those that are the same are told by their number.
 const MANY: u32 = 16;
 
 /// The most octets that are printed as a text.
 const LONGEST_TEXT: usize = 32;
-
-/// Octets in hexadecimal digits. Many that are the same are `(COUNTxOCTET)`, and none are `-`.
-#[derive(Clone, Copy)]
-pub(crate) struct Digits<'a>(pub &'a [u8]);
-
-/// Octets as a text after an apostrophe where that shows them, else in hexadecimal digits.
-#[derive(Clone, Copy)]
-pub(crate) struct Text<'a>(pub &'a [u8]);
 
 /// One octet, so often.
 #[derive(Clone, Copy)]
@@ -23,50 +16,61 @@ struct Run {
     count: u32,
 }
 
-impl fmt::Display for Digits<'_> {
-    fn fmt<W: fmt::Write>(&self, f: &mut fmt::Formatter<W>) -> fmt::Result {
-        if self.0.is_empty() {
-            return write!(f, "-");
-        }
-        let mut run = Run { octet: 0, count: 0 };
-        for octet in self.0 {
-            let octet = *octet;
-            if octet == run.octet {
-                run.count = run.count.saturating_add(1);
-            } else {
-                write!(f, "{run}")?;
-                run = Run { octet, count: 1 };
-            }
-        }
-        write!(f, "{run}")
+/// Prints octets in hexadecimal digits. Many that are the same are `(COUNTxOCTET)`, and none are
+/// `-`.
+pub(crate) fn print_digits(page: &mut Page, octets: &[u8]) {
+    if octets.is_empty() {
+        page.text("-");
+    }
+    let mut run = Run { octet: 0, count: 0 };
+    for octet in octets {
+        run = after(page, run, *octet);
+    }
+    print_run(page, run);
+}
+
+/// The run that an octet makes longer or begins; one that it ends is printed.
+fn after(page: &mut Page, run: Run, octet: u8) -> Run {
+    if octet == run.octet {
+        let count = run.count.saturating_add(1);
+        return Run { octet, count };
+    }
+    print_run(page, run);
+    Run { octet, count: 1 }
+}
+
+/// Prints one octet, so often.
+fn print_run(page: &mut Page, run: Run) {
+    if run.count >= MANY {
+        page.text("(");
+        page.value(run.count);
+        page.text("x");
+        page.hexadecimal(&[run.octet]);
+        page.text(")");
+    } else {
+        print_few(page, run);
     }
 }
 
-impl fmt::Display for Run {
-    fn fmt<W: fmt::Write>(&self, f: &mut fmt::Formatter<W>) -> fmt::Result {
-        let (octet, count) = (self.octet, self.count);
-        if count >= MANY {
-            return write!(f, "({count}x{octet:02x})");
-        }
-        for _ in 0..count {
-            write!(f, "{octet:02x}")?;
-        }
-        Ok(())
+/// Prints one octet, each time that it stands.
+fn print_few(page: &mut Page, run: Run) {
+    for _ in 0..run.count {
+        page.hexadecimal(&[run.octet]);
     }
 }
 
-impl fmt::Display for Text<'_> {
-    fn fmt<W: fmt::Write>(&self, f: &mut fmt::Formatter<W>) -> fmt::Result {
-        let octets = self.0;
-        let digits = Digits(octets);
-        if !is_text(octets) {
-            return write!(f, "{digits}");
-        }
-        match str::from_utf8(octets) {
-            Ok(text) => write!(f, "'{text}"),
-            Err(_) => write!(f, "{digits}"),
-        }
+/// Prints octets as a text after an apostrophe where that shows them, else in hexadecimal digits.
+pub(crate) fn print_text(page: &mut Page, octets: &[u8]) {
+    match str::from_utf8(octets) {
+        Ok(text) if is_text(octets) => quote(page, text),
+        _ => print_digits(page, octets),
     }
+}
+
+/// Prints a text after an apostrophe.
+fn quote(page: &mut Page, text: &str) {
+    page.text("'");
+    page.text(text);
 }
 
 /// Whether there are a few octets, each a letter, a digit or a sign of ASCII.

@@ -1,168 +1,194 @@
 //! Lines about topic names, filters and predefined ids.
 
-use crate::datagrams::fields::{field_octets, octets};
+use crate::datagrams::fields::{field, octets};
 use crate::datagrams::refusals::refused_topic;
-use crate::datagrams::shown::Text;
-use crate::fields::small_number;
+use crate::datagrams::shown::print_text;
+use crate::page::Page;
 use crate::stop::Stop;
-use sn_topic::{Filter, Predefined, TopicName, matches};
-use std::alloc::Global;
+use crate::words::Words;
+use sn_topic::{Filter, Predefined, TopicFault, TopicName, matches};
 
 /// `name OCTETS ..`: a topic name, as a copy of it tells it.
-pub(crate) fn name(alloc: Global, text: &mut String, fields: &[&str]) -> Result<(), Stop> {
-    let octets = octets(alloc, fields)?;
-    let made = TopicName::new(alloc, &octets);
-    drop(octets);
-    match made {
-        Ok(name) => print_name(text, &name.copy(alloc)?),
-        Err(fault) => refused_topic(text, fault),
+pub(crate) fn name(page: &mut Page, words: &mut Words<'_>) {
+    let octets = octets(words);
+    if words.end() {
+        match TopicName::new(page.alloc, &octets) {
+            Ok(name) => print_name(page, name.copy(page.alloc)),
+            Err(fault) => refused_topic(page, fault),
+        }
     }
 }
 
 /// A topic name.
-fn print_name(text: &mut String, name: &TopicName) -> Result<(), Stop> {
-    let shown = Text(name.bytes());
-    Ok(writeln!(text, "name {shown}")?)
+fn print_name(page: &mut Page, copy: Result<TopicName, TopicFault>) {
+    match copy {
+        Ok(name) => {
+            page.text("name ");
+            print_text(page, name.bytes());
+            page.end();
+        }
+        Err(_) => page.run_out(),
+    }
 }
 
 /// `filter OCTETS ..`: a filter, as a copy of it tells it.
-pub(crate) fn filter(alloc: Global, text: &mut String, fields: &[&str]) -> Result<(), Stop> {
-    let octets = octets(alloc, fields)?;
-    let made = Filter::new(alloc, &octets);
-    drop(octets);
-    match made {
-        Ok(filter) => print_filter(text, &filter.copy(alloc)?),
-        Err(fault) => refused_topic(text, fault),
+pub(crate) fn filter(page: &mut Page, words: &mut Words<'_>) {
+    let octets = octets(words);
+    if words.end() {
+        match Filter::new(page.alloc, &octets) {
+            Ok(filter) => print_filter(page, filter.copy(page.alloc)),
+            Err(fault) => refused_topic(page, fault),
+        }
     }
 }
 
 /// A filter, and which wildcards it has.
-fn print_filter(text: &mut String, filter: &Filter) -> Result<(), Stop> {
-    let wildcard = wildcard_word(filter);
-    let shown = Text(filter.bytes());
-    Ok(writeln!(text, "filter {shown}, {wildcard}")?)
+fn print_filter(page: &mut Page, copy: Result<Filter, TopicFault>) {
+    match copy {
+        Ok(filter) => {
+            page.text("filter ");
+            print_text(page, filter.bytes());
+            print_wildcards(page, filter.has_wildcard(), filter.begins_with_wildcard());
+        }
+        Err(_) => page.run_out(),
+    }
 }
 
 /// Which wildcards a filter has.
-fn wildcard_word(filter: &Filter) -> &'static str {
-    match (filter.has_wildcard(), filter.begins_with_wildcard()) {
-        (false, false) => "no wildcard",
-        (true, false) => "a wildcard",
-        (true, true) => "a wildcard at its beginning",
-        (false, true) => "no wildcard, and one at its beginning",
+fn print_wildcards(page: &mut Page, has_one: bool, begins_with_one: bool) {
+    match (has_one, begins_with_one) {
+        (false, false) => page.line(", no wildcard"),
+        (true, false) => page.line(", a wildcard"),
+        (true, true) => page.line(", a wildcard at its beginning"),
+        (false, true) => page.line(", no wildcard, and one at its beginning"),
     }
 }
 
 /// `match FILTER NAME`: whether a filter asks for a name.
-pub(crate) fn asked(alloc: Global, text: &mut String, fields: &[&str]) -> Result<(), Stop> {
-    let [asked, given] = fields else {
-        return Err(Stop::Line);
-    };
-    let filter = filter_of(alloc, asked)?;
-    let name = name_in(alloc, given)?;
-    print_asked(text, &filter, &name)
-}
-
-/// The filter that a field writes.
-fn filter_of(alloc: Global, field: &str) -> Result<Filter, Stop> {
-    let octets = field_octets(alloc, field)?;
-    Ok(Filter::new(alloc, &octets)?)
-}
-
-/// The name that a field writes.
-fn name_in(alloc: Global, field: &str) -> Result<TopicName, Stop> {
-    let octets = field_octets(alloc, field)?;
-    Ok(TopicName::new(alloc, &octets)?)
+pub(crate) fn asked(page: &mut Page, words: &mut Words<'_>) {
+    let (asked, given) = (field(words), field(words));
+    if let Some(filter) = words.filter_of(&asked) {
+        if let Some(name) = words.topic_of(&given) {
+            print_asked(page, words, &filter, &name);
+        }
+    }
 }
 
 /// A filter, a name, and whether the one asks for the other.
-fn print_asked(text: &mut String, filter: &Filter, name: &TopicName) -> Result<(), Stop> {
-    let answer = if matches(filter, name) {
-        "asks for"
-    } else {
-        "does not ask for"
-    };
-    let (filter, name) = (Text(filter.bytes()), Text(name.bytes()));
-    Ok(writeln!(text, "{filter} {answer} {name}")?)
-}
-
-/// A table without an entry.
-pub(crate) fn no_table(alloc: Global) -> Result<Predefined, Stop> {
-    Ok(Predefined::new(alloc, Vec::new(alloc))?)
+fn print_asked(page: &mut Page, words: &mut Words<'_>, filter: &Filter, name: &TopicName) {
+    if words.end() {
+        print_text(page, filter.bytes());
+        page.text(" ");
+        page.either(matches(filter, name), "asks for", "does not ask for");
+        page.text(" ");
+        print_text(page, name.bytes());
+        page.end();
+    }
 }
 
 /// `table ID NAME ..`: these are the predefined ids from here on, if they may be.
-pub(crate) fn table(
-    alloc: Global,
-    text: &mut String,
-    kept: &mut Predefined,
-    fields: &[&str],
-) -> Result<(), Stop> {
-    let mut entries = Vec::new(alloc);
-    for pair in fields.chunks(2) {
-        entries.push(entry(alloc, pair)?)?;
+pub(crate) fn table(page: &mut Page, kept: &mut Option<Predefined>, words: &mut Words<'_>) {
+    let mut entries = Vec::new(words.alloc);
+    for _ in 0..words.left().div_ceil(2) {
+        add_entry(words, &mut entries);
     }
-    match Predefined::new(alloc, entries) {
-        Ok(table) => {
-            *kept = table.copy(alloc)?;
-            print_table(text, kept)
+    if words.end() {
+        match Predefined::new(page.alloc, entries) {
+            Ok(table) => keep(page, kept, table.copy(page.alloc)),
+            Err(fault) => refused_topic(page, fault),
         }
-        Err(fault) => refused_topic(text, fault),
+    }
+}
+
+/// Adds an id and its name.
+fn add_entry(words: &mut Words<'_>, entries: &mut Vec<(u16, TopicName)>) {
+    let (id, name) = (words.small_number(), field(words));
+    if let Some(name) = words.topic_of(&name) {
+        if entries.push((id, name)).is_err() {
+            words.fail(Stop::Memory);
+        }
+    }
+}
+
+/// Keeps a table, and prints its entries.
+fn keep(page: &mut Page, kept: &mut Option<Predefined>, copy: Result<Predefined, TopicFault>) {
+    match copy {
+        Ok(table) => {
+            print_table(page, table.entries());
+            *kept = Some(table);
+        }
+        Err(_) => page.run_out(),
+    }
+}
+
+/// The entries of a table.
+fn print_table(page: &mut Page, entries: &[(u16, TopicName)]) {
+    page.counted("predefined ids:", entries.len());
+    for (id, name) in entries {
+        print_entry(page, *id, name);
     }
 }
 
 /// An id and its name.
-fn entry(alloc: Global, fields: &[&str]) -> Result<(u16, TopicName), Stop> {
-    let [id, name] = fields else {
-        return Err(Stop::Line);
-    };
-    let id = small_number(id)?;
-    Ok((id, name_in(alloc, name)?))
-}
-
-/// The entries of a table.
-fn print_table(text: &mut String, table: &Predefined) -> Result<(), Stop> {
-    let count = table.entries().len();
-    writeln!(text, "predefined ids: {count}")?;
-    for (id, name) in table.entries() {
-        let name = Text(name.bytes());
-        writeln!(text, "  {id} {name}")?;
-    }
-    Ok(())
+fn print_entry(page: &mut Page, id: u16, name: &TopicName) {
+    page.text("  ");
+    page.value(id);
+    page.text(" ");
+    print_text(page, name.bytes());
+    page.end();
 }
 
 /// `id NAME`: the least predefined id of a name.
-pub(crate) fn id(
-    alloc: Global,
-    text: &mut String,
-    table: &Predefined,
-    fields: &[&str],
-) -> Result<(), Stop> {
-    let octets = octets(alloc, fields)?;
-    let name = TopicName::new(alloc, &octets)?;
-    print_id(text, &name, table.id(&name))
+pub(crate) fn id(page: &mut Page, kept: &Option<Predefined>, words: &mut Words<'_>) {
+    let octets = octets(words);
+    if let Some(name) = words.topic_of(&octets) {
+        if words.end() {
+            print_text(page, name.bytes());
+            print_id(page, id_of(kept, &name));
+        }
+    }
 }
 
-/// A name and its id.
-fn print_id(text: &mut String, name: &TopicName, id: Option<u16>) -> Result<(), Stop> {
-    let shown = Text(name.bytes());
+/// The least predefined id of a name.
+fn id_of(kept: &Option<Predefined>, name: &TopicName) -> Option<u16> {
+    match kept {
+        Some(table) => table.id(name),
+        None => None,
+    }
+}
+
+/// An id, if there is one.
+fn print_id(page: &mut Page, id: Option<u16>) {
     match id {
-        Some(id) => Ok(writeln!(text, "{shown} has id {id}")?),
-        None => Ok(writeln!(text, "{shown} has no id")?),
+        Some(id) => {
+            page.text(" has id ");
+            page.value(id);
+            page.end();
+        }
+        None => page.line(" has no id"),
     }
 }
 
 /// `of ID`: the name of a predefined id.
-pub(crate) fn name_of(text: &mut String, table: &Predefined, fields: &[&str]) -> Result<(), Stop> {
-    let [id] = fields else {
-        return Err(Stop::Line);
-    };
-    let id = small_number(id)?;
-    match table.name(id) {
-        Some(name) => {
-            let name = Text(name.bytes());
-            Ok(writeln!(text, "{id} is {name}")?)
+pub(crate) fn name_of(page: &mut Page, kept: &Option<Predefined>, words: &mut Words<'_>) {
+    let id = words.small_number();
+    if words.end() {
+        page.value(id);
+        match kept {
+            Some(table) => print_name_of(page, table.name(id)),
+            None => print_name_of(page, None),
         }
-        None => Ok(writeln!(text, "{id} has no name")?),
+    }
+}
+
+/// The name of an id, if it has one.
+fn print_name_of(page: &mut Page, name: Option<&TopicName>) {
+    match name {
+        Some(name) => {
+            page.text(" is ");
+            print_text(page, name.bytes());
+            page.end();
+        }
+        None => page.line(" has no name"),
     }
 }

@@ -1,10 +1,10 @@
-//! What a frame from the gateway is acknowledged by, and a frame that is sent again.
+//! What a frame from the gateway is acknowledged by, and how a frame is sent again.
 
 ghost use Rattle.std.specs.Prelude.{◌≡◌, IfSome};
-ghost use Rattle.sn_client.specs.inner.Talking.{acknowledgement_of, msg_id_of, repeated, repeated_bits};
+ghost use Rattle.sn_client.specs.inner.Talking.{acknowledgement_of, msg_id_of, repeated_bits};
 ghost use Rattle.sn_client.specs.inner.Talking as spec;
 
-use sn_frame::{Flags, Frame, Qos};
+use sn_frame::{Frame, Qos};
 
 /// The return code that says accepted (MQTT-SN 1.2 section 5.3.10).
 const ACCEPTED: u8 = 0;
@@ -53,31 +53,9 @@ pub(crate) fn acknowledgement(frame: &Frame) -> Option<Frame>
     }
 }
 
-/// Flags that say that a frame was sent before.
-fn again_bits(bits: u8) -> u8
+/// Flags that say that a PUBLISH was sent before (MQTT-SN 1.2 section 5.3.4).
+pub(super) fn again_bits(bits: u8) -> u8
     ensures { result ≡ repeated_bits bits }
 {
     if bits / 128 == 0 { bits + 128 } else { bits }
-}
-
-/// The frame as it is sent again: a PUBLISH says so (MQTT-SN 1.2 section 5.3.4).
-pub(crate) fn again(frame: Frame) -> Frame
-    ensures { result ≡ repeated frame }
-{
-    match frame {
-        Frame::Publish {
-            flags,
-            topic,
-            msg_id,
-            body,
-        } => Frame::Publish {
-            flags: Flags {
-                bits: again_bits(flags.bits),
-            },
-            topic,
-            msg_id,
-            body,
-        },
-        other => other,
-    }
 }

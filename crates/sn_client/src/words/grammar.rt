@@ -4,6 +4,41 @@ use clap::builder::ValueParser;
 use clap::{Arg, ArgAction, Command, value_parser};
 use std::alloc::{AllocError, Global};
 
+/// A command: its name, what help says of it, and its words.
+#[derive(Clone, Copy)]
+struct Offer(&'static str, &'static str, &'static [Word]);
+
+/// A word of a command: its name, what it is, what help calls its value, and what help says of it.
+#[derive(Clone, Copy)]
+struct Word(&'static str, Form, &'static str, &'static str);
+
+/// What a word of a command is.
+#[derive(Clone, Copy)]
+enum Form {
+    /// An option without a value.
+    Flag,
+    /// An option with a text.
+    Text,
+    /// An option with a text, which has a letter too.
+    Lettered(char),
+    /// An option with a number.
+    Number,
+    /// An option with a number, which is this where it is left out.
+    NumberOr(&'static str),
+    /// An option with a quality of service.
+    Level,
+    /// An option with a quality of service, -1 among them.
+    AnyLevel,
+    /// A text that must be there.
+    Needed,
+    /// A text that must be there, and may be a negative number.
+    NeededText,
+    /// A number that must be there.
+    NeededNumber,
+    /// A number that is this where it is left out.
+    LastNumber(&'static str),
+}
+
 /// The qualities of service that a publication may have.
 static OF_PUBLISH: [&str; 4] = ["0", "1", "2", "-1"];
 
@@ -12,6 +47,9 @@ static OF_OTHERS: [&str; 3] = ["0", "1", "2"];
 
 /// What help says of `--qos`.
 const QOS: &str = "The quality of service";
+
+/// What help says of `--predefined`.
+const PREDEFINED: &str = "What stands in the place of a name is a predefined topic id";
 
 /// What help says after the options.
 const AFTER: &str =
@@ -27,11 +65,148 @@ An example, with the gateways of examples/field:
   sn_client --gateway 127.0.0.1:18842 --id p1 --connect publish field/door open --qos 1
   sn_client --gateway 127.0.0.1:18843 --id s1 wake";
 
+/// The options of every command: who speaks, with whom, and how.
+static OF_ALL: [Word; 6] = [
+    Word(
+        "gateway",
+        Form::Lettered('g'),
+        "ADDRESS",
+        "Where the gateway listens, as 127.0.0.1:18841",
+    ),
+    Word(
+        "id",
+        Form::Lettered('i'),
+        "ID",
+        "The client's id: 1 to 23 octets",
+    ),
+    Word(
+        "port",
+        Form::Number,
+        "PORT",
+        "The client's own port; 0 for any. Left out, one that is made of the id",
+    ),
+    Word(
+        "connect",
+        Form::Flag,
+        "",
+        "Connect first, with the session that is there",
+    ),
+    Word(
+        "wait",
+        Form::NumberOr("3"),
+        "SECONDS",
+        "How long to wait for an answer; 0 for no end",
+    ),
+    Word("hex", Form::Flag, "", "Also print the octets of each frame"),
+];
+
+/// All commands.
+static OFFERS: [Offer; 9] = [
+    Offer("search", "Ask whether a gateway is there", &[]),
+    Offer(
+        "connect",
+        "Set up a connection",
+        &[
+            Word("clean", Form::Flag, "", "Begin with an empty session"),
+            Word(
+                "keep-alive",
+                Form::NumberOr("0"),
+                "SECONDS",
+                "After half as much silence again the client is lost; 0 for never",
+            ),
+            Word(
+                "will-topic",
+                Form::Text,
+                "TOPIC",
+                "Where to publish the will if the client is lost",
+            ),
+            Word("will-message", Form::Text, "TEXT", "What the will says"),
+            Word("qos", Form::Level, "QOS", "The will's quality of service"),
+            Word("retain", Form::Flag, "", "Set the will's retain flag"),
+        ],
+    ),
+    Offer(
+        "subscribe",
+        "Subscribe to topics",
+        &[
+            Word(
+                "filter",
+                Form::Needed,
+                "FILTER",
+                "Which topics, as tele/+ or tele/#",
+            ),
+            Word("qos", Form::Level, "QOS", QOS),
+            Word("predefined", Form::Flag, "", PREDEFINED),
+        ],
+    ),
+    Offer(
+        "unsubscribe",
+        "End a subscription",
+        &[
+            Word(
+                "filter",
+                Form::Needed,
+                "FILTER",
+                "The filter as it was subscribed to",
+            ),
+            Word("predefined", Form::Flag, "", PREDEFINED),
+        ],
+    ),
+    Offer(
+        "publish",
+        "Publish a text",
+        &[
+            Word(
+                "topic",
+                Form::Needed,
+                "TOPIC",
+                "The topic's name; one of two octets needs no id",
+            ),
+            Word("text", Form::NeededText, "TEXT", "What is published"),
+            Word("qos", Form::AnyLevel, "QOS", QOS),
+            Word("retain", Form::Flag, "", "Set the retain flag"),
+            Word("predefined", Form::Flag, "", PREDEFINED),
+        ],
+    ),
+    Offer(
+        "sleep",
+        "Fall asleep: messages are kept meanwhile",
+        &[Word(
+            "seconds",
+            Form::NeededNumber,
+            "SECONDS",
+            "For how long at most",
+        )],
+    ),
+    Offer(
+        "wake",
+        "Wake up for the messages that were kept, and sleep on",
+        &[],
+    ),
+    Offer(
+        "listen",
+        "Take what comes",
+        &[Word(
+            "length",
+            Form::LastNumber("0"),
+            "SECONDS",
+            "For how long; 0 until it is stopped",
+        )],
+    ),
+    Offer("disconnect", "End the connection", &[]),
+];
+
 /// The whole command line.
 pub(super) fn command_line<'a>(alloc: Global) -> Result<Command<'a>, AllocError> {
     let commands = commands(alloc)?;
     let command = with_options(alloc)?;
     command.subcommands(commands)
+}
+
+/// The program with the options of every command.
+fn with_options<'a>(alloc: Global) -> Result<Command<'a>, AllocError> {
+    let options = args_of(alloc, OF_ALL.as_slice(), true)?;
+    with(program(alloc), options)
 }
 
 /// The program, without its options and commands.
@@ -46,12 +221,6 @@ fn program<'a>(alloc: Global) -> Command<'a> {
         .disable_help_subcommand(true)
 }
 
-/// A command with these arguments. It says nothing of them, so that who calls it carries on no more
-/// than a command.
-fn with<'a>(command: Command<'a>, args: Vec<Arg<'a>>) -> Result<Command<'a>, AllocError> {
-    command.args(args)
-}
-
 /// All commands.
 fn commands<'a>(alloc: Global) -> Result<Vec<Command<'a>>, AllocError> {
     let mut commands = Vec::new(alloc);
@@ -59,271 +228,84 @@ fn commands<'a>(alloc: Global) -> Result<Vec<Command<'a>>, AllocError> {
     Ok(commands)
 }
 
-/// Adds a command.
-fn add<'a>(commands: &mut Vec<Command<'a>>, command: Command<'a>) -> Result<(), AllocError> {
-    commands.push(command)?;
+/// Adds all commands.
+fn add_commands<'a>(alloc: Global, commands: &mut Vec<Command<'a>>) -> Result<(), AllocError> {
+    for offer in OFFERS.as_slice() {
+        commands.push(command(alloc, *offer)?)?;
+    }
     Ok(())
 }
 
-/// Adds all commands.
-fn add_commands<'a>(alloc: Global, commands: &mut Vec<Command<'a>>) -> Result<(), AllocError> {
-    let search = plain(alloc, "search", "Ask whether a gateway is there");
-    add(commands, search)?;
-    add(commands, connect(alloc)?)?;
-    add(commands, subscribe(alloc)?)?;
-    add(commands, unsubscribe(alloc)?)?;
-    add_messages(alloc, commands)
+/// A command with its words.
+fn command<'a>(alloc: Global, offer: Offer) -> Result<Command<'a>, AllocError> {
+    let Offer(name, about, words) = offer;
+    let args = args_of(alloc, words, false)?;
+    with(Command::new(alloc, name).about(about), args)
 }
 
-/// Adds the commands about messages that go and come, and the end of a connection.
-fn add_messages<'a>(alloc: Global, commands: &mut Vec<Command<'a>>) -> Result<(), AllocError> {
-    add(commands, publish(alloc)?)?;
-    add(commands, sleep(alloc)?)?;
-    let wake = plain(
-        alloc,
-        "wake",
-        "Wake up for the messages that were kept, and sleep on",
-    );
-    add(commands, wake)?;
-    add(commands, listen(alloc)?)?;
-    let disconnect = plain(alloc, "disconnect", "End the connection");
-    add(commands, disconnect)
+/// A command with these arguments. It says nothing of them, so that who calls it carries on no more
+/// than a command.
+fn with<'a>(command: Command<'a>, args: Vec<Arg<'a>>) -> Result<Command<'a>, AllocError> {
+    command.args(args)
 }
 
-/// The program with the options of every command: who speaks, with whom, and how.
-fn with_options<'a>(alloc: Global) -> Result<Command<'a>, AllocError> {
-    let options = vec![in alloc;
-        gateway(alloc),
-        id(alloc),
-        port(alloc),
-        connect_first(alloc),
-        wait(alloc),
-        hex(alloc),
-    ]?;
-    with(program(alloc), options)
+/// These words as arguments of one command, or of all below it too.
+fn args_of<'a>(alloc: Global, words: &[Word], is_global: bool) -> Result<Vec<Arg<'a>>, AllocError> {
+    let mut args = Vec::new(alloc);
+    add_args(alloc, &mut args, words, is_global)?;
+    Ok(args)
 }
 
-/// The option `--gateway`.
-fn gateway<'a>(alloc: Global) -> Arg<'a> {
-    text(
-        alloc,
-        "gateway",
-        "ADDRESS",
-        "Where the gateway listens, as 127.0.0.1:18841",
-    )
-    .short('g')
-    .global(true)
+/// Adds these words.
+fn add_args<'a>(
+    alloc: Global,
+    args: &mut Vec<Arg<'a>>,
+    words: &[Word],
+    is_global: bool,
+) -> Result<(), AllocError> {
+    for word in words {
+        args.push(arg(alloc, *word).global(is_global))?;
+    }
+    Ok(())
 }
 
-/// The option `--id`.
-fn id<'a>(alloc: Global) -> Arg<'a> {
-    text(alloc, "id", "ID", "The client's id: 1 to 23 octets")
-        .short('i')
-        .global(true)
-}
-
-/// The option `--port`.
-fn port<'a>(alloc: Global) -> Arg<'a> {
-    text(
-        alloc,
-        "port",
-        "PORT",
-        "The client's own port; 0 for any. Left out, one that is made of the id",
-    )
-    .value_parser(value_parser!(u16))
-    .global(true)
-}
-
-/// The option `--connect`.
-fn connect_first<'a>(alloc: Global) -> Arg<'a> {
-    flag(
-        alloc,
-        "connect",
-        "Connect first, with the session that is there",
-    )
-    .global(true)
-}
-
-/// The option `--wait`.
-fn wait<'a>(alloc: Global) -> Arg<'a> {
-    text(
-        alloc,
-        "wait",
-        "SECONDS",
-        "How long to wait for an answer; 0 for no end",
-    )
-    .value_parser(value_parser!(u16))
-    .default_value("3")
-    .global(true)
-}
-
-/// The option `--hex`.
-fn hex<'a>(alloc: Global) -> Arg<'a> {
-    flag(alloc, "hex", "Also print the octets of each frame").global(true)
-}
-
-/// A command without words of its own.
-fn plain<'a>(alloc: Global, name: &'a str, about: &'a str) -> Command<'a> {
-    Command::new(alloc, name).about(about)
+/// A word as an argument.
+fn arg<'a>(alloc: Global, word: Word) -> Arg<'a> {
+    let Word(name, form, value, help) = word;
+    let arg = Arg::new(alloc, name).help(help);
+    match form {
+        Form::Flag => arg.long(name).action(ArgAction::SetTrue),
+        Form::Needed => arg.required(true).value_name(value),
+        Form::NeededText => arg
+            .required(true)
+            .value_name(value)
+            .allow_negative_numbers(true),
+        Form::NeededNumber => number(arg.required(true), value),
+        Form::LastNumber(default) => number(arg, value).default_value(default),
+        _ => option(arg.long(name).value_name(value), form),
+    }
 }
 
 /// An option with a value.
-fn text<'a>(alloc: Global, name: &'a str, value: &'a str, help: &'a str) -> Arg<'a> {
-    Arg::new(alloc, name)
-        .long(name)
-        .value_name(value)
-        .help(help)
+fn option<'a>(arg: Arg<'a>, form: Form) -> Arg<'a> {
+    match form {
+        Form::Lettered(letter) => arg.short(letter),
+        Form::Number => arg.value_parser(value_parser!(u16)),
+        Form::NumberOr(default) => arg.value_parser(value_parser!(u16)).default_value(default),
+        Form::Level => level(arg, OF_OTHERS.as_slice()),
+        Form::AnyLevel => level(arg, OF_PUBLISH.as_slice()),
+        _ => arg,
+    }
 }
 
-/// An option without a value.
-fn flag<'a>(alloc: Global, name: &'a str, help: &'a str) -> Arg<'a> {
-    Arg::new(alloc, name)
-        .long(name)
-        .action(ArgAction::SetTrue)
-        .help(help)
+/// A number, which help calls so.
+fn number<'a>(arg: Arg<'a>, value: &'a str) -> Arg<'a> {
+    arg.value_name(value).value_parser(value_parser!(u16))
 }
 
-/// A word that must be there.
-fn word<'a>(alloc: Global, name: &'a str, value: &'a str, help: &'a str) -> Arg<'a> {
-    Arg::new(alloc, name)
-        .required(true)
-        .value_name(value)
-        .help(help)
-}
-
-/// The option `--qos`.
-fn qos<'a>(alloc: Global, levels: &'static [&'static str], help: &'a str) -> Arg<'a> {
-    text(alloc, "qos", "QOS", help)
-        .value_parser(ValueParser::Names(levels))
+/// A quality of service.
+fn level<'a>(arg: Arg<'a>, levels: &'static [&'static str]) -> Arg<'a> {
+    arg.value_parser(ValueParser::Names(levels))
         .allow_negative_numbers(true)
         .default_value("0")
-}
-
-/// The option `--predefined`.
-fn predefined<'a>(alloc: Global) -> Arg<'a> {
-    flag(
-        alloc,
-        "predefined",
-        "What stands in the place of a name is a predefined topic id",
-    )
-}
-
-/// The option `--keep-alive`.
-fn keep_alive<'a>(alloc: Global) -> Arg<'a> {
-    text(
-        alloc,
-        "keep-alive",
-        "SECONDS",
-        "After half as much silence again the client is lost; 0 for never",
-    )
-    .value_parser(value_parser!(u16))
-    .default_value("0")
-}
-
-/// The option `--will-topic`.
-fn will_topic<'a>(alloc: Global) -> Arg<'a> {
-    text(
-        alloc,
-        "will-topic",
-        "TOPIC",
-        "Where to publish the will if the client is lost",
-    )
-}
-
-/// The command `connect`.
-fn connect<'a>(alloc: Global) -> Result<Command<'a>, AllocError> {
-    let options = vec![in alloc;
-        flag(alloc, "clean", "Begin with an empty session"),
-        keep_alive(alloc),
-        will_topic(alloc),
-        text(alloc, "will-message", "TEXT", "What the will says"),
-        qos(alloc, OF_OTHERS.as_slice(), "The will's quality of service"),
-        flag(alloc, "retain", "Set the will's retain flag"),
-    ]?;
-    with(plain(alloc, "connect", "Set up a connection"), options)
-}
-
-/// The command `subscribe`.
-fn subscribe<'a>(alloc: Global) -> Result<Command<'a>, AllocError> {
-    let options = vec![in alloc;
-        word(
-            alloc,
-            "filter",
-            "FILTER",
-            "Which topics, as tele/+ or tele/#",
-        ),
-        qos(alloc, OF_OTHERS.as_slice(), QOS),
-        predefined(alloc),
-    ]?;
-    with(plain(alloc, "subscribe", "Subscribe to topics"), options)
-}
-
-/// The command `unsubscribe`.
-fn unsubscribe<'a>(alloc: Global) -> Result<Command<'a>, AllocError> {
-    let options = vec![in alloc;
-        word(
-            alloc,
-            "filter",
-            "FILTER",
-            "The filter as it was subscribed to",
-        ),
-        predefined(alloc),
-    ]?;
-    with(plain(alloc, "unsubscribe", "End a subscription"), options)
-}
-
-/// The command `publish`.
-fn publish<'a>(alloc: Global) -> Result<Command<'a>, AllocError> {
-    let options = vec![in alloc;
-        topic(alloc),
-        message(alloc),
-        qos(alloc, OF_PUBLISH.as_slice(), QOS),
-        flag(alloc, "retain", "Set the retain flag"),
-        predefined(alloc),
-    ]?;
-    with(plain(alloc, "publish", "Publish a text"), options)
-}
-
-/// The topic of a publication.
-fn topic<'a>(alloc: Global) -> Arg<'a> {
-    word(
-        alloc,
-        "topic",
-        "TOPIC",
-        "The topic's name; one of two octets needs no id",
-    )
-}
-
-/// The text of a publication.
-fn message<'a>(alloc: Global) -> Arg<'a> {
-    word(alloc, "text", "TEXT", "What is published").allow_negative_numbers(true)
-}
-
-/// How long a client sleeps.
-fn seconds<'a>(alloc: Global) -> Arg<'a> {
-    word(alloc, "seconds", "SECONDS", "For how long at most").value_parser(value_parser!(u16))
-}
-
-/// The command `sleep`.
-fn sleep<'a>(alloc: Global) -> Result<Command<'a>, AllocError> {
-    let options = vec![in alloc; seconds(alloc)]?;
-    with(
-        plain(alloc, "sleep", "Fall asleep: messages are kept meanwhile"),
-        options,
-    )
-}
-
-/// How long a client listens.
-fn length<'a>(alloc: Global) -> Arg<'a> {
-    Arg::new(alloc, "length")
-        .value_name("SECONDS")
-        .value_parser(value_parser!(u16))
-        .default_value("0")
-        .help("For how long; 0 until it is stopped")
-}
-
-/// The command `listen`.
-fn listen<'a>(alloc: Global) -> Result<Command<'a>, AllocError> {
-    let options = vec![in alloc; length(alloc)]?;
-    with(plain(alloc, "listen", "Take what comes"), options)
 }

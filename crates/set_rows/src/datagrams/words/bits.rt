@@ -1,30 +1,8 @@
 //! Flags, what they say of a topic, and return codes.
 
-use crate::datagrams::shown::Text;
+use crate::datagrams::shown::print_text;
+use crate::page::Page;
 use sn_frame::{Flags, Qos, TopicIdType};
-use std::fmt;
-
-/// An octet of bit fields (section 5.3.4).
-#[derive(Clone, Copy)]
-pub(crate) struct Bits(pub Flags);
-
-/// A return code (section 5.3.10).
-#[derive(Clone, Copy)]
-pub(crate) struct Code(pub u8);
-
-/// What the topic field of PUBLISH has (section 5.4.12): an id, or a name of two octets.
-#[derive(Clone, Copy)]
-pub(crate) struct TopicField(pub TopicIdType, pub u16);
-
-/// What the topic field of SUBSCRIBE or UNSUBSCRIBE has (section 5.4.15): a name, or an id of two
-/// octets.
-#[derive(Clone, Copy)]
-pub(crate) struct TopicOctets<'a>(pub TopicIdType, pub &'a [u8]);
-
-/// A bit as a digit.
-fn digit(is_set: bool) -> u8 {
-    if is_set { 1 } else { 0 }
-}
 
 /// A quality of service.
 fn qos_word(qos: Qos) -> &'static str {
@@ -46,58 +24,80 @@ fn kind_word(kind: TopicIdType) -> &'static str {
     }
 }
 
-impl fmt::Display for Bits {
-    fn fmt<W: fmt::Write>(&self, f: &mut fmt::Formatter<W>) -> fmt::Result {
-        let flags = self.0;
-        let bits = flags.bits;
-        let (dup, qos) = (digit(flags.dup()), qos_word(flags.qos()));
-        let (retain, will) = (digit(flags.retain()), digit(flags.will()));
-        let (clean, kind) = (digit(flags.clean()), kind_word(flags.kind()));
-        write!(
-            f,
-            "Flags {bits:02x} (DUP {dup}, QoS {qos}, Retain {retain}, Will {will}, "
-        )?;
-        write!(f, "CleanSession {clean}, TopicIdType {kind})")
+/// What a return code says (section 5.3.10).
+fn code_word(code: u8) -> &'static str {
+    match code {
+        0 => "accepted",
+        1 => "congestion",
+        2 => "invalid topic id",
+        3 => "not supported",
+        _ => "reserved",
     }
 }
 
-impl fmt::Display for Code {
-    fn fmt<W: fmt::Write>(&self, f: &mut fmt::Formatter<W>) -> fmt::Result {
-        let code = self.0;
-        let meaning = match code {
-            0 => "accepted",
-            1 => "congestion",
-            2 => "invalid topic id",
-            3 => "not supported",
-            _ => "reserved",
-        };
-        write!(f, "ReturnCode {code} ({meaning})")
+/// Prints an octet of bit fields (section 5.3.4) after a space.
+pub(crate) fn print_flags(page: &mut Page, flags: Flags) {
+    page.text(" Flags ");
+    page.hexadecimal(&[flags.bits]);
+    print_bit(page, " (DUP ", flags.dup());
+    print_part(page, ", QoS ", qos_word(flags.qos()));
+    print_bit(page, ", Retain ", flags.retain());
+    print_bit(page, ", Will ", flags.will());
+    print_bit(page, ", CleanSession ", flags.clean());
+    print_part(page, ", TopicIdType ", kind_word(flags.kind()));
+    page.text(")");
+}
+
+/// Prints the name of a bit, and the bit as a digit.
+fn print_bit(page: &mut Page, name: &str, is_set: bool) {
+    page.text(name);
+    if is_set {
+        page.text("1");
+    } else {
+        page.text("0");
     }
 }
 
-impl fmt::Display for TopicField {
-    fn fmt<W: fmt::Write>(&self, f: &mut fmt::Formatter<W>) -> fmt::Result {
-        let number = self.1;
-        match self.0 {
-            TopicIdType::Short => {
-                let octets = number.to_be_bytes();
-                let name = Text(octets.as_slice());
-                write!(f, "TopicName {name}")
-            }
-            _ => write!(f, "TopicId {number}"),
+/// Prints the name of some bits, and what they say.
+fn print_part(page: &mut Page, name: &str, said: &str) {
+    page.text(name);
+    page.text(said);
+}
+
+/// Prints a return code (section 5.3.10).
+pub(crate) fn print_code(page: &mut Page, code: u8) {
+    page.text("ReturnCode ");
+    page.value(code);
+    print_part(page, " (", code_word(code));
+    page.text(")");
+}
+
+/// Prints what the topic field of PUBLISH has (section 5.4.12): an id, or a name of two octets.
+pub(crate) fn print_topic(page: &mut Page, kind: TopicIdType, number: u16) {
+    if matches!(kind, TopicIdType::Short) {
+        page.text("TopicName ");
+        print_text(page, number.to_be_bytes().as_slice());
+    } else {
+        print_id(page, number);
+    }
+}
+
+/// Prints a topic id.
+fn print_id(page: &mut Page, id: u16) {
+    page.text("TopicId ");
+    page.value(id);
+}
+
+/// Prints what the topic field of SUBSCRIBE or UNSUBSCRIBE has (section 5.4.15): a name, or an id of
+/// two octets.
+pub(crate) fn print_octets_topic(page: &mut Page, kind: TopicIdType, octets: &[u8]) {
+    match (kind, octets) {
+        (TopicIdType::Predefined, [high, low]) => {
+            print_id(page, u16::from_be_bytes([*high, *low]));
         }
-    }
-}
-
-impl fmt::Display for TopicOctets<'_> {
-    fn fmt<W: fmt::Write>(&self, f: &mut fmt::Formatter<W>) -> fmt::Result {
-        let name = Text(self.1);
-        match (self.0, self.1) {
-            (TopicIdType::Predefined, [high, low]) => {
-                let number = u16::from_be_bytes([*high, *low]);
-                write!(f, "TopicId {number}")
-            }
-            _ => write!(f, "TopicName {name}"),
+        _ => {
+            page.text("TopicName ");
+            print_text(page, octets);
         }
     }
 }
