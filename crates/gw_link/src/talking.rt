@@ -3,6 +3,7 @@
 ghost use Rattle.gw_link.specs.Adding.{Adds, is_of_link};
 
 use crate::calling::End;
+use crate::counts::counts_of;
 use crate::hearing::{answer, hear_all, listen, second_of};
 use crate::link::Link;
 use crate::outgoing::pump;
@@ -42,6 +43,7 @@ pub fn talk<T: Wait + Clock, R: Replica, D: Disk + Drop, S: Read + Write + Drop>
         let phase = stage.phase(rt);
         let (after, turned) = take_turn(rt, alloc, shift, pass, link, gateway, stage, phase, relay);
         pass = after;
+        relay.note_counts(rt, link.place, link.heard.unwrap_or(0), counts_of(link));
         if let Err(end) = wait_or_listen(rt, alloc, link, piece, stage, phase, turned) {
             return (pass, end);
         }

@@ -55,6 +55,8 @@ pub struct Pool<S: Drop> {
     /// since; else 0.
     backlog: AtomicU64,
     ticked: AtomicU64,
+    /// How often the clock's thread has begun a round.
+    pub rounds: AtomicU64,
 }
 
 impl<S: Drop> Pool<S> {
@@ -89,6 +91,7 @@ impl<S: Drop> Pool<S> {
             listening: Listening::new(),
             backlog: AtomicU64::new(0),
             ticked: AtomicU64::new(0),
+            rounds: AtomicU64::new(0),
         })
     }
 

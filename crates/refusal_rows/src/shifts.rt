@@ -81,8 +81,8 @@ fn subscribe(said: &mut Said) -> Option<Arc<Step>> {
     beside(said, made)
 }
 
-/// Plays a row of a shift without calls, which has had one of this step when its deltas are asked
-/// for.
+/// Plays a row of a shift without calls. It has had one of this step when something is asked of
+/// it.
 fn play_in_shift<W: Wait>(rt: &W, said: &mut Said, step: Arc<Step>, call: &str) {
     if let Some((shift, mut passes)) = begun(said) {
         let mut work = Work {
@@ -108,8 +108,12 @@ impl<'a, W: Wait> Calls for Work<'a, W> {
             if let Some(pass) = self.pass.take() {
                 self.call(said, pass);
             }
-        } else if let Some(pass) = &self.pass {
-            show_made(self.rt, said, &self.shift, pass);
+        } else if call == "Shift::after" {
+            if let Some(pass) = &self.pass {
+                show_made(self.rt, said, &self.shift, pass);
+            }
+        } else {
+            look_at(self.rt, said, &self.shift, call);
         }
     }
 }
@@ -178,6 +182,40 @@ fn show_made<W: Wait>(rt: &W, said: &mut Said, shift: &Shared, pass: &Pass) {
             said.answer();
         }
         Err(fault) => said.refuse(matches!(fault, CallFault::Memory)),
+    }
+}
+
+/// Looks at the gateway without a call.
+fn look_at<W: Wait>(rt: &W, said: &mut Said, shift: &Shared, call: &str) {
+    if call == "Shift::glance" {
+        show_glimpses(rt, said, shift);
+    } else {
+        show_known(rt, said, shift);
+    }
+}
+
+/// Asks for the clients at a glance, and prints how many there are.
+fn show_glimpses<W: Wait>(rt: &W, said: &mut Said, shift: &Shared) {
+    match &shift.glance(rt, said.alloc, b"", 9) {
+        Ok(found) => {
+            said.number("clients", found.len());
+            said.answer();
+        }
+        Err(_) => said.refuse(true),
+    }
+}
+
+/// Asks how many messages are known for each client, and prints for how many clients that is.
+fn show_known<W: Wait>(rt: &W, said: &mut Said, shift: &Shared) {
+    let glimpses = shift.glance(rt, said.alloc, b"", 9);
+    if let Some(clients) = beside(said, glimpses) {
+        match &shift.messages_known(rt, said.alloc, clients.as_slice(), 1) {
+            Ok(counts) => {
+                said.number("counts", counts.len());
+                said.answer();
+            }
+            Err(_) => said.refuse(true),
+        }
     }
 }
 

@@ -1,0 +1,89 @@
+//! Requests for the page of a gateway, whose report is made up.
+
+use crate::page::Page;
+use crate::reports::{Sketch, report_of};
+use crate::stop::Stop;
+use crate::words::Words;
+use gw_report::{Event, Report};
+use octets::NoMemory;
+use std::alloc::Global;
+
+/// `page METHOD PATH`: the answer to a request of one line.
+pub(crate) fn ask(page: &mut Page, sketch: &mut Sketch, words: &mut Words) {
+    let method = words.word();
+    let path = words.word();
+    if words.end(page) {
+        let mut request = String::new(page.alloc());
+        let is_short = write!(request, "{method} {path} HTTP/1.0\r\n\r\n").is_err();
+        page.stop_if_short(is_short);
+        show(page, sketch, request.as_bytes());
+    }
+}
+
+/// `request OCTETS`: the answer to these octets.
+pub(crate) fn ask_octets(page: &mut Page, sketch: &mut Sketch, words: &mut Words) {
+    let request = words.octets();
+    if words.end(page) {
+        show(page, sketch, request.as_slice());
+    }
+}
+
+/// The answer to a request, and whether more of the request may change it.
+fn show(page: &mut Page, sketch: &mut Sketch, request: &[u8]) {
+    if gw_page::may_grow(request) {
+        page.text("may grow\n");
+    }
+    let report = report_of(page, sketch);
+    match &answer_to(page.alloc(), request, &report) {
+        Ok(answer) => print_answer(page, answer.as_slice()),
+        Err(_) => page.stop(Stop::Memory),
+    }
+}
+
+/// What is answered to a request.
+fn answer_to(alloc: Global, request: &[u8], report: &Report) -> Result<Vec<u8>, NoMemory> {
+    gw_page::page(alloc, request, report)
+}
+
+/// An answer, which is text.
+fn print_answer(page: &mut Page, answer: &[u8]) {
+    match str::from_utf8(answer) {
+        Ok(answer) => print_parts(page, answer),
+        Err(_) => page.stop(Stop::Line),
+    }
+}
+
+/// A text, with `\r` for each carriage return.
+fn print_parts(page: &mut Page, answer: &str) {
+    let mut is_first = true;
+    for part in answer.split('\r') {
+        if !is_first {
+            page.text("\\r");
+        }
+        is_first = false;
+        page.text(part);
+    }
+}
+
+/// `entries`: each event of the report, for the journal of the system.
+pub(crate) fn entries(page: &mut Page, sketch: &mut Sketch, words: &mut Words) {
+    if words.end(page) {
+        let report = report_of(page, sketch);
+        for event in report.events.as_slice() {
+            print_entry(page, event);
+        }
+    }
+}
+
+/// The line of an event.
+fn print_entry(page: &mut Page, event: &Event) {
+    match &entry_of(page.alloc(), event) {
+        Ok(line) => page.text(line.as_str()),
+        Err(_) => page.stop(Stop::Memory),
+    }
+}
+
+/// The line of an event for the journal of the system.
+fn entry_of(alloc: Global, event: &Event) -> Result<String, NoMemory> {
+    gw_page::entry(alloc, event)
+}
