@@ -3,7 +3,7 @@
 use crate::calling::End;
 use crate::link::{Link, Origin};
 use crate::trouble::{Trouble, trouble_of};
-use gw_shift::gw_node::{Answer, NodeFault};
+use gw_shift::gw_node::{Answer, NodeFault, Step};
 use rep_ops::Delta;
 
 /// What is counted of a link since it was made.
@@ -59,24 +59,20 @@ pub(crate) fn no_counts() -> LinkCounts {
     }
 }
 
-/// Some more.
-fn more(count: u64, by: usize) -> u64 {
-    count.saturating_add(by as u64)
+/// A link of which nothing was counted.
+pub(crate) fn begun(place: u64, origin: Origin, other: u8) -> LinkNumbers {
+    LinkNumbers {
+        place,
+        origin,
+        other,
+        heard: 0,
+        counts: no_counts(),
+    }
 }
 
-/// So many octets came.
-pub(crate) fn count_received<S: Drop>(link: &mut Link<S>, octets: usize) {
-    link.counts.received = more(link.counts.received, octets);
-}
-
-/// So many octets went out.
-pub(crate) fn count_sent<S: Drop>(link: &mut Link<S>, octets: usize) {
-    link.counts.sent = more(link.counts.sent, octets);
-}
-
-/// A delta is told.
-pub(crate) fn count_told<S: Drop>(link: &mut Link<S>) {
-    link.counts.told = more(link.counts.told, 1);
+/// So many more.
+pub(crate) fn add(count: &mut u64, more: usize) {
+    *count = count.saturating_add(more as u64);
 }
 
 /// What was counted, with what waits now.
@@ -86,34 +82,43 @@ pub(crate) fn counts_of<S: Drop>(link: &Link<S>) -> LinkCounts {
     counts
 }
 
+/// Whether a call takes a delta.
+pub(crate) fn is_delta(step: &Step) -> bool {
+    match step {
+        Step::Take { .. } => true,
+        _ => false,
+    }
+}
+
 /// The gateway answered what came, a delta or a digest, if it was asked.
-pub(crate) fn count_answer<S: Drop>(
-    link: &mut Link<S>,
-    is_delta: bool,
-    answered: &Result<Answer, End>,
-) {
+pub(crate) fn count_answer(counts: &mut LinkCounts, is_taken: bool, answered: &Result<Answer, End>) {
     match answered {
-        Ok(Ok(out)) => {
-            if is_delta {
-                link.counts.taken = more(link.counts.taken, 1);
-            } else {
-                link.counts.answered = operations_of(out.answer.as_slice());
-            }
-        }
-        Ok(Err(fault)) => {
-            if is_delta {
-                count_refusal(&mut link.counts, fault);
-            }
-        }
+        Ok(answer) if is_taken => count_taken(counts, answer),
+        Ok(answer) => count_answered(counts, answer),
         Err(_) => {}
+    }
+}
+
+/// A delta was taken, or refused.
+fn count_taken(counts: &mut LinkCounts, answer: &Answer) {
+    match answer {
+        Ok(_) => add(&mut counts.taken, 1),
+        Err(fault) => count_refusal(counts, fault),
+    }
+}
+
+/// A digest was answered, or not.
+fn count_answered(counts: &mut LinkCounts, answer: &Answer) {
+    if let Ok(out) = answer {
+        counts.answered = operations_of(out.answer.as_slice());
     }
 }
 
 /// How many operations an answer has.
 fn operations_of(deltas: &[Delta]) -> u64 {
-    let mut operations = 0;
+    let mut operations = 0u64;
     for delta in deltas {
-        operations = more(operations, delta.ops().len());
+        add(&mut operations, delta.ops().len());
     }
     operations
 }
@@ -121,8 +126,8 @@ fn operations_of(deltas: &[Delta]) -> u64 {
 /// A delta was refused.
 fn count_refusal(counts: &mut LinkCounts, fault: &NodeFault) {
     match trouble_of(fault) {
-        Some(Trouble::Conflict) => counts.conflicts = more(counts.conflicts, 1),
-        Some(Trouble::TooMuch) => counts.limits = more(counts.limits, 1),
-        Some(_) | None => counts.others = more(counts.others, 1),
+        Some(Trouble::Conflict) => add(&mut counts.conflicts, 1),
+        Some(Trouble::TooMuch) => add(&mut counts.limits, 1),
+        _ => add(&mut counts.others, 1),
     }
 }

@@ -6,7 +6,7 @@ ghost use Rattle.gw_link.specs.Adding.{Adds, is_of_link};
 ghost use Rattle.gw_link.specs.inner.Calling as spec;
 
 use crate::calling::{End, call, drop_refusal};
-use crate::counts::{count_answer, count_received};
+use crate::counts::{add, count_answer, is_delta};
 use crate::link::{Heard, Link};
 use crate::outgoing::is_nothing;
 use crate::relay::{Relay, weight, weight_of_digest};
@@ -49,7 +49,7 @@ pub(crate) fn listen<S: Read + Drop>(
         Ok(0) => Err(End::Lost),
         Ok(size) => {
             link.heard = Some(second);
-            count_received(link, size);
+            add(&mut link.counts.received, size);
             take_in(alloc, link, &piece[..size])
         }
         Err(error) if is_nothing(&error) => wait_on(link, second),
@@ -297,9 +297,9 @@ fn work_on<T: Wait, R: Replica, D: Disk + Drop, S: Drop>(
         }
     };
     stage.keep(rt, octets_of(&step));
-    let is_delta = matches!(&*step, Step::Take { .. });
+    let is_taken = is_delta(&step);
     let (pass, answered) = call(rt, alloc, shift, pass, step, stage);
-    count_answer(link, is_delta, &answered);
+    count_answer(&mut link.counts, is_taken, &answered);
     let heard = follow_answer(rt, alloc, link, stage, relay, news, answered);
     (pass, heard)
 }

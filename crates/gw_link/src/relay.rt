@@ -4,7 +4,7 @@ ghost use Rattle.std.specs.Prelude.{◌≡◌, ◌≤◌, IfOk, length};
 ghost use Rattle.gw_link.specs.inner.Weights as spec;
 
 use crate::calling::End;
-use crate::counts::{LinkCounts, LinkNumbers, no_counts};
+use crate::counts::{LinkCounts, LinkNumbers, begun};
 use crate::link::Origin;
 use crate::trouble::{Report, Tally, Trouble, count_one, report_of};
 use gw_relay::{
@@ -164,13 +164,7 @@ impl Relay {
             id,
             other,
             is_accepted,
-            numbers: LinkNumbers {
-                place: id,
-                origin,
-                other,
-                heard: 0,
-                counts: no_counts(),
-            },
+            numbers: begun(id, origin, other),
             is_over: false,
             has_asked: false,
             at,
@@ -198,13 +192,10 @@ impl Relay {
     pub(crate) fn note_counts<T: Wait>(
         &self,
         rt: &T,
-        place: Option<u64>,
+        id: u64,
         heard: u64,
         counts: LinkCounts,
     ) {
-        let Some(id) = place else {
-            return;
-        };
         let mut board = self.board.lock(rt);
         for place in board.places.as_mut_slice() {
             if place.id == id {

@@ -4,7 +4,7 @@ ghost use Rattle.std.specs.Prelude.{◌≡◌, IfOk};
 ghost use Rattle.gw_link.specs.Adding.{Adds, is_of_link};
 
 use crate::calling::{End, call, drop_refusal};
-use crate::counts::count_told;
+use crate::counts::add;
 use crate::hearing::second_of;
 use crate::link::Link;
 use crate::outgoing::{is_behind, say, say_spelled, spelled};
@@ -126,7 +126,7 @@ fn say_piece<S: Drop>(
         let octets = spelled(alloc, LinkMessage::Delta(piece))?;
         if fits(octets.len(), count) {
             say_spelled(link, octets)?;
-            count_told(link);
+            add(&mut link.counts.told, 1);
             return Ok(count);
         }
         drop(octets);
@@ -421,7 +421,7 @@ fn tell_some<T: Wait, S: Drop>(
         }
         relay.note_made(rt, alloc, number, &delta);
         say(alloc, link, LinkMessage::Delta(delta))?;
-        count_told(link);
+        add(&mut link.counts.told, 1);
         link.told = number;
     }
     Ok(())
@@ -446,7 +446,7 @@ pub(crate) fn hand_all<T: Wait, S: Drop>(
         };
         if goes_on(giver, other, link.linked.as_slice()) {
             hand(alloc, link, &step)?;
-            count_told(link);
+            add(&mut link.counts.told, 1);
         }
     }
     unreachable!()

@@ -43,12 +43,19 @@ pub fn talk<T: Wait + Clock, R: Replica, D: Disk + Drop, S: Read + Write + Drop>
         let phase = stage.phase(rt);
         let (after, turned) = take_turn(rt, alloc, shift, pass, link, gateway, stage, phase, relay);
         pass = after;
-        relay.note_counts(rt, link.place, link.heard.unwrap_or(0), counts_of(link));
+        show(rt, link, relay);
         if let Err(end) = wait_or_listen(rt, alloc, link, piece, stage, phase, turned) {
             return (pass, end);
         }
     }
     unreachable!()
+}
+
+/// Lets whoever watches the gateway see what was counted of a link.
+fn show<T: Wait, S: Drop>(rt: &T, link: &Link<S>, relay: &Relay) {
+    if let Some(place) = link.place {
+        relay.note_counts(rt, place, link.heard.unwrap_or(0), counts_of(link));
+    }
 }
 
 /// Hears what has come, and tells what is new: once what was said before went out, or at the

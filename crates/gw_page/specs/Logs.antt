@@ -162,11 +162,11 @@ event_text event =
     decimal event.moment ▹ tab ▹ level_word (level_of event.what) ▹ tab ▹ what_text event.what
     ▹ line_end
 
--- the line of an event for the journal of the system: its level as a number, and what happened
+-- the line of an event for the journal of the system, without its end: its level as a number, and
+-- what happened
 abbrev pub entry_text : Event → List ℕ
 entry_text event =
     codes "<" ▹ decimal (level_number (level_of event.what)) ▹ codes ">" ▹ what_text event.what
-    ▹ line_end
 
 -- the lines of events
 abbrev pub log_text : List Event → List ℕ

@@ -8,14 +8,14 @@ use octets::NoMemory;
 use rep_op::ClientId;
 use std::alloc::{AllocError, Global};
 
-/// The line of an event for the journal of the system, which takes what is in `<>` for the level.
+/// The line of an event for the journal of the system, without its end. What is in `<>` is taken
+/// for the level.
 pub fn entry(alloc: Global, event: &Event) -> Result<String, NoMemory>
     ensures { IfOk result (λ text. string_bytes text ≡ entry_text event.now) }
 {
     let level = event.level().number();
     let mut text = format!(in alloc; "<{level}>")?;
     print_what(alloc, &mut text, &event.what)?;
-    text.push_str("\n")?;
     Ok(text)
 }
 

@@ -42,7 +42,6 @@ pub struct Locked<R: Replica, D: Disk> {
 
 impl<R: Replica, D: Disk + Drop> Locked<R, D> {
     ghost use Rattle.std.specs.Prelude.{◌≡◌, ◌≤◌, ◌<◌, ◌+◌, ◌++◌, ◌∷◌, [], ℕ, IfOk, IfErr, vec_len, take, drop, length};
-    ghost use Rattle.gw_node.specs.Glancing.{glimpses_of};
     ghost use Rattle.gw_answer.specs.Answers.{said};
     ghost use Rattle.gw_shift.specs.Calls.{Call};
     ghost use Rattle.gw_shift.specs.inner.Passes.{call, made_after, told_by};
@@ -121,18 +120,17 @@ impl<R: Replica, D: Disk + Drop> Locked<R, D> {
 
     /// The clients of the node at a glance whose ids are above these octets: the first of them, at
     /// most so many. It is no call.
-    #[tactic(auto, using(gw_glance::proofs::Showing::taken_few))]
+    #[tactic(auto, using(crate::proofs::Handing::shown_few))]
     pub(crate) fn glance(
         &self,
         alloc: Global,
         above: &[u8],
         most: usize,
     ) -> Result<Vec<Glimpse>, NoMemory>
-        ensures glimpses { IfOk result (λ all. all.items
-            ≡ take most (glimpses_of (state_of R.kept self.now.node) above.now)) }
-        ensures most { IfOk result (λ all. length all.items ≤ most) }
+        ensures { IfOk result (λ all. length all.items ≤ most) }
     {
-        self.node.glance(alloc, above, most)
+        let all = self.node.glance(alloc, above, most)?;
+        Ok(all)
     }
 
     /// For each of these clients, how many messages a gateway has put for it, as far as the node

@@ -71,6 +71,7 @@ fn write(said: &mut Said, event: &Event) {
     match &entry(said.alloc, event) {
         Ok(line) => {
             said.page.append(line.as_bytes());
+            said.page.push(b'\n');
             said.answer();
         }
         Err(_) => said.refuse(true),

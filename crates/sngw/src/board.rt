@@ -17,14 +17,70 @@ use std::sync::atomic::{AtomicU64, Ordering};
 use std::sync::{Mutex, Wait};
 use std::time::Clock;
 
+/// How many milliseconds pass between two glances.
+const A_GLANCE: u64 = 5_000;
+
+/// Of how many shifts the calls wait at most.
+const MOST_SHIFTS: usize = 64;
+
+/// A number that stands by itself.
+#[derive(Clone, Copy)]
+pub enum Number {
+    /// Not 0 once the watcher tells the troubles of links.
+    Watcher,
+    /// Datagrams that came.
+    Received,
+    /// Datagrams that came, and became no call.
+    Dropped,
+    /// Datagrams that could not be sent.
+    Unsent,
+    /// Calls at `link` that were closed at once.
+    TurnedAway,
+    /// The shift.
+    Shift,
+    /// The calls of the last shift that was closed.
+    ShiftCalls,
+    /// The last time between two shifts, in milliseconds.
+    Turn,
+    /// The longest of them since it was forgotten.
+    LongestTurn,
+    /// The time that the last compaction took, in milliseconds.
+    Compaction,
+    /// The longest of them since it was forgotten.
+    LongestCompaction,
+    /// Journals that were written anew.
+    Compacted,
+    /// Journals that could not be.
+    NotCompacted,
+    /// Openings in a shift.
+    Reopened,
+    /// Openings between two shifts.
+    ReopenedBetween,
+    /// Not 0 while the gateway is silent, since its writes fail.
+    Halted,
+    /// The millisecond after that in which a write failed last; 0 if none did.
+    Failed,
+    /// The millisecond of the last glance.
+    Glanced,
+}
+
+/// The first place after the numbers that stand by themselves: datagrams that came, by type.
+const CAME: usize = 18;
+
 /// How many types of frames there may be; the last place is for all others.
 const TYPES: usize = 32;
 
-/// How many numbers a gateway may have, with 0.
-const NUMBERS: usize = 256;
+/// The first place of datagrams that went out, by type.
+const WENT: usize = CAME + TYPES;
 
-/// How many milliseconds pass between two glances.
-const A_GLANCE: u64 = 5_000;
+/// The first place of gateways: not 0 if that gateway was there since the program began.
+const FIRST_GATEWAY: usize = WENT + TYPES;
+
+/// How many numbers a gateway may have, with 0.
+const GATEWAYS: usize = 256;
+
+/// The first place of peers: how many dials made no link.
+const DIALS: usize = FIRST_GATEWAY + GATEWAYS;
 
 /// What the threads of the program share.
 #[derive(Drop)]
@@ -33,59 +89,6 @@ pub struct Shared {
     pub pool: Pool<TcpStream>,
     /// What is counted.
     pub board: Board,
-}
-
-/// A number that only grows, or the last one of its kind.
-#[derive(Drop)]
-pub struct Count {
-    at: AtomicU64,
-}
-
-impl Count {
-    fn new() -> Count {
-        Count {
-            at: AtomicU64::new(0),
-        }
-    }
-
-    /// One more.
-    pub(crate) fn add(&self) {
-        let _ = self.at.fetch_add(1, Ordering::SeqCst);
-    }
-
-    /// It is this now.
-    pub(crate) fn set(&self, number: u64) {
-        self.at.store(number, Ordering::SeqCst);
-    }
-
-    /// What it is.
-    pub(crate) fn get(&self) -> u64 {
-        self.at.load(Ordering::SeqCst)
-    }
-}
-
-/// The last time of its kind, and the longest since it was asked for, in milliseconds.
-#[derive(Drop)]
-pub struct Span {
-    pub last: Count,
-    pub longest: Count,
-}
-
-impl Span {
-    fn new() -> Span {
-        Span {
-            last: Count::new(),
-            longest: Count::new(),
-        }
-    }
-
-    /// One more. One thread notes them.
-    pub(crate) fn note(&self, milliseconds: u64) {
-        self.last.set(milliseconds);
-        if milliseconds > self.longest.get() {
-            self.longest.set(milliseconds);
-        }
-    }
 }
 
 /// The clients at a glance, and how many messages of each gateway are known.
@@ -104,50 +107,19 @@ pub struct Field {
 pub struct Board {
     /// Whether anybody watches. If nobody does, no more is done than to count.
     pub is_watched: bool,
-    /// 1 once the watcher tells the troubles of links.
-    pub has_watcher: Count,
-    /// Datagrams that came, became no call though they came, and could not be sent.
-    pub received: Count,
-    pub dropped: Count,
-    pub unsent: Count,
-    /// Datagrams that came, and that went out, by the type of their frame.
-    came: Vec<Count>,
-    went: Vec<Count>,
-    /// Calls at `link` that were closed at once.
-    pub turned_away: Count,
-    /// Dials of each peer that made no link.
-    pub dials_failed: Vec<Count>,
-    /// 1 for each gateway that was linked since the program began, at its number.
-    linked: Vec<Count>,
-    /// The shift, and the calls of the last one that was closed.
-    pub shift: Count,
-    pub shift_calls: Count,
-    /// The time between two shifts, and that of a compaction.
-    pub turn: Span,
-    pub compaction: Span,
-    /// Journals that were written anew, and that could not be.
-    pub compacted: Count,
-    pub not_compacted: Count,
-    /// Openings in a shift, and between two.
-    pub reopened: Count,
-    pub reopened_between: Count,
-    /// 1 while the gateway is silent, since its writes fail.
-    pub halted: Count,
-    /// The millisecond after that in which a write failed last; 0 if none did.
-    pub failed: Count,
-    /// The millisecond of the last glance.
-    glanced: Count,
+    /// All numbers, each at its place.
+    counts: Vec<AtomicU64>,
     /// The last glance, until it is taken away.
     field: Mutex<Option<Field>>,
     /// The calls of closed shifts, until they are taken away.
     calls: Mutex<Vec<Sequence<Sample>>>,
 }
 
-/// So many numbers. `None` if memory ran out.
-fn counts(alloc: Global, many: usize) -> Option<Vec<Count>> {
+/// So many numbers, each 0. `None` if memory ran out.
+fn zeros(alloc: Global, many: usize) -> Option<Vec<AtomicU64>> {
     let mut all = Vec::new(alloc);
     for _ in 0..many {
-        all.push(Count::new()).ok()?;
+        all.push(AtomicU64::new(0)).ok()?;
     }
     Some(all)
 }
@@ -155,88 +127,113 @@ fn counts(alloc: Global, many: usize) -> Option<Vec<Count>> {
 impl Board {
     /// Nothing was counted. `None` if memory ran out.
     pub(crate) fn of(alloc: Global, settings: &Settings) -> Option<Board> {
-        let came = counts(alloc, TYPES)?;
-        let went = counts(alloc, TYPES)?;
-        let dials_failed = counts(alloc, settings.peers.len())?;
-        let linked = counts(alloc, NUMBERS)?;
+        let counts = zeros(alloc, DIALS.saturating_add(settings.peers.len()))?;
         Some(Board {
             is_watched: settings.status.is_some() || settings.log > 0,
-            has_watcher: Count::new(),
-            received: Count::new(),
-            dropped: Count::new(),
-            unsent: Count::new(),
-            came,
-            went,
-            turned_away: Count::new(),
-            dials_failed,
-            linked,
-            shift: Count::new(),
-            shift_calls: Count::new(),
-            turn: Span::new(),
-            compaction: Span::new(),
-            compacted: Count::new(),
-            not_compacted: Count::new(),
-            reopened: Count::new(),
-            reopened_between: Count::new(),
-            halted: Count::new(),
-            failed: Count::new(),
-            glanced: Count::new(),
+            counts,
             field: Mutex::new(None),
             calls: Mutex::new(Vec::new(alloc)),
         })
     }
 
+    /// One more.
+    pub(crate) fn add(&self, number: Number) {
+        self.add_at(number as usize);
+    }
+
+    /// It is this now.
+    pub(crate) fn set(&self, number: Number, now: u64) {
+        self.set_at(number as usize, now);
+    }
+
+    /// What it is.
+    pub(crate) fn get(&self, number: Number) -> u64 {
+        self.get_at(number as usize)
+    }
+
+    /// The last time of its kind, and the longest if it is longer. One thread notes them.
+    pub(crate) fn note_time(&self, last: Number, longest: Number, milliseconds: u64) {
+        self.set(last, milliseconds);
+        if milliseconds > self.get(longest) {
+            self.set(longest, milliseconds);
+        }
+    }
+
+    /// One more at a place, if there is one.
+    fn add_at(&self, place: usize) {
+        if let Some(count) = self.counts.get(place) {
+            let _ = count.fetch_add(1, Ordering::SeqCst);
+        }
+    }
+
+    /// This is at a place now, if there is one.
+    fn set_at(&self, place: usize, now: u64) {
+        if let Some(count) = self.counts.get(place) {
+            count.store(now, Ordering::SeqCst);
+        }
+    }
+
+    /// What is at a place; 0 if there is none.
+    fn get_at(&self, place: usize) -> u64 {
+        match self.counts.get(place) {
+            Some(count) => count.load(Ordering::SeqCst),
+            None => 0,
+        }
+    }
+
     /// A datagram came.
     pub(crate) fn note_came(&self, datagram: &[u8]) {
-        self.received.add();
-        add_at(self.came.as_slice(), kind_of(datagram));
+        self.add(Number::Received);
+        self.add_at(CAME.saturating_add(kind_of(datagram)));
     }
 
     /// A datagram went out, or could not be sent.
     pub(crate) fn note_sent(&self, datagram: &[u8], is_sent: bool) {
         if is_sent {
-            add_at(self.went.as_slice(), kind_of(datagram));
+            self.add_at(WENT.saturating_add(kind_of(datagram)));
         } else {
-            self.unsent.add();
+            self.add(Number::Unsent);
         }
     }
 
-    /// How many datagrams of a type came, and how many went out; without a type, of none.
-    pub(crate) fn frames(&self, frame: Option<MsgType>) -> (u64, u64) {
-        let kind = match frame {
-            None => TYPES - 1,
-            Some(frame) => usize::from(frame.octet()),
-        };
-        (
-            count_at(self.came.as_slice(), kind),
-            count_at(self.went.as_slice(), kind),
-        )
+    /// How many datagrams of a type came, or went out; without a type, of none.
+    pub(crate) fn frames(&self, is_coming: bool, frame: Option<MsgType>) -> u64 {
+        let first = if is_coming { CAME } else { WENT };
+        self.get_at(first.saturating_add(place_of(frame)))
     }
 
-    /// A gateway is linked.
-    pub(crate) fn note_linked(&self, number: u8) {
-        if let Some(count) = self.linked.get(usize::from(number)) {
-            count.set(1);
-        }
+    /// A gateway is there.
+    pub(crate) fn note_gateway(&self, number: u8) {
+        self.set_at(FIRST_GATEWAY.saturating_add(usize::from(number)), 1);
     }
 
-    /// Whether a gateway was linked since the program began.
-    pub(crate) fn was_linked(&self, number: u8) -> bool {
-        count_at(self.linked.as_slice(), usize::from(number)) > 0
+    /// Whether a gateway was there since the program began.
+    pub(crate) fn has_gateway(&self, number: u8) -> bool {
+        self.get_at(FIRST_GATEWAY.saturating_add(usize::from(number))) > 0
+    }
+
+    /// A dial of this peer made no link.
+    pub(crate) fn note_no_dial(&self, peer: usize) {
+        self.add_at(DIALS.saturating_add(peer));
+    }
+
+    /// How many dials of this peer made no link.
+    pub(crate) fn dials_failed(&self, peer: usize) -> u64 {
+        self.get_at(DIALS.saturating_add(peer))
     }
 
     /// A write failed, or the gateway was opened again.
     pub(crate) fn note_failed<C: Clock>(&self, clock: &C) {
-        self.failed.set(millisecond(clock).saturating_add(1));
+        self.set(Number::Failed, millisecond(clock).saturating_add(1));
     }
 
     /// Whether it is time for a glance. From now on it was.
     pub(crate) fn may_glance<C: Clock>(&self, clock: &C) -> bool {
         let now = millisecond(clock);
-        if now.saturating_sub(self.glanced.get()) < A_GLANCE {
+        if now.saturating_sub(self.get(Number::Glanced)) < A_GLANCE {
             return false;
         }
-        self.glanced.set(now);
+        self.set(Number::Glanced, now);
         true
     }
 
@@ -264,33 +261,19 @@ impl Board {
     }
 }
 
-/// Of how many shifts the calls wait at most.
-const MOST_SHIFTS: usize = 64;
+/// The place of a type among the types; without one, the last.
+fn place_of(frame: Option<MsgType>) -> usize {
+    match frame {
+        None => TYPES - 1,
+        Some(frame) => usize::from(frame.octet()).min(TYPES - 1),
+    }
+}
 
 /// The place of a datagram's type: its second octet, or its fourth after a length of three (5.2.1).
 fn kind_of(datagram: &[u8]) -> usize {
-    let octet = match datagram {
-        [1, _, _, kind, ..] => *kind,
-        [_, kind, ..] => *kind,
-        _ => return TYPES - 1,
-    };
-    match MsgType::from_octet(octet) {
-        Some(frame) => usize::from(frame.octet()),
-        None => TYPES - 1,
-    }
-}
-
-/// One more at a place.
-fn add_at(counts: &[Count], place: usize) {
-    if let Some(count) = counts.get(place) {
-        count.add();
-    }
-}
-
-/// The number at a place.
-fn count_at(counts: &[Count], place: usize) -> u64 {
-    match counts.get(place) {
-        Some(count) => count.get(),
-        None => 0,
+    match datagram {
+        [1, _, _, kind, ..] => place_of(MsgType::from_octet(*kind)),
+        [_, kind, ..] => place_of(MsgType::from_octet(*kind)),
+        _ => TYPES - 1,
     }
 }

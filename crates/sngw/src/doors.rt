@@ -1,6 +1,6 @@
 //! How links are made: peers are dialled, others are accepted.
 
-use crate::board::Shared;
+use crate::board::{Number, Shared};
 use crate::lines::Said;
 use gw_link::{Link, Origin, Phase, Report, Stage, Trouble};
 use gw_main::options::Settings;
@@ -142,9 +142,7 @@ where
 /// Counts a dial of a peer that did not take the call.
 fn note_no_dial(shared: &Shared, origin: Origin) {
     if let Origin::Dialled(peer) = origin {
-        if let Some(count) = shared.board.dials_failed.get(peer) {
-            count.add();
-        }
+        shared.board.note_no_dial(peer);
     }
 }
 
@@ -162,7 +160,7 @@ fn accept_all<T: Wait + Clock + Print + Eprint>(
         if over.phase(rt) != Phase::Serving {
             return;
         }
-        if shared.board.has_watcher.get() == 0 {
+        if shared.board.get(Number::Watcher) == 0 {
             tell_all(rt, alloc, pool, said);
         }
         match listener.accept() {
@@ -170,7 +168,7 @@ fn accept_all<T: Wait + Clock + Print + Eprint>(
                 if pool.may_open(rt, Origin::Accepted) {
                     open(rt, alloc, stream, Origin::Accepted, pool);
                 } else {
-                    shared.board.turned_away.add();
+                    shared.board.add(Number::TurnedAway);
                     pool.relay.note_trouble(rt, Trouble::TurnedAway, 0);
                 }
             }

@@ -47,7 +47,7 @@ where
             return;
         }
         if shared.board.may_glance(rt) {
-            if let Ok(field) = look(rt, alloc, settings, shift, shared) {
+            if let Some(field) = look(rt, alloc, settings, shift, shared) {
                 shared.board.put_field(rt, field);
             }
         }
@@ -56,52 +56,91 @@ where
     unreachable!()
 }
 
-/// All clients at a glance, some at a time.
+/// All clients at a glance. `None` if memory runs out.
 fn look<T, R, D>(
     rt: &T,
     alloc: Global,
     settings: &Settings,
     shift: &Shift<R, D>,
     shared: &Shared,
-) -> Result<Field, NoMemory>
+) -> Option<Field>
 where
     T: Wait,
     R: Replica,
     D: Disk + Drop,
 {
+    note_gateways(rt, alloc, settings, shared);
     let mut field = Field {
         clients: Vec::new(alloc),
-        known: origins(rt, alloc, settings, shared)?,
+        known: Vec::new(alloc),
         second: shared.pool.clock.second(),
     };
-    let mut last = Vec::new(alloc);
-    for _ in 0..MOST_LOOKS {
-        let found = shift.glance(rt, alloc, last.as_slice(), AT_ONCE)?;
-        if found.is_empty() {
-            return Ok(field);
-        }
-        count_known(
-            rt,
-            alloc,
-            shift,
-            found.as_slice(),
-            field.known.as_mut_slice(),
-        )?;
-        take_last(&mut last, found.as_slice())?;
-        for glimpse in found {
-            field.clients.push(glimpse)?;
-        }
+    let is_whole = find_gateways(shared, &mut field) && look_at_all(rt, alloc, shift, &mut field);
+    if !is_whole {
+        drop(field);
+        return None;
     }
-    Ok(field)
+    Some(field)
 }
 
-/// The id of the last of these clients.
-fn take_last(last: &mut Vec<u8>, found: &[Glimpse]) -> Result<(), NoMemory> {
-    if let Some(glimpse) = found.last() {
-        last.clear();
-        last.extend_from_slice(glimpse.client.bytes())?;
+/// Looks at the clients, some at a time. Whether there was memory for all.
+fn look_at_all<T, R, D>(rt: &T, alloc: Global, shift: &Shift<R, D>, field: &mut Field) -> bool
+where
+    T: Wait,
+    R: Replica,
+    D: Disk + Drop,
+{
+    for _ in 0..MOST_LOOKS {
+        match look_on(rt, alloc, shift, field) {
+            Ok(true) => {}
+            Ok(false) => return true,
+            Err(NoMemory) => return false,
+        }
     }
-    Ok(())
+    true
+}
+
+/// Looks at some clients more. Whether there were any.
+fn look_on<T, R, D>(
+    rt: &T,
+    alloc: Global,
+    shift: &Shift<R, D>,
+    field: &mut Field,
+) -> Result<bool, NoMemory>
+where
+    T: Wait,
+    R: Replica,
+    D: Disk + Drop,
+{
+    let found = shift.glance(rt, alloc, last_of(field.clients.as_slice()), AT_ONCE)?;
+    let is_any = !found.is_empty();
+    let known = field.known.as_mut_slice();
+    let is_counted = count_known(rt, alloc, shift, found.as_slice(), known).is_ok();
+    let is_kept = keep_all(&mut field.clients, found);
+    if is_counted && is_kept {
+        Ok(is_any)
+    } else {
+        Err(NoMemory)
+    }
+}
+
+/// The id of the last of these clients; none is above nothing.
+fn last_of(clients: &[Glimpse]) -> &[u8] {
+    match clients.last() {
+        Some(glimpse) => glimpse.client.bytes(),
+        None => &[],
+    }
+}
+
+/// Puts clients after those that are there. Whether there was memory for them.
+fn keep_all(clients: &mut Vec<Glimpse>, found: Vec<Glimpse>) -> bool {
+    let mut is_kept = true;
+    for glimpse in found {
+        if clients.push(glimpse).is_err() {
+            is_kept = false;
+        }
+    }
+    is_kept
 }
 
 /// Adds how many messages of each gateway are known for these clients.
@@ -134,36 +173,29 @@ fn sum_after(before: u64, counts: &[u64]) -> u64 {
     sum
 }
 
-/// The gateways that this one has heard of: itself, those of the settings, and those that were
-/// linked since the program began.
-fn origins<T: Wait>(
-    rt: &T,
-    alloc: Global,
-    settings: &Settings,
-    shared: &Shared,
-) -> Result<Vec<(u8, u64)>, NoMemory> {
-    let mut all = Vec::new(alloc);
-    add_origin(&mut all, settings.gateway)?;
+/// Notes the gateways that this one has heard of: itself, those of the settings, and those that are
+/// linked. If memory runs out, the last are noted at the next glance.
+fn note_gateways<T: Wait>(rt: &T, alloc: Global, settings: &Settings, shared: &Shared) {
+    let board = &shared.board;
+    board.note_gateway(settings.gateway);
     for number in settings.numbers.as_slice() {
-        add_origin(&mut all, *number)?;
+        board.note_gateway(*number);
     }
-    for link in shared.pool.relay.links(rt, alloc, MOST_LINKS)? {
-        shared.board.note_linked(link.other);
-    }
-    for number in 1..=u8::MAX {
-        if shared.board.was_linked(number) {
-            add_origin(&mut all, number)?;
+    if let Ok(links) = shared.pool.relay.links(rt, alloc, MOST_LINKS) {
+        for link in links.as_slice() {
+            board.note_gateway(link.other);
         }
     }
-    Ok(all)
 }
 
-/// Adds a gateway, unless it is there.
-fn add_origin(all: &mut Vec<(u8, u64)>, number: u8) -> Result<(), NoMemory> {
-    for entry in all.as_slice() {
-        if entry.0 == number {
-            return Ok(());
+/// The gateways that were noted since the program began, without a message. Whether there was
+/// memory for them.
+fn find_gateways(shared: &Shared, field: &mut Field) -> bool {
+    let mut is_whole = true;
+    for number in 1..=u8::MAX {
+        if shared.board.has_gateway(number) && field.known.push((number, 0)).is_err() {
+            is_whole = false;
         }
     }
-    Ok(all.push((number, 0))?)
+    is_whole
 }

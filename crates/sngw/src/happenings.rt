@@ -4,16 +4,17 @@
 //! Links, the clock and the threads that serve only count. What happened is seen here by comparing
 //! two gatherings, so an event is late by a second, or by a glance.
 
-use crate::board::Shared;
+use crate::board::{Number, Shared};
 use crate::doors::{outage_line, trouble_line};
-use crate::gathering::{Gathered, MANY_TOPICS, is_owned, seen_in};
+use crate::counting::{MANY_TOPICS, is_owned, presence_of};
+use crate::gathering::{Gathered, KnownLink, seen_in};
 use crate::lines::Said;
 use gw_link::Trouble;
 use gw_main::options::Settings;
 use gw_page::entry;
 use gw_report::{Alarm, Detail, Event, Note, Report, Seen, Warning, What};
 use gw_wire::{millisecond, moment};
-use octets::{NoMemory, Sequence};
+use octets::Sequence;
 use rep_ops::ClientId;
 use sn_flow::MAX_CLIENTS;
 use sn_plan::MAX_PENDING;
@@ -146,7 +147,7 @@ fn add<T: Wait + Print + Eprint>(
 
 /// Says a line on standard error. One that is left out counts as lost.
 fn say<T: Wait + Print + Eprint>(rt: &T, log: &mut Log<'_>, line: Option<String>) {
-    if !log.said.err.say_entry(rt, line) {
+    if !log.said.err.try_say(rt, line) {
         log.lost = log.lost.saturating_add(1);
     }
 }
@@ -174,32 +175,36 @@ fn tell_links<T: Wait + Print + Eprint>(
     report: &mut Report,
 ) {
     for known in gathered.links.as_slice() {
-        let place = known.numbers.place;
-        let number = known.numbers.other;
-        if known.is_up {
-            if is_later(happened.made, place) {
-                happened.made = Some(place);
-                add(
-                    rt,
-                    alloc,
-                    log,
-                    report,
-                    What::Note(Note::LinkMade { number }),
-                );
-            }
-        } else if !happened.gone.as_slice().contains(&place) && happened.gone.push(place).is_ok() {
-            add(
-                rt,
-                alloc,
-                log,
-                report,
-                What::Warning(Warning::LinkLost { number }),
-            );
+        if let Some(what) = change_of(happened, known) {
+            add(rt, alloc, log, report, what);
         }
     }
     if happened.gone.len() > MOST_EVENTS {
         let _ = happened.gone.remove(0);
     }
+}
+
+/// What is to be told of a link, if anything is.
+fn change_of(happened: &mut Happened, known: &KnownLink) -> Option<What> {
+    let place = known.numbers.place;
+    let number = known.numbers.other;
+    if known.is_up {
+        if is_later(happened.made, place) {
+            happened.made = Some(place);
+            return Some(What::Note(Note::LinkMade { number }));
+        }
+        return None;
+    }
+    if is_gone(happened, place) {
+        return None;
+    }
+    Some(What::Warning(Warning::LinkLost { number }))
+}
+
+/// Whether it was told that the link of this place is gone. From now on it was; if memory runs out
+/// it is not told.
+fn is_gone(happened: &mut Happened, place: u64) -> bool {
+    happened.gone.as_slice().contains(&place) || happened.gone.push(place).is_err()
 }
 
 /// Whether a place was given after the last one.
@@ -231,13 +236,8 @@ fn tell_troubles<T: Wait + Clock + Print + Eprint>(
         if log.level == 0 {
             log.said.err.say(rt, trouble_line(alloc, told));
         }
-        add(
-            rt,
-            alloc,
-            log,
-            report,
-            event_of(told.trouble, told.number, told.count),
-        );
+        let what = event_of(told.trouble, told.number, told.count);
+        add(rt, alloc, log, report, what);
     }
 }
 
@@ -263,37 +263,46 @@ fn tell_gateway<T: Wait + Print + Eprint>(
     log: &mut Log<'_>,
     report: &mut Report,
 ) {
-    let board = &shared.board;
-    let is_halted = board.halted.get() > 0;
+    let is_halted = shared.board.get(Number::Halted) > 0;
     if is_halted && !happened.is_halted {
         add(rt, alloc, log, report, What::Alarm(Alarm::Halted));
     }
     happened.is_halted = is_halted;
-    let reopened = board
-        .reopened
-        .get()
-        .saturating_add(board.reopened_between.get());
+    let reopened = reopenings(shared);
     if reopened > happened.reopened {
-        happened.reopened = reopened;
         add(rt, alloc, log, report, What::Warning(Warning::Reopened));
     }
-    let not_compacted = board.not_compacted.get();
+    happened.reopened = reopened;
+    let not_compacted = shared.board.get(Number::NotCompacted);
     if not_compacted > happened.not_compacted {
-        happened.not_compacted = not_compacted;
         add(rt, alloc, log, report, What::Warning(Warning::NotCompacted));
     }
-    if gathered.stood > happened.stood {
-        let seconds = gathered.stood.saturating_sub(happened.stood);
-        happened.stood = gathered.stood;
-        add(
-            rt,
-            alloc,
-            log,
-            report,
-            What::Warning(Warning::StoodStill { seconds }),
-        );
-    }
+    happened.not_compacted = not_compacted;
+    tell_stood(rt, alloc, gathered.stood, happened, log, report);
     tell_shift(rt, alloc, shared, happened, log, report);
+}
+
+/// How often the gateway was opened again.
+fn reopenings(shared: &Shared) -> u64 {
+    let between = shared.board.get(Number::ReopenedBetween);
+    shared.board.get(Number::Reopened).saturating_add(between)
+}
+
+/// Tells that the clock stood still for so many seconds in all.
+fn tell_stood<T: Wait + Print + Eprint>(
+    rt: &T,
+    alloc: Global,
+    stood: u64,
+    happened: &mut Happened,
+    log: &mut Log<'_>,
+    report: &mut Report,
+) {
+    if stood > happened.stood {
+        let seconds = stood.saturating_sub(happened.stood);
+        let still = Warning::StoodStill { seconds };
+        happened.stood = stood;
+        add(rt, alloc, log, report, What::Warning(still));
+    }
 }
 
 /// Tells of a shift that took long to turn.
@@ -305,21 +314,15 @@ fn tell_shift<T: Wait + Print + Eprint>(
     log: &mut Log<'_>,
     report: &mut Report,
 ) {
-    let shift = shared.board.shift.get();
-    let thousandths = shared.board.turn.last.get();
+    let shift = shared.board.get(Number::Shift);
+    let thousandths = shared.board.get(Number::Turn);
     if shift > happened.shift && thousandths > LONG_TURN {
-        let calls = shared.board.shift_calls.get();
-        add(
-            rt,
-            alloc,
-            log,
-            report,
-            What::Note(Note::ShiftClosed {
-                shift,
-                calls,
-                thousandths,
-            }),
-        );
+        let closed = Note::ShiftClosed {
+            shift,
+            calls: shared.board.get(Number::ShiftCalls),
+            thousandths,
+        };
+        add(rt, alloc, log, report, What::Note(closed));
     }
     happened.shift = shift;
 }
@@ -334,18 +337,12 @@ fn tell_dropped<T: Wait + Clock + Print + Eprint>(
     report: &mut Report,
 ) {
     let now = millisecond(rt);
-    let dropped = shared.board.dropped.get();
+    let dropped = shared.board.get(Number::Dropped);
     if dropped > happened.dropped && now.saturating_sub(happened.told) > A_MINUTE {
         let times = dropped.saturating_sub(happened.dropped);
         happened.dropped = dropped;
         happened.told = now;
-        add(
-            rt,
-            alloc,
-            log,
-            report,
-            What::Warning(Warning::Dropped { times }),
-        );
+        add(rt, alloc, log, report, What::Warning(Warning::Dropped { times }));
     }
 }
 
@@ -359,59 +356,99 @@ fn tell_clients<T: Wait + Clock + Print + Eprint>(
     log: &mut Log<'_>,
     report: &mut Report,
 ) {
-    let now = millisecond(rt);
-    let is_again = now.saturating_sub(happened.again) > AN_HOUR;
-    if is_again {
-        happened.again = now;
-    }
+    let is_again = has_passed(millisecond(rt), happened);
     let count = report.clients.len();
     if count >= NEAR_FULL && (is_again || happened.clients < NEAR_FULL) {
-        let clients = count as u64;
-        add(
-            rt,
-            alloc,
-            log,
-            report,
-            What::Warning(Warning::ClientsNearFull { clients }),
-        );
+        let near = Warning::ClientsNearFull {
+            clients: count as u64,
+        };
+        add(rt, alloc, log, report, What::Warning(near));
     }
     happened.clients = count;
-    let news = news_of(
+    let mut news = News {
         alloc,
-        settings,
-        gathered,
-        report.clients.as_slice(),
-        is_again,
-    );
-    match news {
-        Ok(told) => {
-            for what in told {
-                add(rt, alloc, log, report, what);
-            }
-        }
-        Err(_) => log.lost = log.lost.saturating_add(1),
+        told: Vec::new(alloc),
+        lost: 0,
+    };
+    find_news(&mut news, settings, gathered, report.clients.as_slice(), is_again);
+    let News { told, lost, .. } = news;
+    log.lost = log.lost.saturating_add(lost);
+    for what in told {
+        add(rt, alloc, log, report, what);
     }
     drop(mem::replace(&mut gathered.before, Vec::new(alloc)));
 }
 
+/// Whether it is to be told again who is at a limit. From now on it was.
+fn has_passed(now: u64, happened: &mut Happened) -> bool {
+    let has_passed = now.saturating_sub(happened.again) > AN_HOUR;
+    if has_passed {
+        happened.again = now;
+    }
+    has_passed
+}
+
 /// What is to be told of single clients.
-fn news_of(
+#[derive(Drop)]
+struct News {
     alloc: Global,
+    told: Vec<What>,
+    /// For how much of it there was no memory.
+    lost: u64,
+}
+
+/// What happened to a client.
+#[derive(Clone, Copy)]
+enum Fate {
+    Full,
+    Topics(u64),
+    Connected,
+    Lost,
+    Taken(u8),
+}
+
+/// Finds what is to be told of single clients.
+fn find_news(
+    news: &mut News,
     settings: &Settings,
     gathered: &Gathered,
     clients: &[Seen],
     is_again: bool,
-) -> Result<Vec<What>, NoMemory> {
-    let mut told = Vec::new(alloc);
+) {
     for seen in clients {
         let before = seen_in(gathered.before.as_slice(), &seen.glimpse.client);
         let known = if is_again { (0, 0) } else { limits_of(before) };
-        tell_limits(alloc, &mut told, seen, known)?;
+        find_limits(news, seen, known);
         if settings.log >= DEBUG && gathered.has_before {
-            tell_presence(alloc, settings.gateway, &mut told, seen, before)?;
+            find_presence(news, settings.gateway, seen, before);
         }
     }
-    Ok(told)
+}
+
+/// Something is to be told of a client.
+fn tell(news: &mut News, client: &ClientId, fate: Fate) {
+    match client.copied(news.alloc) {
+        Ok(client) => keep_news(news, what_of(client, fate)),
+        Err(_) => news.lost = news.lost.saturating_add(1),
+    }
+}
+
+/// This is to be told.
+fn keep_news(news: &mut News, what: What) {
+    if news.told.push(what).is_err() {
+        news.lost = news.lost.saturating_add(1);
+    }
+}
+
+/// What happened to a client, as an event.
+fn what_of(client: ClientId, fate: Fate) -> What {
+    match fate {
+        Fate::Full => What::Warning(Warning::ClientFull { client }),
+        Fate::Topics(topics) => What::Warning(Warning::TopicsNearFull { client, topics }),
+        Fate::Connected => What::Detail(Detail::Connected { client }),
+        Fate::Lost => What::Detail(Detail::Lost { client }),
+        Fate::Taken(number) => What::Detail(Detail::TakenOver { client, number }),
+    }
 }
 
 /// How many messages waited for a client, and how many topic ids it had.
@@ -423,25 +460,15 @@ fn limits_of(before: Option<&Seen>) -> (usize, usize) {
 }
 
 /// A client at a limit at which it was not before.
-fn tell_limits(
-    alloc: Global,
-    told: &mut Vec<What>,
-    seen: &Seen,
-    before: (usize, usize),
-) -> Result<(), NoMemory> {
-    let waiting = seen.glimpse.waiting;
-    let topics = topics_of(seen);
+fn find_limits(news: &mut News, seen: &Seen, before: (usize, usize)) {
     let (had, knew) = before;
-    if waiting >= MAX_PENDING && had < MAX_PENDING {
-        let client = copied(alloc, &seen.glimpse.client)?;
-        told.push(What::Warning(Warning::ClientFull { client }))?;
+    let topics = topics_of(seen);
+    if seen.glimpse.waiting >= MAX_PENDING && had < MAX_PENDING {
+        tell(news, &seen.glimpse.client, Fate::Full);
     }
     if topics >= MANY_TOPICS && knew < MANY_TOPICS {
-        let client = copied(alloc, &seen.glimpse.client)?;
-        let topics = topics as u64;
-        told.push(What::Warning(Warning::TopicsNearFull { client, topics }))?;
+        tell(news, &seen.glimpse.client, Fate::Topics(topics as u64));
     }
-    Ok(())
 }
 
 /// How many topic ids a client has.
@@ -452,44 +479,31 @@ fn topics_of(seen: &Seen) -> usize {
     }
 }
 
-/// Where a client is.
-fn presence_of(seen: Option<&Seen>) -> Option<Presence> {
-    match seen?.glimpse.session {
-        None => None,
-        Some(session) => Some(session.presence),
+/// A client that came, was lost, or went to another gateway.
+fn find_presence(news: &mut News, gateway: u8, seen: &Seen, before: Option<&Seen>) {
+    let (was, was_owned) = match before {
+        None => (None, false),
+        Some(before) => (presence_of(before), is_owned(gateway, &before.glimpse)),
+    };
+    let is_now = presence_of(seen);
+    if is_now == Some(Presence::Active) && !is_here(was) {
+        tell(news, &seen.glimpse.client, Fate::Connected);
+    }
+    if is_now == Some(Presence::Lost) && was != Some(Presence::Lost) {
+        tell(news, &seen.glimpse.client, Fate::Lost);
+    }
+    if was_owned {
+        find_taken(news, gateway, seen);
     }
 }
 
-/// A client that came, was lost, or went to another gateway.
-fn tell_presence(
-    alloc: Global,
-    gateway: u8,
-    told: &mut Vec<What>,
-    seen: &Seen,
-    before: Option<&Seen>,
-) -> Result<(), NoMemory> {
-    let was = presence_of(before);
-    let is_now = presence_of(Some(seen));
-    if is_now == Some(Presence::Active) && !is_here(was) {
-        let client = copied(alloc, &seen.glimpse.client)?;
-        told.push(What::Detail(Detail::Connected { client }))?;
-    }
-    if is_now == Some(Presence::Lost) && was != Some(Presence::Lost) {
-        let client = copied(alloc, &seen.glimpse.client)?;
-        told.push(What::Detail(Detail::Lost { client }))?;
-    }
-    let was_owned = match before {
-        None => false,
-        Some(before) => is_owned(gateway, &before.glimpse),
-    };
-    if was_owned && !is_owned(gateway, &seen.glimpse) {
-        if let Some(stamp) = seen.glimpse.stamp {
-            let client = copied(alloc, &seen.glimpse.client)?;
-            let number = stamp.gateway;
-            told.push(What::Detail(Detail::TakenOver { client, number }))?;
+/// A client that was owned, and may belong to another gateway now.
+fn find_taken(news: &mut News, gateway: u8, seen: &Seen) {
+    if let Some(stamp) = seen.glimpse.stamp {
+        if stamp.gateway != gateway {
+            tell(news, &seen.glimpse.client, Fate::Taken(stamp.gateway));
         }
     }
-    Ok(())
 }
 
 /// Whether a client is connected, or asleep.
@@ -498,9 +512,4 @@ fn is_here(presence: Option<Presence>) -> bool {
         Some(Presence::Active | Presence::Asleep | Presence::Awake) => true,
         Some(Presence::Disconnected | Presence::Lost) | None => false,
     }
-}
-
-/// The same id.
-fn copied(alloc: Global, client: &ClientId) -> Result<ClientId, NoMemory> {
-    client.copied(alloc)
 }

@@ -28,8 +28,6 @@ pub(crate) enum Output {
 enum Line {
     /// A line, without its end.
     Text(String),
-    /// A line with its end.
-    Entry(String),
     /// Why the program ends.
     End(Stop),
     /// That so many lines were left out.
@@ -96,9 +94,9 @@ impl Lines {
         let _ = self.put(rt, text.map(Line::Text), MOST_WAITING);
     }
 
-    /// A line that has its end is to be printed. Whether it was not left out.
-    pub(crate) fn say_entry<T: Wait + Print + Eprint>(&self, rt: &T, text: Option<String>) -> bool {
-        self.put(rt, text.map(Line::Entry), MOST_WAITING)
+    /// The same. Whether the line was not left out.
+    pub(crate) fn try_say<T: Wait + Print + Eprint>(&self, rt: &T, text: Option<String>) -> bool {
+        self.put(rt, text.map(Line::Text), MOST_WAITING)
     }
 
     /// Why the program ends is to be printed.
@@ -138,11 +136,9 @@ impl Lines {
     fn print<T: Print + Eprint>(&self, rt: &T, line: Line) {
         let _ = match (self.output, line) {
             (Output::Standard, Line::Text(text)) => println!(rt; "{text}"),
-            (Output::Standard, Line::Entry(text)) => print!(rt; "{text}"),
             (Output::Standard, Line::End(stop)) => println!(rt; "sngw: {stop}"),
             (Output::Standard, Line::LeftOut(count)) => println!(rt; "lines left out {count}"),
             (Output::Errors, Line::Text(text)) => eprintln!(rt; "{text}"),
-            (Output::Errors, Line::Entry(text)) => eprint!(rt; "{text}"),
             (Output::Errors, Line::End(stop)) => eprintln!(rt; "sngw: {stop}"),
             (Output::Errors, Line::LeftOut(count)) => eprintln!(rt; "lines left out {count}"),
         };

@@ -25,13 +25,14 @@
 //! - `admission`: which datagrams become calls, and which clients are let in.
 //! - `board`: what is counted for whoever watches the gateway.
 //! - `glancing`: the clients at a glance, once in some seconds.
-//! - `watcher`: the thread that shows the gateway: `gathering` is what is reported, `happenings` are
-//!   the events, and `callers` ask the page.
+//! - `watcher`: the thread that shows the gateway: `gathering` and `counting` are what is reported,
+//!   `happenings` are the events, and `callers` ask the page.
 #![tactic(auto)]
 
 mod admission;
 mod board;
 mod callers;
+mod counting;
 mod doors;
 mod gathering;
 mod glancing;

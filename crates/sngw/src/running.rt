@@ -1,7 +1,7 @@
 //! Shifts one after the other.
 
 use crate::admission::Admission;
-use crate::board::{Board, Shared};
+use crate::board::{Board, Number, Shared};
 use crate::doors::{Door, doors_of, keep_all};
 use crate::keeping::{Keeper, is_written};
 use crate::late::{Inlet, Late};
@@ -336,7 +336,7 @@ where
     }
     let steps = worked.steps;
     if worked.tended == Tended::Reopened {
-        shared.board.reopened.add();
+        shared.board.add(Number::Reopened);
     }
     begin_anew(rt, alloc, &worked.node, &shared.pool, worked.tended, said);
     let line = format!(in alloc; "shift {number} steps {steps}");
@@ -349,9 +349,13 @@ where
 /// Counts a shift that is over, and how long it took since it had begun to close.
 fn note_turn<T: Clock>(rt: &T, shared: &Shared, closing: u64, number: u64, steps: usize) {
     let board = &shared.board;
-    board.shift_calls.set(steps as u64);
-    board.turn.note(millisecond(rt).saturating_sub(closing));
-    board.shift.set(number);
+    board.set(Number::ShiftCalls, steps as u64);
+    board.note_time(
+        Number::Turn,
+        Number::LongestTurn,
+        millisecond(rt).saturating_sub(closing),
+    );
+    board.set(Number::Shift, number);
 }
 
 /// Puts a gateway into its place.
@@ -388,9 +392,9 @@ where
     }
     let silence = keeper.silence_after(worked.has_recorded, has_failed);
     if silence > 0 {
-        shared.board.halted.set(1);
+        shared.board.set(Number::Halted, 1);
         be_silent(rt, inlet, &shared.pool.clock, silence);
-        shared.board.halted.set(0);
+        shared.board.set(Number::Halted, 0);
         shared.board.note_failed(rt);
     }
     Ok(())
@@ -480,14 +484,14 @@ where
         let tended = tend_behind(rt, alloc, node, shared, keeper, said)?;
         if is_written(tended) {
             keeper.note_written();
-            shared.board.halted.set(0);
+            shared.board.set(Number::Halted, 0);
             return Ok(());
         }
         if tended == Tended::Starved {
             tell(rt, alloc, node, said);
         }
         let silence = keeper.wait_longer();
-        shared.board.halted.set(1);
+        shared.board.set(Number::Halted, 1);
         shared.board.note_failed(rt);
         be_silent(rt, inlet, &shared.pool.clock, silence);
     }
@@ -532,17 +536,21 @@ where
 /// Counts what became of a gateway that was tended in so many milliseconds.
 fn note_tended(shared: &Shared, tended: Tended, milliseconds: u64) {
     let board = &shared.board;
-    board.compaction.note(milliseconds);
+    board.note_time(
+        Number::Compaction,
+        Number::LongestCompaction,
+        milliseconds,
+    );
     match tended {
-        Tended::Kept => board.compacted.add(),
-        Tended::Starved => board.not_compacted.add(),
+        Tended::Kept => board.add(Number::Compacted),
+        Tended::Starved => board.add(Number::NotCompacted),
         Tended::Reopened => {
-            board.compacted.add();
-            board.reopened_between.add();
+            board.add(Number::Compacted);
+            board.add(Number::ReopenedBetween);
         }
         Tended::Unwritten => {
-            board.not_compacted.add();
-            board.reopened_between.add();
+            board.add(Number::NotCompacted);
+            board.add(Number::ReopenedBetween);
         }
     }
 }

@@ -3,7 +3,7 @@
 ghost use Rattle.std.specs.Prelude.{◌≡◌, ◌+◌};
 
 use crate::admission::{Admission, CONGESTION, Verdict};
-use crate::board::Shared;
+use crate::board::{Number, Shared};
 use crate::late::Late;
 use gw_link::{Phase, Stage};
 use gw_wire::{Arrival, Post, Tally, Wire, WireFault};
@@ -115,18 +115,25 @@ impl<'a, T: Wait + Clock, W: Wire, P: Post> Watched<'a, T, W, P> {
         match verdict {
             Verdict::Comes => false,
             Verdict::Dropped => {
-                self.shared.board.dropped.add();
+                self.shared.board.note_came(datagram);
+                self.shared.board.add(Number::Dropped);
                 true
             }
             Verdict::TurnedAway(code) => {
-                let answer = [3, 5, code];
-                let sent = self.mouth.send(arrival.from, &answer);
-                self.shared.board.note_sent(&answer, sent.is_ok());
-                if code == CONGESTION && self.admission.is_old(second) {
-                    self.stage.close(self.rt);
-                }
+                self.shared.board.note_came(datagram);
+                self.turn_away(arrival, code);
                 true
             }
+        }
+    }
+
+    /// Answers the CONNECT of a client that is not let in.
+    fn turn_away(&self, arrival: &Arrival, code: u8) {
+        let answer = [3, 5, code];
+        let is_sent = self.mouth.send(arrival.from, &answer).is_ok();
+        self.shared.board.note_sent(&answer, is_sent);
+        if code == CONGESTION && self.admission.is_old(arrival.moment) {
+            self.stage.close(self.rt);
         }
     }
 
@@ -166,11 +173,11 @@ impl<'a, T: Wait + Clock, W: Wire, P: Post> Wire for Watched<'a, T, W, P> {
             let Some(arrival) = self.late.give(buffer) else {
                 return Ok(None);
             };
-            self.shared.board.note_came(&buffer[..arrival.size]);
             if self.holds_back(&arrival, &buffer[..arrival.size]) {
                 self.stage.give_back();
                 return Ok(None);
             }
+            self.shared.board.note_came(&buffer[..arrival.size]);
             self.arrivals = Tally::next(&self.arrivals);
             return Ok(Some(arrival));
         }
@@ -189,7 +196,6 @@ impl<'a, T: Wait + Clock, W: Wire, P: Post> Wire for Watched<'a, T, W, P> {
             }
             Ok(Some(arrival)) => {
                 if self.holds_back(&arrival, &buffer[..arrival.size]) {
-                    self.shared.board.note_came(&buffer[..arrival.size]);
                     return Ok(None);
                 }
                 if self.stage.claim() {
@@ -212,7 +218,7 @@ impl<'a, T: Wait + Clock, W: Wire, P: Post> Wire for Watched<'a, T, W, P> {
 
     fn unheard(&mut self) {
         self.drops = Tally::next(&self.drops);
-        self.shared.board.dropped.add();
+        self.shared.board.add(Number::Dropped);
         self.stage.give_back();
     }
 

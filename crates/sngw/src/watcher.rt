@@ -4,9 +4,9 @@
 //! It asks for memory and for sockets as it goes. If it gets none, what it shows is late, and the
 //! gateway goes on.
 
-use crate::board::Shared;
+use crate::board::{Number, Shared};
 use crate::callers::{Caller, room_for_piece, serve_calls, take_calls};
-use crate::gathering::{Gathered, gather, look_at_rounds, none_gathered};
+use crate::gathering::{Gathered, gather, look_at_rounds, no_report, none_gathered};
 use crate::happenings::{Happened, nothing_happened, tell_all};
 use crate::lines::Said;
 use gw_link::{Phase, Stage};
@@ -60,7 +60,7 @@ where
             return;
         }
         if let Some(mut watcher) = watcher_of(rt, alloc) {
-            shared.board.has_watcher.set(1);
+            shared.board.set(Number::Watcher, 1);
             watch(
                 rt,
                 alloc,
@@ -82,10 +82,9 @@ where
 /// What the thread holds before it has gathered anything. `None` if memory ran out.
 fn watcher_of<T: Clock>(rt: &T, alloc: Global) -> Option<Watcher> {
     let piece = room_for_piece(alloc)?;
-    let (report, gathered) = none_gathered(rt, alloc);
     Some(Watcher {
-        report,
-        gathered,
+        report: no_report(alloc),
+        gathered: none_gathered(rt, alloc),
         happened: nothing_happened(alloc),
         callers: Vec::new(alloc),
         piece,

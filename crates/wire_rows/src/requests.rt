@@ -81,6 +81,7 @@ fn print_entry(page: &mut Page, event: &Event) {
         Ok(line) => page.text(line.as_str()),
         Err(_) => page.stop(Stop::Memory),
     }
+    page.end();
 }
 
 /// The line of an event for the journal of the system.
