@@ -54,9 +54,3 @@ passed_over g seen local above c rest all room is =
     let later = glimpses g seen local above rest in
     let one = glimpse_of g local c (seen.of c) in
     ap (λ (xs : List Glimpse). all ++ take room xs) (sym (else_is (is_above above c) (one ∷ later) later is))
-
--- at most so many
-pub taken_few : (most : ℕ) (all : List Glimpse) → length (take most all) ≤ most
-taken_few zero all = omega arith
-taken_few (suc most) [] = omega arith
-taken_few (suc most) (one ∷ all) = omega (arith, taken_few most all)

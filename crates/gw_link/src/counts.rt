@@ -91,7 +91,11 @@ pub(crate) fn is_delta(step: &Step) -> bool {
 }
 
 /// The gateway answered what came, a delta or a digest, if it was asked.
-pub(crate) fn count_answer(counts: &mut LinkCounts, is_taken: bool, answered: &Result<Answer, End>) {
+pub(crate) fn count_answer(
+    counts: &mut LinkCounts,
+    is_taken: bool,
+    answered: &Result<Answer, End>,
+) {
     match answered {
         Ok(answer) if is_taken => count_taken(counts, answer),
         Ok(answer) => count_answered(counts, answer),

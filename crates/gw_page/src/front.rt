@@ -1,7 +1,7 @@
 //! The page at `/`.
 
-/// A page for people: plain HTML with a script that reads the four other pages once in five seconds.
-/// It takes nothing from elsewhere, and shows what it reads as text alone.
+/// A page for people: plain HTML with a script that reads the four other pages once in five
+/// seconds. It takes nothing from elsewhere, and shows what it reads as text alone.
 pub const FRONT: &str = "<!doctype html>
 <html lang='en'>
 <meta charset='utf-8'>

@@ -65,8 +65,8 @@
 //! - `client OCTETS`, `stranger OCTETS`: it has a client of this id, of which all is known, or
 //!   nothing.
 //! - `ill`: its clock is late, it is halted, and a write failed.
-//! - `page METHOD PATH`: what is answered to `METHOD PATH HTTP/1.0` and an empty line, with `\r` for
-//!   a carriage return; before it `may grow`, if further octets may change the answer.
+//! - `page METHOD PATH`: what is answered to `METHOD PATH HTTP/1.0` and an empty line, with `\r`
+//!   for a carriage return; before it `may grow`, if further octets may change the answer.
 //! - `request OCTETS`: the same to these octets.
 //! - `entries`: each event, for the journal of the system.
 //!
