@@ -380,8 +380,14 @@ impl<R: Replica, D: Disk + Drop> Node<R, D> {
         ensures { IfOk result (λ all. all.items
             ≡ take most (glimpses_of (state_of R.kept self.now) above.now)) }
     {
-        let gateway = self.gateway();
-        glance(alloc, gateway, &self.replica, &self.dialogs, above, most)
+        glance(
+            alloc,
+            self.config.gateway,
+            &self.replica,
+            &self.dialogs,
+            above,
+            most,
+        )
     }
 
     /// How many messages a gateway has put for a client, as far as this one knows: those that are
