@@ -380,9 +380,10 @@ impl<R: Replica, D: Disk + Drop> Node<R, D> {
         ensures { IfOk result (λ all. all.items
             ≡ take most (glimpses_of (state_of R.kept self.now) above.now)) }
     {
+        let config = &self.config;
         glance(
             alloc,
-            self.config.gateway,
+            config.gateway,
             &self.replica,
             &self.dialogs,
             above,
