@@ -189,13 +189,7 @@ impl Relay {
     }
 
     /// So much was counted of the link of this place, over which octets last came in this second.
-    pub(crate) fn note_counts<T: Wait>(
-        &self,
-        rt: &T,
-        id: u64,
-        heard: u64,
-        counts: LinkCounts,
-    ) {
+    pub(crate) fn note_counts<T: Wait>(&self, rt: &T, id: u64, heard: u64, counts: LinkCounts) {
         let mut board = self.board.lock(rt);
         for place in board.places.as_mut_slice() {
             if place.id == id {

@@ -217,13 +217,7 @@ fn sum_of(
 }
 
 /// Sees which links are up. If memory runs out, they are those of the last time.
-fn find_links<T: Wait>(
-    rt: &T,
-    alloc: Global,
-    shared: &Shared,
-    gathered: &mut Gathered,
-    now: u64,
-) {
+fn find_links<T: Wait>(rt: &T, alloc: Global, shared: &Shared, gathered: &mut Gathered, now: u64) {
     if let Ok(links) = shared.pool.relay.links(rt, alloc, MOST_LINKS) {
         look_at_links(gathered, links.as_slice(), now);
     }

@@ -5,8 +5,8 @@
 //! two gatherings, so an event is late by a second, or by a glance.
 
 use crate::board::{Number, Shared};
-use crate::doors::{outage_line, trouble_line};
 use crate::counting::{MANY_TOPICS, is_owned, presence_of};
+use crate::doors::{outage_line, trouble_line};
 use crate::gathering::{Gathered, KnownLink, seen_in};
 use crate::lines::Said;
 use gw_link::Trouble;
@@ -342,7 +342,13 @@ fn tell_dropped<T: Wait + Clock + Print + Eprint>(
         let times = dropped.saturating_sub(happened.dropped);
         happened.dropped = dropped;
         happened.told = now;
-        add(rt, alloc, log, report, What::Warning(Warning::Dropped { times }));
+        add(
+            rt,
+            alloc,
+            log,
+            report,
+            What::Warning(Warning::Dropped { times }),
+        );
     }
 }
 
@@ -370,7 +376,13 @@ fn tell_clients<T: Wait + Clock + Print + Eprint>(
         told: Vec::new(alloc),
         lost: 0,
     };
-    find_news(&mut news, settings, gathered, report.clients.as_slice(), is_again);
+    find_news(
+        &mut news,
+        settings,
+        gathered,
+        report.clients.as_slice(),
+        is_again,
+    );
     let News { told, lost, .. } = news;
     log.lost = log.lost.saturating_add(lost);
     for what in told {

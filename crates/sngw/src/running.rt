@@ -536,11 +536,7 @@ where
 /// Counts what became of a gateway that was tended in so many milliseconds.
 fn note_tended(shared: &Shared, tended: Tended, milliseconds: u64) {
     let board = &shared.board;
-    board.note_time(
-        Number::Compaction,
-        Number::LongestCompaction,
-        milliseconds,
-    );
+    board.note_time(Number::Compaction, Number::LongestCompaction, milliseconds);
     match tended {
         Tended::Kept => board.add(Number::Compacted),
         Tended::Starved => board.add(Number::NotCompacted),

@@ -325,7 +325,11 @@ fn what_of(client: ClientId, fate: Fate) -> What {
 /// Events on which somebody must act.
 fn add_alarms(page: &mut Page, events: &mut Vec<Event>) {
     let (number, times) = (2, 3);
-    add(page, events, What::Alarm(Alarm::SameNumber { number, times }));
+    add(
+        page,
+        events,
+        What::Alarm(Alarm::SameNumber { number, times }),
+    );
     add(page, events, What::Alarm(Alarm::Conflict { number, times }));
     add(page, events, What::Alarm(Alarm::Halted));
 }
