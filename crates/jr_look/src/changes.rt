@@ -88,12 +88,23 @@ pub(crate) fn waiting(text: &mut String, put: &Put) -> Result<(), AllocError> {
         "waits for message {seq} of gateway {origin}: {topic} "
     )?;
     arrives(text, put.qos, put.body.as_slice())?;
-    text.push_str(later_words(put.retain))
+    text.push_str(later_words(put.retain))?;
+    end(text, put.expires)
 }
 
-/// What stands after the body of a message.
+/// What stands after the body of a message that was retained.
 fn later_words(retain: bool) -> &'static str {
-    if retain { ", retained\n" } else { "\n" }
+    if retain { ", retained" } else { "" }
+}
+
+/// The end of the line of a message that waits: the moment from which on it need not, if it has
+/// one.
+fn end(text: &mut String, expires: u64) -> Result<(), AllocError> {
+    if expires > 0 {
+        writeln!(text, ", expires {expires}")
+    } else {
+        text.push_str("\n")
+    }
 }
 
 /// The rest of the line of a session's change.

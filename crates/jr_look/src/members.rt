@@ -122,7 +122,17 @@ fn published(text: &mut String, put: &Put) -> Result<(), AllocError> {
     write!(
         text,
         "\"topic\":{topic},\"qos\":{qos},\"body\":{body}{later}"
-    )
+    )?;
+    moment(text, put.expires)
+}
+
+/// The moment from which on a message need not wait, as a further member, if it has one.
+fn moment(text: &mut String, expires: u64) -> Result<(), AllocError> {
+    if expires > 0 {
+        write!(text, ",\"expires\":{expires}")
+    } else {
+        Ok(())
+    }
 }
 
 /// A further member of a message that the client gets since it was retained.

@@ -67,6 +67,7 @@ pub(crate) fn told(
     let config = Config {
         gateway,
         advertise,
+        lifetime: 0,
         field,
         predefined,
     };

@@ -8,7 +8,7 @@ use std::io::Write;
 use toml::{Table, Value};
 
 /// The keys that mean something.
-const KEYS: [Key; 13] = [
+const KEYS: [Key; 14] = [
     Key::Gateway,
     Key::Listen,
     Key::Link,
@@ -16,6 +16,7 @@ const KEYS: [Key; 13] = [
     Key::Workers,
     Key::Steps,
     Key::Advertise,
+    Key::Lifetime,
     Key::Field,
     Key::Peers,
     Key::Predefined,

@@ -107,7 +107,7 @@ impl<'a, T: Wait + Clock, W: Wire, P: Post> Watched<'a, T, W, P> {
         ensures datagrams { (self.new.arrivals ≡ self.old.arrivals)
             × (self.new.drops ≡ self.old.drops) }
     {
-        let second = arrival.moment;
+        let second = self.pool.clock.second();
         let verdict = self.admission.verdict(self.alloc, second, datagram);
         match verdict {
             Verdict::Comes => false,
