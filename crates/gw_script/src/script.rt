@@ -1,6 +1,6 @@
 //! What the lines of a script say together.
 
-ghost use Rattle.std.specs.Prelude.{◌≡◌, ◌∷◌, ◌++◌, ◌==◌, [], ℕ, Err, IfOk, IfErr, IsTrue, IsFalse, IfSome, length, ◌<◌, position};
+ghost use Rattle.std.specs.Prelude.{◌≡◌, ◌∷◌, ◌++◌, ◌==◌, [], ℕ, Err, IfOk, IsTrue, IsFalse, IfSome, length, ◌<◌, position};
 ghost use Rattle.sn_topic.specs.Table.{is_table};
 ghost use Rattle.gw_script.specs.Commands.{lines_of};
 ghost use Rattle.gw_script.specs.Scripts.{IsScriptOf, AreGateways, IsBadLine};
@@ -178,9 +178,8 @@ fn with_entry(alloc: Global, config: &Config, id: u16, name: TopicName) -> Resul
 }
 
 /// The config with this lifetime, in seconds.
-fn with_lifetime(alloc: Global, config: &Config, seconds: u32) -> Result<Config, LineFault>
-    ensures ok { IfOk result (λ made. made ≡ record config.now { lifetime = seconds }) }
-    ensures err { IfErr result (λ fault. fault ≡ LineFault.Memory) }
+fn with_lifetime(alloc: Global, config: &Config, seconds: u32) -> Result<Config, NoMemory>
+    ensures { IfOk result (λ made. made ≡ record config.now { lifetime = seconds }) }
 {
     let mut made = config.copied(alloc)?;
     made.lifetime = seconds;

@@ -292,6 +292,25 @@ fn lose<R: Replica>(
     Ok(())
 }
 
+/// And then all messages of the client that expire are acknowledged.
+fn expire<R: Replica>(
+    alloc: Global,
+    replica: &R,
+    dialogs: &Dialogs,
+    now: u64,
+    client: &ClientId,
+    draft: &mut Draft,
+) -> Result<(), NoMemory>
+    ensures { OnOk result (draft.new ≡ expiry.expire_all (seen_of (R.kept replica.now))
+        dialogs.now.local now client.now draft.old) }
+{
+    let nobody = unseen(alloc);
+    let view = view_or(replica, client, &nobody);
+    let expired = expire_all(draft, dialogs, now, client, view);
+    drop(nobody);
+    expired
+}
+
 /// The plan of an expiry: all messages of the client whose moment is there are acknowledged, but
 /// the one that it is in the middle of. Nothing is sent.
 fn plan_expiry<R: Replica>(
@@ -307,11 +326,7 @@ fn plan_expiry<R: Replica>(
         (seen_of (R.kept replica.now)) (expiry.expire_all (seen_of (R.kept replica.now))
         dialogs.now.local now client.now draft)) }
 {
-    let nobody = unseen(alloc);
-    let view = view_or(replica, client, &nobody);
-    let expired = expire_all(&mut draft, dialogs, now, client, view);
-    drop(nobody);
-    expired?;
+    expire(alloc, replica, dialogs, now, client, &mut draft)?;
     plan_of(alloc, config.gateway, replica, client, draft)
 }
 

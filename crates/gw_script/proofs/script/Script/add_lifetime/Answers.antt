@@ -11,4 +11,4 @@ returns-clause-ok c =
     let is = rw c.as_slice-2.ensures at c.index-as_slice-place.is in
     lasts c.args.self.now c.args.number c.args.seconds c.in-Some.place c.index-as_slice-place.result c.in_ok-config.config c.replace.new.self
     silent (sym at) (slice_get_read c.args.self.now.configs _ c.in-Some.place c.index-as_slice-place.result refl within is)
-    c.in_ok-config.ensures.ok c.replace.ensures
+    c.in_ok-config.ensures c.replace.ensures
