@@ -1,0 +1,9 @@
+pub mod Walk
+pub mod Just
+pub mod Running
+pub mod Keeps
+pub mod Order
+pub mod Taking
+pub mod Worked
+pub mod Places
+pub mod Seats

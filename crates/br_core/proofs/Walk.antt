@@ -1,0 +1,727 @@
+-- What holds of lanes, of what is to be done, of what waits and of what is in flight, and is kept by
+-- each small change, holds after each step; whatever makes a reading good, a lane's own, and a
+-- publication one of which the broker may be told, if the event gives reasons for these.
+use Rattle.std.proofs.Common.{◌≡◌, ◌==◌, ◌+◌, ℕ, zero, suc, Bool, true, false, ◌&&◌, not, ◌||◌, if◌then◌else◌, List, [], ◌∷◌, ◌++◌, length, fold, Option, Some, None, refl, sym, ap, subst, arith, eqb-true}
+use Rattle.std.specs.Prelude.{is_some, nat_lt, nat_le, slice_get, slice_set}
+use Rattle.std.specs.List.{AllByRecursion}
+use Rattle.std.specs.Str.{bytes_eq}
+use Rattle.std.proofs.lemmas.Bool.{and_parts}
+use Rattle.mq_packet.specs.declared.packet.Delivery.TheVariants as deliveries
+use Rattle.mq_packet.specs.declared.packet.Packet.{Packet}
+use Rattle.mq_packet.specs.declared.packet.Packet.TheVariants as packets
+use Rattle.mq_packet.specs.declared.packet.Qos.{Qos}
+use Rattle.mq_packet.specs.declared.packet.Qos.TheVariants as levels
+use Rattle.sn_frame.specs.declared.flags.Qos.{Qos as FieldQos}
+use Rattle.sn_frame.specs.declared.flags.Qos.TheVariants as field_levels
+use Rattle.sn_frame.specs.declared.flags.TopicIdType.{TopicIdType}
+use Rattle.sn_frame.specs.declared.flags.TopicIdType.TheVariants as kinds
+use Rattle.sn_frame.specs.declared.frame.Frame.{Frame}
+use Rattle.sn_frame.specs.declared.frame.Frame.TheVariants as frames
+use Rattle.sn_frame.specs.FlagBits.{kind_of, qos_of}
+use Rattle.br_core.specs.declared.action.Action.{Action}
+use Rattle.br_core.specs.declared.action.Action.TheVariants as actions
+use Rattle.br_core.specs.declared.action.Why.{Why}
+use Rattle.br_core.specs.declared.action.Why.TheVariants as whys
+use Rattle.br_core.specs.declared.event.Event.{Event}
+use Rattle.br_core.specs.declared.event.Event.TheVariants as events
+use Rattle.br_core.specs.declared.item.Command.{Command}
+use Rattle.br_core.specs.declared.item.Flight.{Flight}
+use Rattle.br_core.specs.declared.item.Item.{Item}
+use Rattle.br_core.specs.declared.settings.DownFilter.{DownFilter}
+use Rattle.br_core.specs.declared.settings.LaneSettings.{LaneSettings}
+use Rattle.br_core.specs.declared.settings.Settings.{Settings}
+use Rattle.br_core.specs.declared.settings.UpName.{UpName}
+use Rattle.br_core.specs.declared.state.Bridge.{Bridge}
+use Rattle.br_core.specs.declared.state.Doing.{Doing}
+use Rattle.br_core.specs.declared.state.Doing.TheVariants as doings
+use Rattle.br_core.specs.declared.state.Down.{Down}
+use Rattle.br_core.specs.declared.state.Lane.{Lane}
+use Rattle.br_core.specs.declared.state.Moment.{Moment}
+use Rattle.br_core.specs.declared.state.Open.{Open}
+use Rattle.br_core.specs.declared.state.Phase.{Phase}
+use Rattle.br_core.specs.declared.state.Phase.TheVariants as phases
+use Rattle.br_core.specs.declared.state.Side.{Side}
+use Rattle.br_core.specs.declared.state.Side.TheVariants as sides
+use Rattle.br_core.specs.declared.state.TheConstants.{BROKER_KEEP_ALIVE, KEEP_ALIVE, LAST_NUMBER, MAX_COMMANDS, MAX_NAMES, SLEEP, TRIES}
+use Rattle.br_core.specs.Sides.{acknowledged, all_again, at_once, does, free_id, has_window, in_flight, kept_at, left_in_flight, next_id, offered, once_more, out_again, sends, sent_at, sent_under, takes, takes_at, waits}
+use Rattle.br_core.specs.Lanes as lane
+use Rattle.br_core.specs.Commands as command
+use Rattle.br_core.specs.Steps as whole
+use Rattle.br_core.specs.Runs.{IsFrame, IsJust}
+
+-- ---- lists
+
+pub all-push : {X : Type 0} (P : X → Type 0) (xs : List X) (x : X) → AllByRecursion P xs → P x → AllByRecursion P (xs ++ x ∷ [])
+all-push P [] x h p = (p, tt)
+all-push P (y ∷ ys) x h p = (h.0, all-push P ys x h.1 p)
+
+-- each lane has what belongs to its place
+abbrev pub AtPlaces : (ℕ → Lane → Type 0) → List Lane → Type 0
+AtPlaces F [] = Unit {0}
+AtPlaces F (x ∷ more) = F 0 x × AtPlaces (λ n. F (suc n)) more
+
+pub set-places : (F : ℕ → Lane → Type 0) (xs : List Lane) (k : ℕ) (x : Lane) → F k x → AtPlaces F xs → AtPlaces F (slice_set xs k x)
+set-places F [] k x p h = tt
+set-places F (y ∷ ys) zero x p h = (p, h.1)
+set-places F (y ∷ ys) (suc k) x p h = (h.0, set-places (λ n. F (suc n)) ys k x p h.1)
+
+abbrev pub IfThere : (Lane → Type 0) → Option Lane → Type 0
+IfThere P None = Unit {0}
+IfThere P (Some x) = P x
+
+pub get-places : (F : ℕ → Lane → Type 0) (xs : List Lane) (k : ℕ) → AtPlaces F xs → IfThere (F k) (slice_get xs k)
+get-places F [] k h = tt
+get-places F (y ∷ ys) zero h = h.0
+get-places F (y ∷ ys) (suc k) h = get-places (λ n. F (suc n)) ys k h.1
+
+pub map-places : (F G : ℕ → Lane → Type 0) (xs : List Lane) → ((n : ℕ) (x : Lane) → F n x → G n x) → AtPlaces F xs → AtPlaces G xs
+map-places F G [] f h = tt
+map-places F G (y ∷ ys) f h = (f 0 y h.0, map-places (λ n. F (suc n)) (λ n. G (suc n)) ys (λ n. f (suc n)) h.1)
+
+-- ---- what is just
+
+-- a lane's open message came over it, and is answered only if it is good
+abbrev pub OpenJust : (ℕ → Type 0) → (ℕ → ℕ → ℕ → Type 0) → ℕ → Open → Type 0
+OpenJust Good Own place held = Own place held.number held.msg_id × (held.is_answered ≡ true → Good held.number)
+
+abbrev pub LastJust : (ℕ → Type 0) → (ℕ → ℕ → ℕ → Type 0) → ℕ → Option Open → Type 0
+LastJust Good Own place None = Unit {0}
+LastJust Good Own place (Some held) = OpenJust Good Own place held
+
+abbrev pub LaneJust : (ℕ → Type 0) → (ℕ → ℕ → ℕ → Type 0) → ℕ → Lane → Type 0
+LaneJust Good Own place l = LastJust Good Own place l.last
+
+-- the broker may be told of what it wants to be told of: id 0 is none
+abbrev pub Tells : (ℕ → Type 0) → ℕ → Type 0
+Tells May id = (id == 0) ≡ false → May id
+
+-- and of the first command
+abbrev pub FirstMay : (ℕ → Type 0) → List Command → Type 0
+FirstMay May [] = Unit {0}
+FirstMay May (first ∷ more) = Tells May first.id
+
+-- the item, if there is one, is good
+abbrev pub ItemGood : (ℕ → Type 0) → Option Item → Type 0
+ItemGood Good None = Unit {0}
+ItemGood Good (Some item) = Good item.number
+
+refused : ◌≡◌ {A = ℕ} 2 0 → ⊥
+refused e = omega arith
+
+asked-again : ◌≡◌ {A = ℕ} 1 0 → ⊥
+asked-again e = omega arith
+
+-- a refusal is no acknowledgement
+refusal-at-not : (phase : Phase) → lane.refusal_at phase ≡ 0 → ⊥
+refusal-at-not (phases.Subscribing next) e = asked-again e
+refusal-at-not phase e = refused e
+
+refusal-not : (kind : TopicIdType) (phase : Phase) → lane.refusal kind phase ≡ 0 → ⊥
+refusal-not kinds.Normal phase e = refused e
+refusal-not kind phase e = refusal-at-not phase e
+
+unanswered : {A : Type 0} → false ≡ true → A
+unanswered e = cc
+
+-- a PUBLISH brings the next number to its lane
+abbrev pub FrameOwn : (ℕ → ℕ → ℕ → Type 0) → ℕ → Frame → ℕ → Type 0
+FrameOwn Own place (frames.Publish flags topic msg_id body) number = Own place number msg_id
+FrameOwn Own place frame number = Unit {0}
+
+-- PUBACK 0 of what was published last lets the broker be told of the first command
+abbrev pub FrameMay : (ℕ → Type 0) → Frame → Bridge → Type 0
+FrameMay May (frames.PubAck topic_id msg_id code) b =
+    b.down.doing ≡ doings.Publishing → msg_id ≡ b.down.msg_id → code ≡ 0 → FirstMay May b.down.queue
+FrameMay May frame b = Unit {0}
+
+-- a PUBACK makes the reading in flight good; what the broker had kept may be told at once
+abbrev pub PacketGood : (ℕ → Type 0) → (ℕ → Type 0) → Packet → Bridge → Type 0
+PacketGood Good May (packets.PubAck id) b = ItemGood Good (acknowledged id b.flight)
+PacketGood Good May (packets.Publish delivery retain topic body) b = retain ≡ true → Tells May (whole.id_in delivery)
+PacketGood Good May packet b = Unit {0}
+
+-- what an event gives as reasons
+abbrev pub Reasons : (ℕ → Type 0) → (ℕ → ℕ → ℕ → Type 0) → (ℕ → Type 0) → Event → Bridge → Type 0
+Reasons Good Own May (events.Field place frame) b = FrameOwn Own place frame b.number
+Reasons Good Own May (events.Commands frame) b = FrameMay May frame b
+Reasons Good Own May (events.Broker packet) b = PacketGood Good May packet b
+Reasons Good Own May (events.Kept line) b = b.down.doing ≡ doings.Refusing line → FirstMay May b.down.queue
+Reasons Good Own May event b = Unit {0}
+
+-- what holds of lanes, actions, readings that wait, readings in flight, and the number of the next one
+abbrev pub Held : Type 1
+Held = List Lane → List Action → List Item → List Flight → ℕ → Type 0
+
+abbrev pub At : Held → Bridge → Type 0
+At P b = P b.lanes b.out b.waiting b.flight b.number
+
+-- a reading has come, which takes the next number
+abbrev pub one-taken : Bridge → Bridge
+one-taken b = record b { number = b.number + 1 }
+
+-- what is done beside first sendings of readings
+abbrev pub IsOther : Action → Type 0
+IsOther (actions.Reading number packet) = ⊥
+IsOther action = Unit {0}
+
+-- It is kept if something just is to be done, and if a reading comes, waits or goes out.
+pub record IsKept (Good : ℕ → Type 0) (Own : ℕ → ℕ → ℕ → Type 0) (May : ℕ → Type 0) (P : Held) : Type 0 where
+  pub acts : (a : Action) (l : List Lane) (out : List Action) (w : List Item) (f : List Flight) (n : ℕ) → IsJust Good Own May a → P l out w f n → P l (out ++ a ∷ []) w f n
+  pub queued : (item : Item) (l : List Lane) (out : List Action) (w : List Item) (f : List Flight) (n : ℕ) → P l out w f n → P l out (w ++ item ∷ []) f n
+  pub flown : (id : ℕ) (item : Item) (l : List Lane) (out : List Action) (w : List Item) (f : List Flight) (n : ℕ) → P l out w f n → P l out w (f ++ record { id = id; item = item } ∷ []) n
+  pub counts : (l : List Lane) (out : List Action) (w : List Item) (f : List Flight) (n : ℕ) → P l out w f n → P l out w f (n + 1)
+
+-- And of whole bridges: if something else than a first sending is to be done, if a lane changes, if
+-- a reading is taken, what waits is offered, what is in flight goes out again, and a good reading
+-- leaves it; and it says what lanes are.
+pub record IsWalked (Good : ℕ → Type 0) (Own : ℕ → ℕ → ℕ → Type 0) (May : ℕ → Type 0) (P : Held) : Type 0 where
+  pub acts : (a : Action) (l : List Lane) (out : List Action) (w : List Item) (f : List Flight) (n : ℕ) → IsOther a → IsJust Good Own May a → P l out w f n → P l (out ++ a ∷ []) w f n
+  pub placed : (place : ℕ) (x : Lane) (l : List Lane) (out : List Action) (w : List Item) (f : List Flight) (n : ℕ) → LaneJust Good Own place x → P l out w f n → P (slice_set l place x) out w f n
+  pub there : (place : ℕ) (l : List Lane) (out : List Action) (w : List Item) (f : List Flight) (n : ℕ) → P l out w f n → IfThere (LaneJust Good Own place) (slice_get l place)
+  pub taken : (settings : Settings) (item : Item) (b : Bridge) → item.number ≡ b.number → At P b → At P (takes settings item (one-taken b))
+  pub offers : (settings : Settings) (b : Bridge) → At P b → At P (sends settings b)
+  pub repeated : (l : List Lane) (out : List Action) (w : List Item) (f : List Flight) (n : ℕ) → P l out w f n → P l (fold out_again out f) w f n
+  pub left : (id : ℕ) (l : List Lane) (out : List Action) (w : List Item) (f : List Flight) (n : ℕ) → ItemGood Good (acknowledged id f) → P l out w f n → P l out w (left_in_flight id f) n
+
+-- ---- a reading is offered
+
+module _ (Good : ℕ → Type 0) (Own : ℕ → ℕ → ℕ → Type 0) (May : ℕ → Type 0) (P : Held) (kept : IsKept Good Own May P) where
+  abbrev K : Bridge → Type 0
+  K b = At P b
+
+  pub sent-under-kept : (id : ℕ) (item : Item) (b : Bridge) → K b → K (sent_under id item b)
+  sent-under-kept id item b h =
+      kept.acts (actions.Reading item.number (in_flight false (record { id = id; item = item }))) b.lanes b.out b.waiting (b.flight ++ record { id = id; item = item } ∷ []) b.number tt
+      (kept.flown id item b.lanes b.out b.waiting b.flight b.number h)
+
+  pub sent-at-kept : (qos : Qos) (item : Item) (b : Bridge) → K b → K (sent_at qos item b)
+  sent-at-kept levels.Zero item b h = kept.acts (actions.Reading item.number (at_once item)) b.lanes b.out b.waiting b.flight b.number tt h
+  sent-at-kept levels.One item b h = sent-under-kept (free_id b.packet_id b.flight) item b h
+
+  choose-kept : (c : Bool) (x y : Bridge) → K x → K y → K (if c then x else y)
+  choose-kept true x y p q = p
+  choose-kept false x y p q = q
+
+  pub offered-kept : (settings : Settings) (b : Bridge) (item : Item) → K b → K (offered settings b item)
+  offered-kept settings b item h =
+      choose-kept ((length b.waiting == 0) && has_window settings item.qos b.flight) (sent_at item.qos item b) (waits item b)
+      (sent-at-kept item.qos item b h) (kept.queued item b.lanes b.out b.waiting b.flight b.number h)
+
+  pub all-offered : (settings : Settings) (items : List Item) (b : Bridge) → K b → K (fold (offered settings) b items)
+  all-offered settings [] b h = h
+  all-offered settings (item ∷ more) b h = all-offered settings more (offered settings b item) (offered-kept settings b item h)
+
+  kept-at-kept : (qos : Qos) (item : Item) (b : Bridge) → K b → K (kept_at qos item b)
+  kept-at-kept levels.Zero item b h = h
+  kept-at-kept levels.One item b h = kept.queued item b.lanes b.out b.waiting b.flight b.number h
+
+  takes-at-kept : (side : Side) (settings : Settings) (item : Item) (b : Bridge) → K b → K (takes_at side settings item b)
+  takes-at-kept sides.Up settings item b h = offered-kept settings b item h
+  takes-at-kept side settings item b h = kept-at-kept item.qos item b h
+
+  pub taken-kept : (settings : Settings) (item : Item) (b : Bridge) → K b → K (takes settings item (one-taken b))
+  taken-kept settings item b h =
+      takes-at-kept b.side settings item (one-taken b) (kept.counts b.lanes b.out b.waiting b.flight b.number h)
+
+-- ---- all the rest
+
+module _ (Good : ℕ → Type 0) (Own : ℕ → ℕ → ℕ → Type 0) (May : ℕ → Type 0) (P : Held) (walked : IsWalked Good Own May P) where
+  abbrev J : Bridge → Type 0
+  J b = At P b
+
+  abbrev L : ℕ → Lane → Type 0
+  L place x = LaneJust Good Own place x
+
+  choose : (c : Bool) (x y : Bridge) → J x → J y → J (if c then x else y)
+  choose true x y p q = p
+  choose false x y p q = q
+
+  choose-by : (c : Bool) (x y : Bridge) → (c ≡ true → J x) → J y → J (if c then x else y)
+  choose-by true x y p q = p refl
+  choose-by false x y p q = q
+
+  choose-not : (c : Bool) (x y : Bridge) → J x → (c ≡ false → J y) → J (if c then x else y)
+  choose-not true x y p q = p
+  choose-not false x y p q = q refl
+
+  does-just : (a : Action) (b : Bridge) → IsOther a → IsJust Good Own May a → J b → J (does a b)
+  does-just a b o p h = walked.acts a b.lanes b.out b.waiting b.flight b.number o p h
+
+  put-just : (place : ℕ) (x : Lane) (b : Bridge) → L place x → J b → J (lane.seated place x b)
+  put-just place x b p h = walked.placed place x b.lanes b.out b.waiting b.flight b.number p h
+
+  says-just : (place : ℕ) (frame : Frame) (x : Lane) (b : Bridge) → IsFrame Good Own place frame → L place x → J b → J (lane.says place frame x b)
+  says-just place frame x b f p h = does-just (actions.ToField place frame) (lane.seated place x b) tt f (put-just place x b p h)
+
+  -- ---- towards the broker
+
+  sends-just : (settings : Settings) (b : Bridge) → J b → J (sends settings b)
+  sends-just settings b h = walked.offers settings b h
+
+  all-again-just : (b : Bridge) → J b → J (all_again b)
+  all-again-just b h = walked.repeated b.lanes b.out b.waiting b.flight b.number h
+
+  -- ---- lanes
+
+  connecting-just : (own : LaneSettings) (place : ℕ) (m : Moment) (x : Lane) (b : Bridge) → J b → J (lane.connecting own place m x b)
+  connecting-just own place m x b h =
+      says-just place (frames.Connect (record { bits = 0 }) 1 KEEP_ALIVE own.client)
+      (record x { phase = phases.Connecting; tries = once_more x.tries; due = m.retry; ids = []; last = None }) b tt tt h
+
+  subscribing-at-just : (up : Option UpName) (place next : ℕ) (m : Moment) (x : Lane) (b : Bridge) → L place x → J b → J (lane.subscribing_at up place next m x b)
+  subscribing-at-just None place next m x b p h = put-just place (record x { phase = phases.Listening; tries = 0; due = m.ping }) b p h
+  subscribing-at-just (Some up) place next m x b p h =
+      says-just place (frames.Subscribe (lane.subscribe_flags up) x.msg_id up.name)
+      (record x { phase = phases.Subscribing next; tries = once_more x.tries; due = m.retry; msg_id = next_id x.msg_id }) b tt p h
+
+  subscribing-just : (own : LaneSettings) (place next : ℕ) (m : Moment) (x : Lane) (b : Bridge) → L place x → J b → J (lane.subscribing own place next m x b)
+  subscribing-just own place next m x b p h = subscribing-at-just (slice_get own.names next) place next m x b p h
+
+  counted-just : (settings : Settings) (place : ℕ) (qos : Qos) (up : UpName) (body : List ℕ) (b : Bridge) → J b → J (lane.counted settings place qos up body b)
+  counted-just settings place qos up body b h =
+      walked.taken settings (lane.item_of b.number place qos up body) b refl h
+
+  brings-just : (settings : Settings) (place name : ℕ) (up : UpName) (topic_id msg_id : ℕ) (body : List ℕ) (x : Lane) (b : Bridge)
+      → Own place b.number msg_id → L place x → J b → J (lane.brings settings place name up topic_id msg_id body x b)
+  brings-just settings place name up topic_id msg_id body x b own p h =
+      let brought : Lane = record x { last = Some (lane.open_of b.number name topic_id msg_id body) } in
+      choose (lane.has_room b) (lane.counted settings place levels.One up body (lane.seated place brought b)) (lane.seated place x b)
+      (counted-just settings place levels.One up body (lane.seated place brought b) (put-just place brought b (own, unanswered) h))
+      (put-just place x b p h)
+
+  again-at-just : (c : Bool) (place topic_id msg_id : ℕ) (held : Open) (x : Lane) (b : Bridge)
+      → held.is_answered ≡ c → held.msg_id ≡ msg_id → OpenJust Good Own place held → J b → J (lane.again_at c place topic_id msg_id held x b)
+  again-at-just true place topic_id msg_id held x b e same o h =
+      says-just place (frames.PubAck topic_id msg_id 0) (record x { last = Some (record held { topic_id = topic_id }) }) b
+      (λ none. (held.number, o.1 e, subst (λ id. Own place held.number id) same o.0)) o h
+  again-at-just false place topic_id msg_id held x b e same o h =
+      put-just place (record x { last = Some (record held { topic_id = topic_id }) }) b o h
+
+  same-id : (name msg_id : ℕ) (body : List ℕ) (held : Open) → lane.is_same name msg_id body held ≡ true → held.msg_id ≡ msg_id
+  same-id name msg_id body held e =
+      let both = and_parts ((held.name == name) && (held.msg_id == msg_id)) (bytes_eq held.body body) e in
+      eqb-true held.msg_id msg_id (and_parts (held.name == name) (held.msg_id == msg_id) both.0).1
+
+  brings-if-just : (last : Option Open) (settings : Settings) (place name : ℕ) (up : UpName) (topic_id msg_id : ℕ) (body : List ℕ) (x : Lane) (b : Bridge)
+      → LastJust Good Own place last → Own place b.number msg_id → L place x → J b → J (lane.brings_if last settings place name up topic_id msg_id body x b)
+  brings-if-just None settings place name up topic_id msg_id body x b o own p h =
+      brings-just settings place name up topic_id msg_id body x b own p h
+  brings-if-just (Some held) settings place name up topic_id msg_id body x b o own p h =
+      choose-by (lane.is_same name msg_id body held) (lane.again_at held.is_answered place topic_id msg_id held x b)
+      (lane.brings settings place name up topic_id msg_id body x b)
+      (λ e. again-at-just held.is_answered place topic_id msg_id held x b refl (same-id name msg_id body held e) o h)
+      (brings-just settings place name up topic_id msg_id body x b own p h)
+
+  passes-just : (settings : Settings) (place : ℕ) (up : UpName) (body : List ℕ) (x : Lane) (b : Bridge) → L place x → J b → J (lane.passes settings place up body x b)
+  passes-just settings place up body x b p h =
+      choose (lane.has_room b) (lane.counted settings place levels.Zero up body (lane.seated place x b)) (lane.seated place x b)
+      (counted-just settings place levels.Zero up body (lane.seated place x b) (put-just place x b p h))
+      (put-just place x b p h)
+
+  publication-at-just : (qos : FieldQos) (settings : Settings) (place name : ℕ) (up : UpName) (topic_id msg_id : ℕ) (body : List ℕ) (x : Lane) (b : Bridge)
+      → Own place b.number msg_id → L place x → J b → J (lane.publication_at qos settings place name up topic_id msg_id body x b)
+  publication-at-just field_levels.Zero settings place name up topic_id msg_id body x b own p h = passes-just settings place up body x b p h
+  publication-at-just field_levels.One settings place name up topic_id msg_id body x b own p h =
+      brings-if-just x.last settings place name up topic_id msg_id body x b p own p h
+  publication-at-just qos settings place name up topic_id msg_id body x b own p h = put-just place x b p h
+
+  unknown-at-just : (qos : FieldQos) (kind : TopicIdType) (place topic_id msg_id : ℕ) (x : Lane) (b : Bridge) → L place x → J b → J (lane.unknown_at qos kind place topic_id msg_id x b)
+  unknown-at-just field_levels.One kind place topic_id msg_id x b p h =
+      says-just place (frames.PubAck topic_id msg_id (lane.refusal kind x.phase)) x b (λ e. absurd (refusal-not kind x.phase e)) p h
+  unknown-at-just qos kind place topic_id msg_id x b p h = put-just place x b p h
+
+  named-at-just : (up : Option UpName) (qos : FieldQos) (kind : TopicIdType) (settings : Settings) (place name topic_id msg_id : ℕ) (body : List ℕ) (x : Lane) (b : Bridge)
+      → Own place b.number msg_id → L place x → J b → J (lane.named_at up qos kind settings place name topic_id msg_id body x b)
+  named-at-just None qos kind settings place name topic_id msg_id body x b own p h = unknown-at-just qos kind place topic_id msg_id x b p h
+  named-at-just (Some up) qos kind settings place name topic_id msg_id body x b own p h =
+      publication-at-just qos settings place name up topic_id msg_id body x b own p h
+
+  known-at-just : (name : Option ℕ) (qos : FieldQos) (kind : TopicIdType) (settings : Settings) (own : LaneSettings) (place topic_id msg_id : ℕ) (body : List ℕ) (x : Lane) (b : Bridge)
+      → Own place b.number msg_id → L place x → J b → J (lane.known_at name qos kind settings own place topic_id msg_id body x b)
+  known-at-just None qos kind settings own place topic_id msg_id body x b mine p h = unknown-at-just qos kind place topic_id msg_id x b p h
+  known-at-just (Some name) qos kind settings own place topic_id msg_id body x b mine p h =
+      named-at-just (slice_get own.names name) qos kind settings place name topic_id msg_id body x b mine p h
+
+  registered-just : (name : Option ℕ) (place topic_id msg_id : ℕ) (x : Lane) (b : Bridge) → L place x → J b → J (lane.registered name place topic_id msg_id x b)
+  registered-just None place topic_id msg_id x b p h = says-just place (frames.RegAck topic_id msg_id 3) x b tt p h
+  registered-just (Some name) place topic_id msg_id x b p h =
+      says-just place (frames.RegAck topic_id msg_id 0) (record x { ids = record { id = topic_id; name = name } ∷ x.ids }) b tt p h
+
+  goes-away-just : (place : ℕ) (m : Moment) (x : Lane) (b : Bridge) → L place x → J b → J (lane.goes_away place m x b)
+  goes-away-just place m x b p h = put-just place (record x { phase = phases.Away; tries = 0; due = m.at }) b p h
+
+  awake-just : (settings : Settings) (own : LaneSettings) (place : ℕ) (m : Moment) (frame : Frame) (x : Lane) (b : Bridge)
+      → FrameOwn Own place frame b.number → L place x → J b → J (lane.awake_frame settings own place m frame x b)
+  awake-just settings own place m (frames.Publish flags topic msg_id body) x b mine p h =
+      known-at-just (lane.name_of (kind_of flags.bits) topic own.names x.ids) (qos_of flags.bits) (kind_of flags.bits) settings own place topic msg_id body x b mine p h
+  awake-just settings own place m (frames.Register topic_id msg_id name) x b mine p h =
+      registered-just (lane.place_of name own.names) place topic_id msg_id x b p h
+  awake-just settings own place m (frames.Disconnect duration) x b mine p h = goes-away-just place m x b p h
+  awake-just settings own place m frame x b mine p h = put-just place x b p h
+
+  connected-just : (own : LaneSettings) (place : ℕ) (m : Moment) (frame : Frame) (x : Lane) (b : Bridge) → L place x → J b → J (lane.connected own place m frame x b)
+  connected-just own place m (frames.ConnAck code) x b p h =
+      choose (code == 0) (lane.subscribing own place 0 m (record x { tries = 0 }) b) b (subscribing-just own place 0 m (record x { tries = 0 }) b p h) h
+  connected-just own place m frame x b p h = h
+
+  subscribed-just : (own : LaneSettings) (place next : ℕ) (m : Moment) (topic_id code : ℕ) (x : Lane) (b : Bridge) → L place x → J b → J (lane.subscribed own place next m topic_id code x b)
+  subscribed-just own place next m topic_id code x b p h =
+      let named : Lane = record x { tries = 0; ids = lane.with_id topic_id next x.ids } in
+      choose (code == 0) (lane.subscribing own place (next + 1) m named b) b (subscribing-just own place (next + 1) m named b p h) h
+
+  naming-just : (settings : Settings) (own : LaneSettings) (place next : ℕ) (m : Moment) (frame : Frame) (x : Lane) (b : Bridge)
+      → FrameOwn Own place frame b.number → L place x → J b → J (lane.naming_frame settings own place next m frame x b)
+  naming-just settings own place next m (frames.SubAck flags topic_id msg_id code) x b mine p h =
+      choose (lane.is_its next msg_id x) (lane.subscribed own place next m topic_id code x b) b (subscribed-just own place next m topic_id code x b p h) h
+  naming-just settings own place next m frame x b mine p h = awake-just settings own place m frame x b mine p h
+
+  heard-lane : (c : Bool) (place : ℕ) (x y : Lane) → L place x → L place y → L place (if c then x else y)
+  heard-lane true place x y p q = p
+  heard-lane false place x y p q = q
+
+  frame-in-just : (phase : Phase) (settings : Settings) (own : LaneSettings) (place : ℕ) (m : Moment) (frame : Frame) (x : Lane) (b : Bridge)
+      → FrameOwn Own place frame b.number → L place x → J b → J (lane.frame_in phase settings own place m frame x b)
+  frame-in-just phases.Away settings own place m frame x b mine p h = h
+  frame-in-just phases.Connecting settings own place m frame x b mine p h = connected-just own place m frame x b p h
+  frame-in-just (phases.Subscribing next) settings own place m frame x b mine p h = naming-just settings own place next m frame x b mine p h
+  frame-in-just phases.Listening settings own place m frame x b mine p h =
+      awake-just settings own place m frame (lane.heard m x) b mine (heard-lane (x.tries == 0) place x (record x { tries = 0; due = m.ping }) p p) h
+  frame-in-just phases.Asleep settings own place m frame x b mine p h = h
+
+  lane-again-just : (phase : Phase) (own : LaneSettings) (place : ℕ) (m : Moment) (x : Lane) (b : Bridge) → L place x → J b → J (lane.again phase own place m x b)
+  lane-again-just phases.Away own place m x b p h = connecting-just own place m x b h
+  lane-again-just phases.Connecting own place m x b p h = connecting-just own place m x b h
+  lane-again-just (phases.Subscribing next) own place m x b p h = subscribing-just own place next m x b p h
+  lane-again-just phases.Listening own place m x b p h =
+      says-just place (frames.PingReq []) (record x { tries = once_more x.tries; due = m.retry }) b tt p h
+  lane-again-just phases.Asleep own place m x b p h = h
+
+  lane-tick-just : (place : ℕ) (m : Moment) (own : LaneSettings) (x : Lane) (b : Bridge) → L place x → J b → J (lane.lane_tick place m own x b)
+  lane-tick-just place m own x b p h =
+      choose (nat_lt m.at x.due) b (if nat_le TRIES x.tries then lane.gives_up place m x b else lane.again x.phase own place m x b) h
+      (choose (nat_le TRIES x.tries) (lane.gives_up place m x b) (lane.again x.phase own place m x b)
+      (does-just (actions.NextGateway place) (lane.goes_away place m x b) tt tt (goes-away-just place m x b p h))
+      (lane-again-just x.phase own place m x b p h))
+
+  asleep-in-just : (phase : Phase) (place : ℕ) (x : Lane) (b : Bridge) → L place x → J b → J (lane.asleep_in phase place x b)
+  asleep-in-just phases.Away place x b p h = put-just place (record x { phase = phases.Asleep; tries = 0 }) b p h
+  asleep-in-just phases.Asleep place x b p h = h
+  asleep-in-just phase place x b p h =
+      says-just place (frames.Disconnect (Some SLEEP)) (record x { phase = phases.Asleep; tries = 0 }) b tt p h
+
+  wakes-in-just : (phase : Phase) (own : LaneSettings) (place : ℕ) (m : Moment) (x : Lane) (b : Bridge) → J b → J (lane.wakes_in phase own place m x b)
+  wakes-in-just phases.Asleep own place m x b h = connecting-just own place m x b h
+  wakes-in-just phase own place m x b h = h
+
+  answered-at-just : (c : Bool) (place : ℕ) (held : Open) (x : Lane) (b : Bridge) → Own place held.number held.msg_id → Good held.number → J b → J (lane.answered_at c place held x b)
+  answered-at-just true place held x b own good h =
+      says-just place (frames.PubAck held.topic_id held.msg_id 0) (record x { last = Some (record held { is_answered = true }) }) b
+      (λ none. (held.number, good, own)) (own, λ e. good) h
+  answered-at-just false place held x b own good h =
+      put-just place (record x { last = Some (record held { is_answered = true }) }) b (own, λ e. good) h
+
+  answers-held-just : (last : Option Open) (number place : ℕ) (x : Lane) (b : Bridge) → LastJust Good Own place last → Good number → J b → J (lane.answers_open last number place x b)
+  answers-held-just None number place x b o good h = h
+  answers-held-just (Some held) number place x b o good h =
+      choose-by (held.number == number) (lane.answered_at (lane.is_awake x.phase) place held x b) b
+      (λ e. answered-at-just (lane.is_awake x.phase) place held x b o.0 (subst Good (sym (eqb-true held.number number e)) good) h) h
+
+  -- ---- commands
+
+  down-just : (down : Down) (b : Bridge) → J b → J (command.put_down down b)
+  down-just down b h = h
+
+  says-down-just : (frame : Frame) (down : Down) (b : Bridge) → J b → J (command.says_down frame down b)
+  says-down-just frame down b h = does-just (actions.ToCommands frame) (command.put_down down b) tt tt (down-just down b h)
+
+  told-just : (id : ℕ) (b : Bridge) → Tells May id → J b → J (command.told id b)
+  told-just id b may h = choose-not (id == 0) b (does (actions.ToBroker (packets.PubAck id)) b) h (λ e. does-just (actions.ToBroker (packets.PubAck id)) b tt (may e) h)
+
+  queued-just : (id : ℕ) (from topic body : List ℕ) (b : Bridge) → J b → J (command.queued id from topic body b)
+  queued-just id from topic body b h = h
+
+  asked-just : (entry : Option DownFilter) (id : ℕ) (retain : Bool) (topic body : List ℕ) (b : Bridge) → (retain ≡ true → Tells May id) → J b → J (command.asked entry id retain topic body b)
+  asked-just None id retain topic body b may h = queued-just id topic [] body b h
+  asked-just (Some entry) id retain topic body b may h =
+      choose-by (retain && not entry.retained) (command.told id b) (command.queued id topic (command.stripped entry.strip topic) body b)
+      (λ e. told-just id b (may (and_parts retain (not entry.retained) e).0) h) (queued-just id topic (command.stripped entry.strip topic) body b h)
+
+  commanded-just : (downs : List DownFilter) (id : ℕ) (retain : Bool) (topic body : List ℕ) (b : Bridge) → (retain ≡ true → Tells May id) → J b → J (command.commanded downs id retain topic body b)
+  commanded-just downs id retain topic body b may h =
+      choose (command.is_queued id b.down.queue || nat_le MAX_COMMANDS (length b.down.queue)) b (command.asked (command.filter_for topic downs) id retain topic body b) h
+      (asked-just (command.filter_for topic downs) id retain topic body b may h)
+
+  away-just : (m : Moment) (down : Down) (b : Bridge) → J b → J (command.away m down b)
+  away-just m down b h = h
+
+  publishing-just : (dup short : Bool) (topic_id : ℕ) (m : Moment) (first : Command) (down : Down) (b : Bridge) → J b → J (command.publishing dup short topic_id m first down b)
+  publishing-just dup short topic_id m first down b h =
+      says-down-just (frames.Publish (command.publish_flags dup short) topic_id (command.sent_id dup down.msg_id) first.body)
+      (record down { doing = doings.Publishing; tries = once_more down.tries; due = m.retry; msg_id = command.sent_id dup down.msg_id }) b h
+
+  registering-just : (m : Moment) (first : Command) (down : Down) (b : Bridge) → J b → J (command.registering m first down b)
+  registering-just m first down b h =
+      let asking : Down = record down { doing = doings.Registering; tries = once_more down.tries; due = m.retry; msg_id = next_id down.msg_id } in
+      let frame : Frame = frames.Register 0 (next_id down.msg_id) first.topic in
+      choose (nat_lt (length down.ids) MAX_NAMES) (command.says_down frame asking b) (command.away m down b)
+      (says-down-just frame asking b h) (away-just m down b h)
+
+  sent-below-just : (id : Option ℕ) (dup : Bool) (m : Moment) (first : Command) (down : Down) (b : Bridge) → J b → J (command.sent_under id dup m first down b)
+  sent-below-just None dup m first down b h = registering-just m first down b h
+  sent-below-just (Some id) dup m first down b h = publishing-just dup false id m first down b h
+
+  sent-as-just : (id : Option ℕ) (dup : Bool) (m : Moment) (first : Command) (down : Down) (b : Bridge) → J b → J (command.sent_as id dup m first down b)
+  sent-as-just None dup m first down b h = sent-below-just (command.id_of first.topic down.ids) dup m first down b h
+  sent-as-just (Some id) dup m first down b h = publishing-just dup true id m first down b h
+
+  refusing-just : (why : Why) (first : Command) (down : Down) (b : Bridge) → J b → J (command.refusing why first down b)
+  refusing-just why first down b h =
+      let told : Down = record down { doing = doings.Refusing down.line; line = down.line + 1 } in
+      choose (nat_lt down.line LAST_NUMBER) (does (actions.Refuse down.line first why) (command.put_down told b)) (command.put_down down b)
+      (does-just (actions.Refuse down.line first why) (command.put_down told b) tt tt (down-just told b h)) (down-just down b h)
+
+  sent-in-just : (phase : Phase) (dup : Bool) (m : Moment) (first : Command) (down : Down) (b : Bridge) → J b → J (command.sent_in phase dup m first down b)
+  sent-in-just phases.Listening dup m first down b h = sent-as-just (command.short_name first.topic) dup m first down b h
+  sent-in-just phase dup m first down b h = down-just down b h
+
+  begun-by-just : (why : Option Why) (dup : Bool) (m : Moment) (first : Command) (down : Down) (b : Bridge) → J b → J (command.begun_by why dup m first down b)
+  begun-by-just (Some why) dup m first down b h = refusing-just why first down b h
+  begun-by-just None dup m first down b h = sent-in-just down.phase dup m first down b h
+
+  begun-just : (queue : List Command) (dup : Bool) (m : Moment) (down : Down) (b : Bridge) → J b → J (command.begun queue dup m down b)
+  begun-just [] dup m down b h = down-just down b h
+  begun-just (first ∷ more) dup m down b h = begun-by-just (command.obstacle first) dup m first down b h
+
+  begun-at-just : (doing : Doing) (m : Moment) (b : Bridge) → J b → J (command.begun_at doing m b)
+  begun-at-just doings.Nothing m b h = begun-just b.down.queue false m b.down b h
+  begun-at-just doing m b h = h
+
+  begins-just : (m : Moment) (b : Bridge) → J b → J (command.begins m b)
+  begins-just m b h = begun-at-just b.down.doing m b h
+
+  done-with-just : (queue : List Command) (b : Bridge) → FirstMay May queue → J b → J (command.done_with queue b)
+  done-with-just [] b may h = down-just (record b.down { doing = doings.Nothing; tries = 0 }) b h
+  done-with-just (first ∷ more) b may h =
+      let rest : Down = record b.down { doing = doings.Nothing; tries = 0; queue = more } in
+      told-just first.id (command.put_down rest b) may (down-just rest b h)
+
+  done-just : (m : Moment) (b : Bridge) → FirstMay May b.down.queue → J b → J (command.done m b)
+  done-just m b may h = begins-just m (command.done_with b.down.queue b) (done-with-just b.down.queue b may h)
+
+  later-just : (m : Moment) (b : Bridge) → J b → J (command.later m b)
+  later-just m b h = h
+
+  answered-first-just : (queue : List Command) (code : ℕ) (m : Moment) (b : Bridge) → (code ≡ 0 → FirstMay May b.down.queue) → J b → J (command.answered_first queue code m b)
+  answered-first-just [] code m b may h = h
+  answered-first-just (first ∷ more) code m b may h =
+      let again : Bridge = command.registering m first (record b.down { ids = []; tries = 0 }) b in
+      let none : Bridge = command.refusing whys.Gateway first b.down b in
+      choose-by (code == 0) (command.done m b) (if code == 1 then command.later m b else (if code == 2 then again else none))
+      (λ e. done-just m b (may (eqb-true code 0 e)) h)
+      (choose (code == 1) (command.later m b) (if code == 2 then again else none) (later-just m b h)
+      (choose (code == 2) again none
+      (registering-just m first (record b.down { ids = []; tries = 0 }) b h) (refusing-just whys.Gateway first b.down b h)))
+
+  named-first-just : (queue : List Command) (topic_id code : ℕ) (m : Moment) (b : Bridge) → J b → J (command.named_first queue topic_id code m b)
+  named-first-just [] topic_id code m b h = h
+  named-first-just (first ∷ more) topic_id code m b h =
+      let named : Bridge = command.named topic_id first b in
+      let none : Bridge = command.refusing whys.Gateway first b.down b in
+      choose (code == 0) (command.publishing false false topic_id m first named.down named) (if code == 1 then command.later m b else none)
+      (publishing-just false false topic_id m first named.down named (h))
+      (choose (code == 1) (command.later m b) none (later-just m b h) (refusing-just whys.Gateway first b.down b h))
+
+  heard-just : (m : Moment) (b : Bridge) → J b → J (command.heard m b)
+  heard-just m b h = h
+
+  acked-at-just : (doing : Doing) (msg_id code : ℕ) (m : Moment) (b : Bridge)
+      → (doing ≡ doings.Publishing → msg_id ≡ b.down.msg_id → code ≡ 0 → FirstMay May b.down.queue) → J b → J (command.acked_at doing msg_id code m b)
+  acked-at-just doings.Publishing msg_id code m b may h =
+      choose-by (msg_id == b.down.msg_id) (command.answered_first b.down.queue code m b) b
+      (λ e. answered-first-just b.down.queue code m b (may refl (eqb-true msg_id b.down.msg_id e)) h) h
+  acked-at-just doing msg_id code m b may h = heard-just m b h
+
+  down-named-just : (doing : Doing) (topic_id msg_id code : ℕ) (m : Moment) (b : Bridge) → J b → J (command.named_at doing topic_id msg_id code m b)
+  down-named-just doings.Registering topic_id msg_id code m b h =
+      choose (msg_id == b.down.msg_id) (command.named_first b.down.queue topic_id code m b) b (named-first-just b.down.queue topic_id code m b h) h
+  down-named-just doing topic_id msg_id code m b h = heard-just m b h
+
+  listening-just : (m : Moment) (frame : Frame) (b : Bridge) → FrameMay May frame b → J b → J (command.listening_frame m frame b)
+  listening-just m (frames.PubAck topic_id msg_id code) b may h = acked-at-just b.down.doing msg_id code m b may h
+  listening-just m (frames.RegAck topic_id msg_id code) b may h = down-named-just b.down.doing topic_id msg_id code m b h
+  listening-just m (frames.Disconnect duration) b may h = away-just m b.down b h
+  listening-just m frame b may h = heard-just m b h
+
+  down-connected-just : (m : Moment) (frame : Frame) (b : Bridge) → J b → J (command.connected m frame b)
+  down-connected-just m (frames.ConnAck code) b h =
+      let up : Bridge = command.put_down (record b.down { phase = phases.Listening; tries = 0; due = m.ping; doing = command.unfinished b.down.doing }) b in
+      choose (code == 0) (command.begins m up) b (begins-just m up (h)) h
+  down-connected-just m frame b h = h
+
+  down-frame-in-just : (phase : Phase) (m : Moment) (frame : Frame) (b : Bridge) → FrameMay May frame b → J b → J (command.frame_in phase m frame b)
+  down-frame-in-just phases.Connecting m frame b may h = down-connected-just m frame b h
+  down-frame-in-just phases.Listening m frame b may h = listening-just m frame b may h
+  down-frame-in-just phase m frame b may h = h
+
+  down-again-at-just : (doing : Doing) (m : Moment) (b : Bridge) → J b → J (command.again_at doing m b)
+  down-again-at-just doings.Publishing m b h = begun-just b.down.queue true m b.down b h
+  down-again-at-just doings.Registering m b h = begun-just b.down.queue false m b.down b h
+  down-again-at-just doing m b h =
+      says-down-just (frames.PingReq []) (record b.down { tries = once_more b.down.tries; due = m.retry }) b h
+
+  down-again-just : (phase : Phase) (client : List ℕ) (m : Moment) (b : Bridge) → J b → J (command.again phase client m b)
+  down-again-just phases.Listening client m b h = down-again-at-just b.down.doing m b h
+  down-again-just phase client m b h =
+      says-down-just (frames.Connect (record { bits = 4 }) 1 KEEP_ALIVE client)
+      (record b.down { phase = phases.Connecting; tries = once_more b.down.tries; due = m.retry; ids = [] }) b h
+
+  down-tick-just : (client : List ℕ) (m : Moment) (b : Bridge) → J b → J (command.down_tick client m b)
+  down-tick-just client m b h =
+      choose (nat_lt m.at b.down.due) b (if nat_le TRIES b.down.tries then command.gives_up m b else command.again b.down.phase client m b) h
+      (choose (nat_le TRIES b.down.tries) (command.gives_up m b) (command.again b.down.phase client m b)
+      (does-just actions.NextCommands (command.away m b.down b) tt tt (away-just m b.down b h)) (down-again-just b.down.phase client m b h))
+
+  line-just : (doing : Doing) (line : ℕ) (m : Moment) (b : Bridge) → (doing ≡ doings.Refusing line → FirstMay May b.down.queue) → J b → J (command.kept_at doing line m b)
+  line-just (doings.Refusing own) line m b may h =
+      choose-by (own == line) (command.done m b) b (λ e. done-just m b (may (ap doings.Refusing (eqb-true own line e))) h) h
+  line-just doing line m b may h = h
+
+  -- ---- the whole
+
+  lane-does-just : (own : Option LaneSettings) (x : Option Lane) (place : ℕ) (f : LaneSettings → Lane → Bridge → Bridge) (b : Bridge)
+      → IfThere (LaneJust Good Own place) x → ((own : LaneSettings) (x : Lane) → L place x → J (f own x b)) → J b → J (whole.lane_does own x f b)
+  lane-does-just None x place f b p k h = h
+  lane-does-just (Some own) None place f b p k h = h
+  lane-does-just (Some own) (Some x) place f b p k h = k own x p
+
+  at-lane-just : (settings : Settings) (place : ℕ) (f : LaneSettings → Lane → Bridge → Bridge) (b : Bridge)
+      → ((own : LaneSettings) (x : Lane) → L place x → J (f own x b)) → J b → J (whole.at_lane settings place f b)
+  at-lane-just settings place f b k h =
+      lane-does-just (slice_get settings.lanes place) (slice_get b.lanes place) place f b (walked.there place b.lanes b.out b.waiting b.flight b.number h) k h
+
+  lanes-along-just : (owns : List LaneSettings) (place : ℕ) (settings : Settings) (f : ℕ → LaneSettings → Lane → Bridge → Bridge) (b : Bridge)
+      → ((place : ℕ) (own : LaneSettings) (x : Lane) (b : Bridge) → L place x → J b → J (f place own x b)) → J b → J (whole.lanes_along owns place settings f b)
+  lanes-along-just [] place settings f b k h = h
+  lanes-along-just (own ∷ more) place settings f b k h =
+      lanes-along-just more (place + 1) settings f (whole.at_lane settings place (f place) b) k
+      (at-lane-just settings place (f place) b (λ own x p. k place own x b p h) h)
+
+  each-lane-just : (settings : Settings) (f : ℕ → LaneSettings → Lane → Bridge → Bridge) (b : Bridge)
+      → ((place : ℕ) (own : LaneSettings) (x : Lane) (b : Bridge) → L place x → J b → J (f place own x b)) → J b → J (whole.each_lane settings f b)
+  each-lane-just settings f b k h = lanes-along-just settings.lanes 0 settings f b k h
+
+  sends-at-just : (side : Side) (settings : Settings) (b : Bridge) → J b → J (whole.sends_at side settings b)
+  sends-at-just sides.Up settings b h = sends-just settings b h
+  sends-at-just side settings b h = h
+
+  up-just : (settings : Settings) (m : Moment) (b : Bridge) → J b → J (whole.up settings m b)
+  up-just settings m b h =
+      let begun : Bridge = record b { side = sides.Up; due = m.ping; tries = 0 } in
+      let here : Bridge = whole.says_here settings begun in
+      let said : J here =
+      does-just (actions.ToBroker (packets.Publish deliveries.Once true settings.state settings.here)) begun tt tt (h) in
+      each-lane-just settings (λ place. lane.wakes place m) (sends settings (all_again here)) (λ place own x b p h. wakes-in-just x.phase own place m x b h)
+      (sends-just settings (all_again here) (all-again-just here said))
+
+  subscribe-at-just : (entry : Option DownFilter) (settings : Settings) (next : ℕ) (m : Moment) (b : Bridge) → J b → J (whole.subscribing_at entry settings next m b)
+  subscribe-at-just None settings next m b h = up-just settings m b h
+  subscribe-at-just (Some entry) settings next m b h =
+      let id : ℕ = free_id b.packet_id b.flight in
+      does-just (actions.ToBroker (packets.Subscribe id entry.filter levels.One))
+      (record b { side = sides.Subscribing next; due = m.retry; packet_id = next_id id }) tt tt (h)
+
+  subscribe-just : (settings : Settings) (next : ℕ) (m : Moment) (b : Bridge) → J b → J (whole.subscribing settings next m b)
+  subscribe-just settings next m b h = subscribe-at-just (slice_get settings.downs next) settings next m b h
+
+  lost-just : (settings : Settings) (due : ℕ) (b : Bridge) → J b → J (whole.lost settings due b)
+  lost-just settings due b h =
+      each-lane-just settings (λ place. lane.falls_asleep place) (whole.ended due b) (λ place own x b p h. asleep-in-just x.phase place x b p h)
+      (h)
+
+  hangs-up-just : (settings : Settings) (due : ℕ) (b : Bridge) → J b → J (whole.hangs_up settings due b)
+  hangs-up-just settings due b h = does-just actions.HangUp (whole.lost settings due b) tt tt (lost-just settings due b h)
+
+  welcomed-at-just : (session : Bool) (settings : Settings) (m : Moment) (b : Bridge) → J b → J (whole.welcomed_at session settings m b)
+  welcomed-at-just true settings m b h = up-just settings m b h
+  welcomed-at-just false settings m b h = subscribe-just settings 0 m b h
+
+  answered-just : (item : Option Item) (settings : Settings) (id : ℕ) (b : Bridge) → ItemGood Good item → ItemGood Good (acknowledged id b.flight) → J b → J (whole.answered item settings id b)
+  answered-just None settings id b good taken h = walked.left id b.lanes b.out b.waiting b.flight b.number taken h
+  answered-just (Some item) settings id b good taken h =
+      let rest : Bridge = record b { flight = left_in_flight id b.flight } in
+      let left : J rest = walked.left id b.lanes b.out b.waiting b.flight b.number taken h in
+      let answered : Bridge = whole.at_lane settings item.lane (lane.answers item.number item.lane) rest in
+      let told : J answered =
+      at-lane-just settings item.lane (lane.answers item.number item.lane) rest
+      (λ own x p. answers-held-just x.last item.number item.lane x rest p good left) left in
+      sends-at-just answered.side settings answered told
+
+  up-packet-just : (settings : Settings) (m : Moment) (packet : Packet) (b : Bridge) → PacketGood Good May packet b → J b → J (whole.up_packet settings m packet b)
+  up-packet-just settings m (packets.PubAck id) b good h = answered-just (acknowledged id b.flight) settings id b good good h
+  up-packet-just settings m (packets.Publish delivery retain topic body) b good h =
+      begins-just m (command.commanded settings.downs (whole.id_in delivery) retain topic body b) (commanded-just settings.downs (whole.id_in delivery) retain topic body b good h)
+  up-packet-just settings m packet b good h = h
+
+  named-just : (granted : Bool) (settings : Settings) (next : ℕ) (m : Moment) (b : Bridge) → J b → J (whole.named_at granted settings next m b)
+  named-just true settings next m b h = subscribe-just settings (next + 1) m b h
+  named-just false settings next m b h = hangs-up-just settings m.minute b h
+
+  naming-packet-just : (settings : Settings) (next : ℕ) (m : Moment) (packet : Packet) (b : Bridge) → PacketGood Good May packet b → J b → J (whole.naming_packet settings next m packet b)
+  naming-packet-just settings next m (packets.SubAck id granted) b good h =
+      choose ((next_id id == b.packet_id) && nat_lt next LAST_NUMBER) (whole.named_at (is_some granted) settings next m b) b (named-just (is_some granted) settings next m b h) h
+  naming-packet-just settings next m packet b good h = up-packet-just settings m packet b good h
+
+  new-packet-just : (settings : Settings) (m : Moment) (packet : Packet) (b : Bridge) → J b → J (whole.new_packet settings m packet b)
+  new-packet-just settings m (packets.ConnAck session code) b h =
+      choose (code == 0) (whole.welcomed_at session settings m b) (whole.hangs_up settings m.minute b)
+      (welcomed-at-just session settings m b h) (hangs-up-just settings m.minute b h)
+  new-packet-just settings m packet b h = hangs-up-just settings m.retry b h
+
+  -- being heard changes neither what is in flight nor the lanes
+  heard-packet : (c : Bool) (packet : Packet) (x y : Bridge) → PacketGood Good May packet x → PacketGood Good May packet y → PacketGood Good May packet (if c then x else y)
+  heard-packet true packet x y p q = p
+  heard-packet false packet x y p q = q
+
+  same-packet : (packet : Packet) (b : Bridge) (m : Moment) → PacketGood Good May packet b → PacketGood Good May packet (record b { tries = 0; due = m.ping })
+  same-packet (packets.PubAck id) b m good = good
+  same-packet (packets.Publish delivery retain topic body) b m good = good
+  same-packet packet b m good = tt
+
+  packet-in-just : (side : Side) (settings : Settings) (m : Moment) (packet : Packet) (b : Bridge) → PacketGood Good May packet b → J b → J (whole.packet_in side settings m packet b)
+  packet-in-just sides.Closed settings m packet b good h = h
+  packet-in-just sides.Connecting settings m packet b good h = new-packet-just settings m packet b h
+  packet-in-just (sides.Subscribing next) settings m packet b good h = naming-packet-just settings next m packet b good h
+  packet-in-just sides.Up settings m packet b good h =
+      up-packet-just settings m packet (whole.heard m b)
+      (heard-packet (b.tries == 0) packet b (record b { tries = 0; due = m.ping }) good (same-packet packet b m good))
+      (choose (b.tries == 0) b (record b { tries = 0; due = m.ping }) h (h))
+
+  side-due-just : (side : Side) (settings : Settings) (m : Moment) (b : Bridge) → J b → J (whole.side_due side settings m b)
+  side-due-just sides.Closed settings m b h = does-just actions.Dial (record b { due = m.retry }) tt tt (h)
+  side-due-just sides.Up settings m b h =
+      let asked : Bridge = record b { tries = 1; due = m.retry } in
+      choose (b.tries == 0) (does (actions.ToBroker packets.PingReq) asked) (whole.hangs_up settings m.soon b)
+      (does-just (actions.ToBroker packets.PingReq) asked tt tt (h)) (hangs-up-just settings m.soon b h)
+  side-due-just side settings m b h = hangs-up-just settings m.soon b h
+
+  side-tick-just : (settings : Settings) (m : Moment) (b : Bridge) → J b → J (whole.side_tick settings m b)
+  side-tick-just settings m b h = choose (nat_lt m.at b.due) b (whole.side_due b.side settings m b) h (side-due-just b.side settings m b h)
+
+  ticks-just : (settings : Settings) (m : Moment) (b : Bridge) → J b → J (whole.ticks settings m b)
+  ticks-just settings m b h =
+      let lanes : Bridge = whole.each_lane settings (λ place. lane.lane_tick place m) b in
+      side-tick-just settings m (command.down_tick settings.commands m lanes) (down-tick-just settings.commands m lanes
+      (each-lane-just settings (λ place. lane.lane_tick place m) b (λ place own x b p h. lane-tick-just place m own x b p h) h))
+
+  pub event-walked : (settings : Settings) (event : Event) (m : Moment) (b : Bridge) → Reasons Good Own May event b → J b → J (whole.event_step settings event m b)
+  event-walked settings (events.Field place frame) m b why h =
+      at-lane-just settings place (lane.lane_frame settings place m frame) b
+      (λ own x p. frame-in-just x.phase settings own place m frame x b why p h) h
+  event-walked settings (events.Commands frame) m b why h = down-frame-in-just b.down.phase m frame b why h
+  event-walked settings (events.Broker packet) m b why h = packet-in-just b.side settings m packet b why h
+  event-walked settings events.BrokerOpen m b why h =
+      does-just (actions.ToBroker (packets.Connect false BROKER_KEEP_ALIVE settings.client settings.will settings.login))
+      (record b { side = sides.Connecting; due = m.retry; tries = 0 }) tt tt (h)
+  event-walked settings events.BrokerLost m b why h = lost-just settings m.soon b h
+  event-walked settings (events.Kept line) m b why h = line-just b.down.doing line m b why h
+  event-walked settings events.Tick m b why h = ticks-just settings m b h

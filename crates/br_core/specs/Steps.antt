@@ -1,0 +1,211 @@
+-- The step of the whole bridge.
+use Rattle.std.specs.Prelude.{ℕ, ◌+◌, ◌==◌, ◌&&◌, Bool, true, false, nat_lt, if◌then◌else◌, List, [], ◌∷◌, slice_get, is_some, Option, Some, None}
+use Rattle.mq_packet.specs.declared.packet.Delivery.{Delivery}
+use Rattle.mq_packet.specs.declared.packet.Delivery.TheVariants as deliveries
+use Rattle.mq_packet.specs.declared.packet.Packet.{Packet}
+use Rattle.mq_packet.specs.declared.packet.Packet.TheVariants as packets
+use Rattle.mq_packet.specs.declared.packet.Qos.TheVariants as levels
+use Rattle.br_core.specs.declared.action.Action.TheVariants as actions
+use Rattle.br_core.specs.declared.event.Event.{Event}
+use Rattle.br_core.specs.declared.event.Event.TheVariants as events
+use Rattle.br_core.specs.declared.item.Item.{Item}
+use Rattle.br_core.specs.declared.settings.DownFilter.{DownFilter}
+use Rattle.br_core.specs.declared.settings.LaneSettings.{LaneSettings}
+use Rattle.br_core.specs.declared.settings.Settings.{Settings}
+use Rattle.br_core.specs.declared.state.Bridge.{Bridge}
+use Rattle.br_core.specs.declared.state.Doing.TheVariants as doings
+use Rattle.br_core.specs.declared.state.Lane.{Lane}
+use Rattle.br_core.specs.declared.state.Moment.{Moment}
+use Rattle.br_core.specs.declared.state.Side.{Side}
+use Rattle.br_core.specs.declared.state.Side.TheVariants as sides
+use Rattle.br_core.specs.declared.state.TheConstants.{BROKER_KEEP_ALIVE, LAST_NUMBER}
+use Rattle.br_core.specs.Commands.{begins, commanded, down_frame, down_tick, kept}
+use Rattle.br_core.specs.Lanes.{answers, falls_asleep, lane_frame, lane_tick, wakes}
+use Rattle.br_core.specs.Sides.{acknowledged, all_again, does, free_id, left_in_flight, next_id, sends}
+
+-- what one lane does, if there is such a lane
+abbrev pub lane_does : Option LaneSettings → Option Lane → (LaneSettings → Lane → Bridge → Bridge) → Bridge → Bridge
+lane_does None lane f bridge = bridge
+lane_does (Some own) None f bridge = bridge
+lane_does (Some own) (Some lane) f bridge = f own lane bridge
+
+abbrev pub at_lane : Settings → ℕ → (LaneSettings → Lane → Bridge → Bridge) → Bridge → Bridge
+at_lane settings place f bridge =
+    lane_does (slice_get settings.lanes place) (slice_get bridge.lanes place) f bridge
+
+-- these lanes, from a place on, do the same
+abbrev pub lanes_along : List LaneSettings → ℕ → Settings → (ℕ → LaneSettings → Lane → Bridge → Bridge) → Bridge → Bridge
+lanes_along [] place settings f bridge = bridge
+lanes_along (own ∷ more) place settings f bridge =
+    lanes_along more (place + 1) settings f (at_lane settings place (f place) bridge)
+
+abbrev pub each_lane : Settings → (ℕ → LaneSettings → Lane → Bridge → Bridge) → Bridge → Bridge
+each_lane settings f bridge = lanes_along settings.lanes 0 settings f bridge
+
+-- what waits is sent, if the broker is there
+abbrev pub sends_at : Side → Settings → Bridge → Bridge
+sends_at sides.Up settings bridge = sends settings bridge
+sends_at side settings bridge = bridge
+
+abbrev pub sends_all : Settings → Bridge → Bridge
+sends_all settings bridge = sends_at bridge.side settings bridge
+
+-- the broker's topic tells that the bridge is there
+abbrev pub says_here : Settings → Bridge → Bridge
+says_here settings bridge =
+    does (actions.ToBroker (packets.Publish deliveries.Once true settings.state settings.here)) bridge
+
+-- The broker is there: what is in flight goes out again, what waits is sent, lanes wake.
+abbrev pub up : Settings → Moment → Bridge → Bridge
+up settings m bridge =
+    each_lane settings (λ place. wakes place m)
+    (sends settings (all_again (says_here settings
+    (record bridge { side = sides.Up; due = m.ping; tries = 0 }))))
+
+-- the filter of this number is subscribed to; after the last one publications go both ways
+abbrev pub subscribe_under : ℕ → List ℕ → ℕ → Moment → Bridge → Bridge
+subscribe_under id filter next m bridge =
+    does (actions.ToBroker (packets.Subscribe id filter levels.One))
+    (record bridge { side = sides.Subscribing next; due = m.retry; packet_id = next_id id })
+
+abbrev pub subscribing_at : Option DownFilter → Settings → ℕ → Moment → Bridge → Bridge
+subscribing_at None settings next m bridge = up settings m bridge
+subscribing_at (Some entry) settings next m bridge =
+    subscribe_under (free_id bridge.packet_id bridge.flight) entry.filter next m bridge
+
+abbrev pub subscribing : Settings → ℕ → Moment → Bridge → Bridge
+subscribing settings next m bridge =
+    subscribing_at (slice_get settings.downs next) settings next m bridge
+
+-- the connection ends: what is in flight stays so, and what the broker sent comes again from it
+abbrev pub ended : ℕ → Bridge → Bridge
+ended due bridge =
+    record bridge {
+      side = sides.Closed;
+      due = due;
+      tries = 0;
+      down = record bridge.down { queue = []; doing = doings.Nothing };
+    }
+
+-- lanes fall asleep, since they may not acknowledge
+abbrev pub lost : Settings → ℕ → Bridge → Bridge
+lost settings due bridge =
+    each_lane settings (λ place. falls_asleep place) (ended due bridge)
+
+-- the connection is ended by the bridge, and dialled again when it is due
+abbrev pub hangs_up : Settings → ℕ → Bridge → Bridge
+hangs_up settings due bridge = does actions.HangUp (lost settings due bridge)
+
+-- CONNACK: the broker knows the session, or the filters are subscribed to; or it does not want us,
+-- and is asked again in a minute
+abbrev pub welcomed_at : Bool → Settings → Moment → Bridge → Bridge
+welcomed_at true settings m bridge = up settings m bridge
+welcomed_at false settings m bridge = subscribing settings 0 m bridge
+
+abbrev pub welcomed : Settings → Bool → ℕ → Moment → Bridge → Bridge
+welcomed settings session code m bridge =
+    if code == 0 then welcomed_at session settings m bridge else hangs_up settings m.minute bridge
+
+-- the broker has acknowledged a reading: its lane may, and what waits is sent; of another packet id
+-- nothing is in flight
+abbrev pub answered : Option Item → Settings → ℕ → Bridge → Bridge
+answered None settings id bridge = record bridge { flight = left_in_flight id bridge.flight }
+answered (Some item) settings id bridge =
+    sends_all settings (at_lane settings item.lane (answers item.number item.lane)
+    (record bridge { flight = left_in_flight id bridge.flight }))
+
+abbrev pub broker_acked : Settings → ℕ → Bridge → Bridge
+broker_acked settings id bridge = answered (acknowledged id bridge.flight) settings id bridge
+
+-- a publication of the broker is a command; without a packet id it wants no acknowledgement
+abbrev pub id_in : Delivery → ℕ
+id_in deliveries.Once = 0
+id_in (deliveries.Acknowledged id dup) = id
+
+abbrev pub publication : Settings → Delivery → Bool → List ℕ → List ℕ → Moment → Bridge → Bridge
+publication settings delivery retain topic body m bridge =
+    begins m (commanded settings.downs (id_in delivery) retain topic body bridge)
+
+-- a packet of the broker while publications go both ways
+abbrev pub up_packet : Settings → Moment → Packet → Bridge → Bridge
+up_packet settings m (packets.PubAck id) bridge = broker_acked settings id bridge
+up_packet settings m (packets.Publish delivery retain topic body) bridge =
+    publication settings delivery retain topic body m bridge
+up_packet settings m packet bridge = bridge
+
+-- SUBACK of the filter: the next one; a filter that is not granted ends the connection
+abbrev pub named_at : Bool → Settings → ℕ → Moment → Bridge → Bridge
+named_at true settings next m bridge = subscribing settings (next + 1) m bridge
+named_at false settings next m bridge = hangs_up settings m.minute bridge
+
+abbrev pub naming_packet : Settings → ℕ → Moment → Packet → Bridge → Bridge
+naming_packet settings next m (packets.SubAck id granted) bridge =
+    if (next_id id == bridge.packet_id) && nat_lt next LAST_NUMBER
+    then named_at (is_some granted) settings next m bridge
+    else bridge
+naming_packet settings next m packet bridge = up_packet settings m packet bridge
+
+-- the first packet is a CONNACK
+abbrev pub new_packet : Settings → Moment → Packet → Bridge → Bridge
+new_packet settings m (packets.ConnAck session code) bridge =
+    welcomed settings session code m bridge
+new_packet settings m packet bridge = hangs_up settings m.retry bridge
+
+-- what comes shows that the broker is there: the next sign of life is due later, if one was asked
+-- for
+abbrev pub heard : Moment → Bridge → Bridge
+heard m bridge = if bridge.tries == 0 then bridge else record bridge { tries = 0; due = m.ping }
+
+-- a packet of the broker, by how far the connection is
+abbrev pub packet_in : Side → Settings → Moment → Packet → Bridge → Bridge
+packet_in sides.Closed settings m packet bridge = bridge
+packet_in sides.Connecting settings m packet bridge = new_packet settings m packet bridge
+packet_in (sides.Subscribing next) settings m packet bridge =
+    naming_packet settings next m packet bridge
+packet_in sides.Up settings m packet bridge = up_packet settings m packet (heard m bridge)
+
+-- the connection is there: CONNECT, and the broker keeps the session
+abbrev pub opened : Settings → Moment → Bridge → Bridge
+opened settings m bridge =
+    does (actions.ToBroker (packets.Connect false BROKER_KEEP_ALIVE settings.client settings.will settings.login))
+    (record bridge { side = sides.Connecting; due = m.retry; tries = 0 })
+
+-- time goes by for the broker's side: it is dialled, asked whether it is there, or given up
+abbrev pub asks_broker : Settings → Moment → Bridge → Bridge
+asks_broker settings m bridge =
+    if bridge.tries == 0
+    then does (actions.ToBroker packets.PingReq) (record bridge { tries = 1; due = m.retry })
+    else hangs_up settings m.soon bridge
+
+abbrev pub side_due : Side → Settings → Moment → Bridge → Bridge
+side_due sides.Closed settings m bridge = does actions.Dial (record bridge { due = m.retry })
+side_due sides.Up settings m bridge = asks_broker settings m bridge
+side_due side settings m bridge = hangs_up settings m.soon bridge
+
+abbrev pub side_tick : Settings → Moment → Bridge → Bridge
+side_tick settings m bridge =
+    if nat_lt m.at bridge.due then bridge else side_due bridge.side settings m bridge
+
+abbrev pub ticks : Settings → Moment → Bridge → Bridge
+ticks settings m bridge =
+    side_tick settings m (down_tick settings.commands m
+    (each_lane settings (λ place. lane_tick place m) bridge))
+
+-- what an event makes of the bridge, and adds to what is to be done
+abbrev pub event_step : Settings → Event → Moment → Bridge → Bridge
+event_step settings (events.Field place frame) m bridge =
+    at_lane settings place (lane_frame settings place m frame) bridge
+event_step settings (events.Commands frame) m bridge = down_frame m frame bridge
+event_step settings (events.Broker packet) m bridge =
+    packet_in bridge.side settings m packet bridge
+event_step settings events.BrokerOpen m bridge = opened settings m bridge
+event_step settings events.BrokerLost m bridge = lost settings m.soon bridge
+event_step settings (events.Kept line) m bridge = kept line m bridge
+event_step settings events.Tick m bridge = ticks settings m bridge
+
+-- the step of an event: nothing is left to be done of the step before
+abbrev pub emptied : Bridge → Bridge
+emptied bridge = record bridge { out = [] }
+
+abbrev pub step : Settings → Event → Moment → Bridge → Bridge
+step settings event m bridge = event_step settings event m (emptied bridge)
