@@ -26,6 +26,7 @@ import time
 from gateway import HOST, Failed, Gateway, connect, expect, frame, free_ports, number, opened, published, register, subscribe, until, with_the_starter
 
 SAVED = 3.0  # seconds after which mosquitto has surely saved what it acknowledged
+SUBACK = b"\x90\x03\x00\x01\x01"  # the answer to the only filter of a scene
 AHEAD = 100  # messages of a name that may be on their way while programs are killed
 
 
@@ -504,8 +505,11 @@ def away(bridge: str, sngw: str, broker: tuple, folder: str, _words) -> str:
 
 
 def refused(bridge: str, sngw: str, broker: tuple, folder: str, _words) -> str:
-    """What no side will have is in the file, and the next command comes."""
-    with Scene(bridge, sngw, broker, folder) as scene:
+    """What no side will have is in the file, behind half a line that a crash left, and the next command comes."""
+    scene = Scene(bridge, sngw, broker, folder)
+    with open(scene.refused, "w", encoding="ascii") as it:
+        it.write("1790000000 1 si")
+    with scene:
         writer, actor = Peer(scene.broker_port, b"writer"), Node(scene.gateway, b"actor")
         actor.connect()
         actor.listen(b"act/lamp")
@@ -518,7 +522,8 @@ def refused(bridge: str, sngw: str, broker: tuple, folder: str, _words) -> str:
         writer.publish(b"cmd/1/act/lamp", b"7")
         until(lambda: 7 in [int(body) for _, body, _ in actor.came if body.isdigit()], 30, "the command after those did not come")
         with open(scene.refused, encoding="ascii") as it:
-            lines = [line.split() for line in it]
+            half, *lines = [line.split() for line in it]
+        expect(half == ["1790000000", "1", "si"], f"the first line is {half}")
         expect([line[2] for line in lines] == ["size", "topic", "size"], f"the lines are {[line[2] for line in lines]}")
         expect(bytes.fromhex(lines[1][3]) == b"cmd/1/act/" + 300 * b"n", "the second line has another topic")
         is_over.append(True)
@@ -553,7 +558,7 @@ def silent(bridge: str, sngw: str, _broker: tuple, folder: str, _words) -> str:
     with Scene(bridge, sngw, None, folder) as scene:
         with socket.create_server((HOST, scene.broker_port)) as server:
             server.settimeout(40)
-            for said in (b"", b"\x20\x02\x01\x00"):
+            for said in (b"", b"\x20\x02\x01\x00" + SUBACK):
                 line, _ = server.accept()
                 with line:
                     line.sendall(said)
@@ -580,7 +585,7 @@ def strange(bridge: str, sngw: str, _broker: tuple, folder: str, words) -> str:
             field.settimeout(15)
             server.settimeout(15)
             line, _ = server.accept()
-            line.sendall(b"\x20\x02\x01\x00")
+            line.sendall(b"\x20\x02\x01\x00" + SUBACK)
             kinds = [0x05, 0x0A, 0x0B, 0x0C, 0x0D, 0x13, 0x17, 0x18]
             with line:
                 line.setblocking(False)

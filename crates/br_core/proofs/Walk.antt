@@ -1,8 +1,8 @@
 -- What holds of lanes, of what is to be done, of what waits and of what is in flight, and is kept by
 -- each small change, holds after each step; whatever makes a reading good, a lane's own, and a
 -- publication one of which the broker may be told, if the event gives reasons for these.
-use Rattle.std.proofs.Common.{◌≡◌, ◌==◌, ◌+◌, ℕ, zero, suc, Bool, true, false, ◌&&◌, not, ◌||◌, if◌then◌else◌, List, [], ◌∷◌, ◌++◌, length, fold, Option, Some, None, refl, sym, ap, subst, arith, eqb-true}
-use Rattle.std.specs.Prelude.{is_some, nat_lt, nat_le, slice_get, slice_set}
+use Rattle.std.proofs.Common.{◌≡◌, ◌==◌, ◌+◌, ℕ, zero, suc, Bool, true, false, ◌&&◌, not, if◌then◌else◌, List, [], ◌∷◌, ◌++◌, length, fold, Option, Some, None, refl, sym, ap, subst, arith, eqb-true}
+use Rattle.std.specs.Prelude.{nat_lt, nat_le, slice_get, slice_set}
 use Rattle.std.specs.List.{AllByRecursion}
 use Rattle.std.specs.Str.{bytes_eq}
 use Rattle.std.proofs.lemmas.Bool.{and_parts}
@@ -42,7 +42,7 @@ use Rattle.br_core.specs.declared.state.Phase.{Phase}
 use Rattle.br_core.specs.declared.state.Phase.TheVariants as phases
 use Rattle.br_core.specs.declared.state.Side.{Side}
 use Rattle.br_core.specs.declared.state.Side.TheVariants as sides
-use Rattle.br_core.specs.declared.state.TheConstants.{BROKER_KEEP_ALIVE, KEEP_ALIVE, LAST_NUMBER, MAX_COMMANDS, MAX_NAMES, SLEEP, TRIES}
+use Rattle.br_core.specs.declared.state.TheConstants.{BROKER_KEEP_ALIVE, KEEP_ALIVE, LAST_NUMBER, MAX_NAMES, SLEEP, TRIES}
 use Rattle.br_core.specs.Sides.{acknowledged, all_again, at_once, does, free_id, has_window, in_flight, kept_at, left_in_flight, next_id, offered, once_more, out_again, sends, sent_at, sent_under, takes, takes_at, waits}
 use Rattle.br_core.specs.Lanes as lane
 use Rattle.br_core.specs.Commands as command
@@ -446,10 +446,16 @@ module _ (Good : ℕ → Type 0) (Own : ℕ → ℕ → ℕ → Type 0) (May : �
       choose-by (retain && not entry.retained) (command.told id b) (command.queued id topic (command.stripped entry.strip topic) body b)
       (λ e. told-just id b (may (and_parts retain (not entry.retained) e).0) h) (queued-just id topic (command.stripped entry.strip topic) body b h)
 
+  passed-over-just : (id : ℕ) (b : Bridge) → J b → J (command.passed_over id b)
+  passed-over-just id b h = choose (id == 0) b (command.put_down (record b.down { is_behind = true }) b) h h
+
   commanded-just : (downs : List DownFilter) (id : ℕ) (retain : Bool) (topic body : List ℕ) (b : Bridge) → (retain ≡ true → Tells May id) → J b → J (command.commanded downs id retain topic body b)
   commanded-just downs id retain topic body b may h =
-      choose (command.is_queued id b.down.queue || nat_le MAX_COMMANDS (length b.down.queue)) b (command.asked (command.filter_for topic downs) id retain topic body b) h
-      (asked-just (command.filter_for topic downs) id retain topic body b may h)
+      let over : Bridge = command.passed_over id b in
+      let asked : Bridge = command.asked (command.filter_for topic downs) id retain topic body b in
+      choose (command.is_queued id b.down.queue) b (if command.is_full b.down then over else asked) h
+      (choose (command.is_full b.down) over asked
+      (passed-over-just id b h) (asked-just (command.filter_for topic downs) id retain topic body b may h))
 
   away-just : (m : Moment) (down : Down) (b : Bridge) → J b → J (command.away m down b)
   away-just m down b h = h
@@ -514,13 +520,13 @@ module _ (Good : ℕ → Type 0) (Own : ℕ → ℕ → ℕ → Type 0) (May : �
   answered-first-just : (queue : List Command) (code : ℕ) (m : Moment) (b : Bridge) → (code ≡ 0 → FirstMay May b.down.queue) → J b → J (command.answered_first queue code m b)
   answered-first-just [] code m b may h = h
   answered-first-just (first ∷ more) code m b may h =
-      let again : Bridge = command.registering m first (record b.down { ids = []; tries = 0 }) b in
+      let again : Bridge = command.away m b.down b in
       let none : Bridge = command.refusing whys.Gateway first b.down b in
       choose-by (code == 0) (command.done m b) (if code == 1 then command.later m b else (if code == 2 then again else none))
       (λ e. done-just m b (may (eqb-true code 0 e)) h)
       (choose (code == 1) (command.later m b) (if code == 2 then again else none) (later-just m b h)
       (choose (code == 2) again none
-      (registering-just m first (record b.down { ids = []; tries = 0 }) b h) (refusing-just whys.Gateway first b.down b h)))
+      (away-just m b.down b h) (refusing-just whys.Gateway first b.down b h)))
 
   named-first-just : (queue : List Command) (topic_id code : ℕ) (m : Moment) (b : Bridge) → J b → J (command.named_first queue topic_id code m b)
   named-first-just [] topic_id code m b h = h
@@ -624,7 +630,7 @@ module _ (Good : ℕ → Type 0) (Own : ℕ → ℕ → ℕ → Type 0) (May : �
       (sends-just settings (all_again here) (all-again-just here said))
 
   subscribe-at-just : (entry : Option DownFilter) (settings : Settings) (next : ℕ) (m : Moment) (b : Bridge) → J b → J (whole.subscribing_at entry settings next m b)
-  subscribe-at-just None settings next m b h = up-just settings m b h
+  subscribe-at-just None settings next m b h = up-just settings m (record b { is_subscribed = true }) h
   subscribe-at-just (Some entry) settings next m b h =
       let id : ℕ = free_id b.packet_id b.flight in
       does-just (actions.ToBroker (packets.Subscribe id entry.filter levels.One))
@@ -643,7 +649,7 @@ module _ (Good : ℕ → Type 0) (Own : ℕ → ℕ → ℕ → Type 0) (May : �
 
   welcomed-at-just : (session : Bool) (settings : Settings) (m : Moment) (b : Bridge) → J b → J (whole.welcomed_at session settings m b)
   welcomed-at-just true settings m b h = up-just settings m b h
-  welcomed-at-just false settings m b h = subscribe-just settings 0 m b h
+  welcomed-at-just false settings m b h = subscribe-just settings 0 m (record b { is_subscribed = false }) h
 
   answered-just : (item : Option Item) (settings : Settings) (id : ℕ) (b : Bridge) → ItemGood Good item → ItemGood Good (acknowledged id b.flight) → J b → J (whole.answered item settings id b)
   answered-just None settings id b good taken h = walked.left id b.lanes b.out b.waiting b.flight b.number taken h
@@ -668,13 +674,13 @@ module _ (Good : ℕ → Type 0) (Own : ℕ → ℕ → ℕ → Type 0) (May : �
 
   naming-packet-just : (settings : Settings) (next : ℕ) (m : Moment) (packet : Packet) (b : Bridge) → PacketGood Good May packet b → J b → J (whole.naming_packet settings next m packet b)
   naming-packet-just settings next m (packets.SubAck id granted) b good h =
-      choose ((next_id id == b.packet_id) && nat_lt next LAST_NUMBER) (whole.named_at (is_some granted) settings next m b) b (named-just (is_some granted) settings next m b h) h
+      choose ((next_id id == b.packet_id) && nat_lt next LAST_NUMBER) (whole.named_at (whole.is_granted granted) settings next m b) b (named-just (whole.is_granted granted) settings next m b h) h
   naming-packet-just settings next m packet b good h = up-packet-just settings m packet b good h
 
   new-packet-just : (settings : Settings) (m : Moment) (packet : Packet) (b : Bridge) → J b → J (whole.new_packet settings m packet b)
   new-packet-just settings m (packets.ConnAck session code) b h =
-      choose (code == 0) (whole.welcomed_at session settings m b) (whole.hangs_up settings m.minute b)
-      (welcomed-at-just session settings m b h) (hangs-up-just settings m.minute b h)
+      choose (code == 0) (whole.welcomed_at (session && b.is_subscribed) settings m b) (whole.hangs_up settings m.minute b)
+      (welcomed-at-just (session && b.is_subscribed) settings m b h) (hangs-up-just settings m.minute b h)
   new-packet-just settings m packet b h = hangs-up-just settings m.retry b h
 
   -- being heard changes neither what is in flight nor the lanes
@@ -705,7 +711,10 @@ module _ (Good : ℕ → Type 0) (Own : ℕ → ℕ → ℕ → Type 0) (May : �
   side-due-just side settings m b h = hangs-up-just settings m.soon b h
 
   side-tick-just : (settings : Settings) (m : Moment) (b : Bridge) → J b → J (whole.side_tick settings m b)
-  side-tick-just settings m b h = choose (nat_lt m.at b.due) b (whole.side_due b.side settings m b) h (side-due-just b.side settings m b h)
+  side-tick-just settings m b h =
+      choose (whole.has_passed_over b.down) (whole.hangs_up settings m.soon b) (if nat_lt m.at b.due then b else whole.side_due b.side settings m b)
+      (hangs-up-just settings m.soon b h)
+      (choose (nat_lt m.at b.due) b (whole.side_due b.side settings m b) h (side-due-just b.side settings m b h))
 
   ticks-just : (settings : Settings) (m : Moment) (b : Bridge) → J b → J (whole.ticks settings m b)
   ticks-just settings m b h =

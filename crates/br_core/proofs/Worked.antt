@@ -42,15 +42,16 @@ plain = record { bits = 0 }
 abbrev once : Flags
 once = record { bits = 0x20 }
 
--- the broker is there and knows the session: the lane connects, subscribes and listens
+-- the broker is there and knows the session, but nothing says that all filters are in it: they are
+-- subscribed to; then the lane connects, subscribes and listens
 abbrev opening : List Come
 opening =
-    (events.BrokerOpen, 1) ∷ (events.Broker (packets.ConnAck true 0), 1)
+    (events.BrokerOpen, 1) ∷ (events.Broker (packets.ConnAck true 0), 1) ∷ (events.Broker (packets.SubAck 1 (Some levels.One)), 1)
     ∷ (events.Field 0 (frames.ConnAck 0), 2) ∷ (events.Field 0 (frames.SubAck once 5 1 0), 2) ∷ []
 
 opened : done_from small (begun small) opening
-    ≡ actions.ToBroker hello ∷ actions.ToBroker here ∷ actions.ToField 0 (frames.Connect plain 1 60 (codes "b1-u0"))
-    ∷ actions.ToField 0 (frames.Subscribe once 1 (codes "t/heat")) ∷ []
+    ≡ actions.ToBroker hello ∷ actions.ToBroker (packets.Subscribe 1 (codes "c/#") levels.One) ∷ actions.ToBroker here
+    ∷ actions.ToField 0 (frames.Connect plain 1 60 (codes "b1-u0")) ∷ actions.ToField 0 (frames.Subscribe once 1 (codes "t/heat")) ∷ []
 opened = refl
 
 -- a reading goes on, and is acknowledged once the broker has acknowledged it
@@ -58,11 +59,11 @@ abbrev ready : Bridge
 ready = after_from small (begun small) opening
 
 abbrev sent : Packet
-sent = packets.Publish (deliveries.Acknowledged 1 false) false (codes "f/t/heat") (codes "21")
+sent = packets.Publish (deliveries.Acknowledged 2 false) false (codes "f/t/heat") (codes "21")
 
 abbrev reading : List Come
 reading =
-    (events.Field 0 (frames.Publish once 5 9 (codes "21")), 3) ∷ (events.Broker (packets.PubAck 1), 4) ∷ []
+    (events.Field 0 (frames.Publish once 5 9 (codes "21")), 3) ∷ (events.Broker (packets.PubAck 2), 4) ∷ []
 
 read_on : done_from small ready reading
     ≡ actions.Reading 0 sent ∷ actions.ToField 0 (frames.PubAck 5 9 0) ∷ []
@@ -82,7 +83,8 @@ unknown : done_from small ready ((events.Field 0 (frames.Publish once 6 9 (codes
     ≡ actions.ToField 0 (frames.PubAck 6 9 2) ∷ []
 unknown = refl
 
--- the broker goes away while a reading is in flight: the lane sleeps; then the reading comes again under its id
+-- the broker goes away while a reading is in flight: the lane sleeps; then the reading comes again
+-- under its id, and filters that were subscribed to are not again
 abbrev away : List Come
 away = (events.Field 0 (frames.Publish once 5 9 (codes "21")), 3) ∷ (events.BrokerLost, 4) ∷ []
 
@@ -95,7 +97,7 @@ back = (events.BrokerOpen, 6) ∷ (events.Broker (packets.ConnAck true 0), 6) �
 
 back_again : done_from small (after_from small ready away) back
     ≡ actions.ToBroker hello ∷ actions.ToBroker here
-    ∷ actions.ToBroker (packets.Publish (deliveries.Acknowledged 1 true) false (codes "f/t/heat") (codes "21"))
+    ∷ actions.ToBroker (packets.Publish (deliveries.Acknowledged 2 true) false (codes "f/t/heat") (codes "21"))
     ∷ actions.ToField 0 (frames.Connect plain 1 60 (codes "b1-u0")) ∷ []
 back_again = refl
 
@@ -103,17 +105,17 @@ back_again = refl
 abbrev anew : List Come
 anew =
     (events.Field 0 (frames.ConnAck 0), 7) ∷ (events.Field 0 (frames.SubAck once 5 2 0), 7)
-    ∷ (events.Broker (packets.PubAck 1), 8) ∷ (events.Field 0 (frames.Publish once 5 9 (codes "21")), 9) ∷ []
+    ∷ (events.Broker (packets.PubAck 2), 8) ∷ (events.Field 0 (frames.Publish once 5 9 (codes "21")), 9) ∷ []
 
 brought_again : done_from small (after_from small (after_from small ready away) back) anew
     ≡ actions.ToField 0 (frames.Subscribe once 2 (codes "t/heat"))
-    ∷ actions.Reading 1 (packets.Publish (deliveries.Acknowledged 2 false) false (codes "f/t/heat") (codes "21")) ∷ []
+    ∷ actions.Reading 1 (packets.Publish (deliveries.Acknowledged 3 false) false (codes "f/t/heat") (codes "21")) ∷ []
 brought_again = refl
 
 -- while names are subscribed to, a topic that is no id is asked for again later: then it has its id
 abbrev connecting : List Come
 connecting =
-    (events.BrokerOpen, 1) ∷ (events.Broker (packets.ConnAck true 0), 1)
+    (events.BrokerOpen, 1) ∷ (events.Broker (packets.ConnAck true 0), 1) ∷ (events.Broker (packets.SubAck 1 (Some levels.One)), 1)
     ∷ (events.Field 0 (frames.ConnAck 0), 2) ∷ []
 
 abbrev predefined : Flags

@@ -1,5 +1,5 @@
 -- A bridge before anything has come, and what is counted from a moment.
-use Rattle.std.specs.Prelude.{ℕ, ◌+◌, [], map, None}
+use Rattle.std.specs.Prelude.{ℕ, ◌+◌, false, [], map, None}
 use Rattle.br_core.specs.declared.settings.Settings.{Settings}
 use Rattle.br_core.specs.declared.state.Bridge.{Bridge}
 use Rattle.br_core.specs.declared.state.Doing.TheVariants as doings
@@ -44,6 +44,7 @@ new_down =
       doing = doings.Nothing;
       line = 0;
       queue = [];
+      is_behind = false;
     }
 
 -- a bridge that begins: lanes sleep until the broker is there
@@ -55,6 +56,7 @@ begun settings =
       side = sides.Closed;
       due = 0;
       tries = 0;
+      is_subscribed = false;
       waiting = [];
       flight = [];
       number = 0;

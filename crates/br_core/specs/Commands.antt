@@ -93,11 +93,23 @@ is_waiting id queue = list_any (λ command. command.id == id) queue
 abbrev pub is_queued : ℕ → List Command → Bool
 is_queued id queue = if id == 0 then false else is_waiting id queue
 
--- what comes again while it waits is the same command; without room it is as if it had not come
+-- whether there is no room for a command, or there was none for one before it
+abbrev pub is_full : Down → Bool
+is_full down = down.is_behind || nat_le MAX_COMMANDS (length down.queue)
+
+-- a command for which there is no room is passed over: if the broker waits for its acknowledgement,
+-- it sends it again in its next connection
+abbrev pub passed_over : ℕ → Bridge → Bridge
+passed_over id bridge =
+    if id == 0 then bridge else put_down (record bridge.down { is_behind = true }) bridge
+
+-- what comes again while it waits is the same command; without room it is passed over, and so is
+-- all that comes after it
 abbrev pub commanded : List DownFilter → ℕ → Bool → List ℕ → List ℕ → Bridge → Bridge
 commanded downs id retain topic body bridge =
-    if is_queued id bridge.down.queue || nat_le MAX_COMMANDS (length bridge.down.queue) then bridge
-    else asked (filter_for topic downs) id retain topic body bridge
+    if is_queued id bridge.down.queue then bridge
+    else (if is_full bridge.down then passed_over id bridge
+    else asked (filter_for topic downs) id retain topic body bridge)
 
 -- the topic id of a topic
 abbrev pub id_of : List ℕ → List NamedTopic → Option ℕ
@@ -208,14 +220,14 @@ done m bridge = begins m (done_with bridge.down.queue bridge)
 abbrev pub later : Moment → Bridge → Bridge
 later m bridge = put_down (record bridge.down { due = m.retry; tries = 0 }) bridge
 
--- the gateway's answer to a command: accepted; congestion; no such id, and the name is registered
--- again; or it takes none
+-- the gateway's answer to a command: accepted; congestion; no such id, and the session begins anew;
+-- or it takes none
 abbrev pub answered_first : List Command → ℕ → Moment → Bridge → Bridge
 answered_first [] code m bridge = bridge
 answered_first (command ∷ more) code m bridge =
     if code == 0 then done m bridge
     else (if code == 1 then later m bridge
-    else (if code == 2 then registering m command (record bridge.down { ids = []; tries = 0 }) bridge
+    else (if code == 2 then away m bridge.down bridge
     else refusing whys.Gateway command bridge.down bridge))
 
 -- the topic id of a command's name is known

@@ -1,9 +1,10 @@
 -- The step of the whole bridge.
-use Rattle.std.specs.Prelude.{ℕ, ◌+◌, ◌==◌, ◌&&◌, Bool, true, false, nat_lt, if◌then◌else◌, List, [], ◌∷◌, slice_get, is_some, Option, Some, None}
+use Rattle.std.specs.Prelude.{ℕ, ◌+◌, ◌==◌, ◌&&◌, Bool, true, false, nat_lt, if◌then◌else◌, List, [], ◌∷◌, length, slice_get, Option, Some, None}
 use Rattle.mq_packet.specs.declared.packet.Delivery.{Delivery}
 use Rattle.mq_packet.specs.declared.packet.Delivery.TheVariants as deliveries
 use Rattle.mq_packet.specs.declared.packet.Packet.{Packet}
 use Rattle.mq_packet.specs.declared.packet.Packet.TheVariants as packets
+use Rattle.mq_packet.specs.declared.packet.Qos.{Qos}
 use Rattle.mq_packet.specs.declared.packet.Qos.TheVariants as levels
 use Rattle.br_core.specs.declared.action.Action.TheVariants as actions
 use Rattle.br_core.specs.declared.event.Event.{Event}
@@ -14,6 +15,7 @@ use Rattle.br_core.specs.declared.settings.LaneSettings.{LaneSettings}
 use Rattle.br_core.specs.declared.settings.Settings.{Settings}
 use Rattle.br_core.specs.declared.state.Bridge.{Bridge}
 use Rattle.br_core.specs.declared.state.Doing.TheVariants as doings
+use Rattle.br_core.specs.declared.state.Down.{Down}
 use Rattle.br_core.specs.declared.state.Lane.{Lane}
 use Rattle.br_core.specs.declared.state.Moment.{Moment}
 use Rattle.br_core.specs.declared.state.Side.{Side}
@@ -69,7 +71,8 @@ subscribe_under id filter next m bridge =
     (record bridge { side = sides.Subscribing next; due = m.retry; packet_id = next_id id })
 
 abbrev pub subscribing_at : Option DownFilter → Settings → ℕ → Moment → Bridge → Bridge
-subscribing_at None settings next m bridge = up settings m bridge
+subscribing_at None settings next m bridge =
+    up settings m (record bridge { is_subscribed = true })
 subscribing_at (Some entry) settings next m bridge =
     subscribe_under (free_id bridge.packet_id bridge.flight) entry.filter next m bridge
 
@@ -84,7 +87,7 @@ ended due bridge =
       side = sides.Closed;
       due = due;
       tries = 0;
-      down = record bridge.down { queue = []; doing = doings.Nothing };
+      down = record bridge.down { queue = []; doing = doings.Nothing; is_behind = false };
     }
 
 -- lanes fall asleep, since they may not acknowledge
@@ -96,15 +99,17 @@ lost settings due bridge =
 abbrev pub hangs_up : Settings → ℕ → Bridge → Bridge
 hangs_up settings due bridge = does actions.HangUp (lost settings due bridge)
 
--- CONNACK: the broker knows the session, or the filters are subscribed to; or it does not want us,
--- and is asked again in a minute
+-- CONNACK: the broker knows the session, in which all filters were subscribed to; or they are
+-- subscribed to; or it does not want us, and is asked again in a minute
 abbrev pub welcomed_at : Bool → Settings → Moment → Bridge → Bridge
 welcomed_at true settings m bridge = up settings m bridge
-welcomed_at false settings m bridge = subscribing settings 0 m bridge
+welcomed_at false settings m bridge =
+    subscribing settings 0 m (record bridge { is_subscribed = false })
 
 abbrev pub welcomed : Settings → Bool → ℕ → Moment → Bridge → Bridge
 welcomed settings session code m bridge =
-    if code == 0 then welcomed_at session settings m bridge else hangs_up settings m.minute bridge
+    if code == 0 then welcomed_at (session && bridge.is_subscribed) settings m bridge
+    else hangs_up settings m.minute bridge
 
 -- the broker has acknowledged a reading: its lane may, and what waits is sent; of another packet id
 -- nothing is in flight
@@ -133,6 +138,12 @@ up_packet settings m (packets.Publish delivery retain topic body) bridge =
     publication settings delivery retain topic body m bridge
 up_packet settings m packet bridge = bridge
 
+-- whether a filter is granted as it was asked for, at quality of service 1
+abbrev pub is_granted : Option Qos → Bool
+is_granted None = false
+is_granted (Some levels.Zero) = false
+is_granted (Some levels.One) = true
+
 -- SUBACK of the filter: the next one; a filter that is not granted ends the connection
 abbrev pub named_at : Bool → Settings → ℕ → Moment → Bridge → Bridge
 named_at true settings next m bridge = subscribing settings (next + 1) m bridge
@@ -141,7 +152,7 @@ named_at false settings next m bridge = hangs_up settings m.minute bridge
 abbrev pub naming_packet : Settings → ℕ → Moment → Packet → Bridge → Bridge
 naming_packet settings next m (packets.SubAck id granted) bridge =
     if (next_id id == bridge.packet_id) && nat_lt next LAST_NUMBER
-    then named_at (is_some granted) settings next m bridge
+    then named_at (is_granted granted) settings next m bridge
     else bridge
 naming_packet settings next m packet bridge = up_packet settings m packet bridge
 
@@ -182,9 +193,15 @@ side_due sides.Closed settings m bridge = does actions.Dial (record bridge { due
 side_due sides.Up settings m bridge = asks_broker settings m bridge
 side_due side settings m bridge = hangs_up settings m.soon bridge
 
+-- whether all commands that were taken are done, and others were passed over: these come again from
+-- a new connection
+abbrev pub has_passed_over : Down → Bool
+has_passed_over down = down.is_behind && (length down.queue == 0)
+
 abbrev pub side_tick : Settings → Moment → Bridge → Bridge
 side_tick settings m bridge =
-    if nat_lt m.at bridge.due then bridge else side_due bridge.side settings m bridge
+    if has_passed_over bridge.down then hangs_up settings m.soon bridge
+    else (if nat_lt m.at bridge.due then bridge else side_due bridge.side settings m bridge)
 
 abbrev pub ticks : Settings → Moment → Bridge → Bridge
 ticks settings m bridge =

@@ -10,8 +10,8 @@ use crate::item::Command;
 use crate::settings::DownFilter;
 use crate::sides::{does, next_id, once_more};
 use crate::state::{
-    Bridge, Doing, KEEP_ALIVE, LAST_NUMBER, MAX_BODY, MAX_COMMANDS, MAX_NAMES, Moment, NamedTopic,
-    Phase, TRIES,
+    Bridge, Doing, Down, KEEP_ALIVE, LAST_NUMBER, MAX_BODY, MAX_COMMANDS, MAX_NAMES, Moment,
+    NamedTopic, Phase, TRIES,
 };
 use br_map::asks_for;
 use mq_packet::Packet;
@@ -174,8 +174,25 @@ fn is_queued(id: u16, queue: &[Command]) -> bool
     }
 }
 
-/// A publication of the broker comes. What comes again while it waits is the same command; without
-/// room it is as if it had not come.
+/// Whether there is no room for a command, or there was none for one before it.
+fn is_full(down: &Down) -> bool
+    ensures { result ≡ spec.is_full down.now }
+{
+    down.is_behind || MAX_COMMANDS <= down.queue.len()
+}
+
+/// A command for which there is no room is passed over. If the broker waits for its acknowledgement,
+/// it sends it again in its next connection.
+fn passes_over(id: u16, bridge: &mut Bridge)
+    ensures { bridge.new ≡ spec.passed_over id bridge.old }
+{
+    if id != 0 {
+        bridge.down.is_behind = true;
+    }
+}
+
+/// A publication of the broker comes. What comes again while it waits is the same command. Without
+/// room it is passed over, and so is all that comes after it: so commands keep their order.
 pub(crate) fn commanded(
     alloc: Global,
     downs: &[DownFilter],
@@ -188,8 +205,11 @@ pub(crate) fn commanded(
     ensures { OnOk result (bridge.new ≡ spec.commanded downs.now id retain topic.now body.now
         bridge.old) }
 {
-    let queue = bridge.down.queue.as_slice();
-    if is_queued(id, queue) || MAX_COMMANDS <= queue.len() {
+    if is_queued(id, bridge.down.queue.as_slice()) {
+        return Ok(());
+    }
+    if is_full(&bridge.down) {
+        passes_over(id, bridge);
         return Ok(());
     }
     let entry = filter_for(topic.as_slice(), downs);
@@ -418,8 +438,8 @@ fn later(m: Moment, bridge: &mut Bridge)
     bridge.down.tries = 0;
 }
 
-/// The gateway's answer to a command: accepted; congestion; no such id, and the name is registered
-/// again; or it takes none.
+/// The gateway's answer to a command: accepted; congestion; no such id, and the session begins anew,
+/// so that none of its ids is used up; or it takes none.
 fn answered_first(alloc: Global, code: u8, m: Moment, bridge: &mut Bridge) -> Result<(), NoMemory>
     ensures { OnOk result (bridge.new ≡ spec.answered_first bridge.old.down.queue code m
         bridge.old) }
@@ -434,9 +454,8 @@ fn answered_first(alloc: Global, code: u8, m: Moment, bridge: &mut Bridge) -> Re
             Ok(())
         }
         2 => {
-            bridge.down.ids = Sequence::empty(alloc);
-            bridge.down.tries = 0;
-            registering(m, command, bridge)
+            away(m, bridge);
+            Ok(())
         }
         _ => refusing(Why::Gateway, command, bridge),
     }

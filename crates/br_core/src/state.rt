@@ -224,6 +224,9 @@ pub struct Down {
     pub line: u64,
     /// The commands, in the order in which the broker sent them.
     pub queue: Sequence<Command>,
+    /// Whether the broker has sent a command for which there was no room: it comes again from a new
+    /// connection.
+    pub is_behind: bool,
 }
 
 /// How far the connection to the broker is.
@@ -252,6 +255,9 @@ pub struct Bridge {
     pub due: u64,
     /// How often it was asked without an answer.
     pub tries: u8,
+    /// Whether all filters were subscribed to since the bridge began. A session that an earlier run
+    /// left may have some of them only.
+    pub is_subscribed: bool,
     /// Readings that were not sent yet.
     pub waiting: Sequence<Item>,
     /// Readings that were sent and are not acknowledged.

@@ -44,10 +44,12 @@ pub fn begun(alloc: Global, settings: &Settings) -> Result<Bridge, NoMemory>
             doing: Doing::Nothing,
             line: 0,
             queue: Sequence::empty(alloc),
+            is_behind: false,
         },
         side: Side::Closed,
         due: 0,
         tries: 0,
+        is_subscribed: false,
         waiting: Sequence::empty(alloc),
         flight: Sequence::empty(alloc),
         number: 0,
@@ -253,6 +255,7 @@ fn subscribing(
     ensures { OnOk result (bridge.new ≡ spec.subscribing settings.now next m bridge.old) }
 {
     let Some(entry) = settings.downs.as_slice().get(next) else {
+        bridge.is_subscribed = true;
         return up(alloc, settings, m, bridge);
     };
     let filter = entry.filter.copied(alloc)?;
@@ -275,6 +278,7 @@ fn ended(alloc: Global, due: u64, bridge: &mut Bridge)
     bridge.tries = 0;
     bridge.down.queue = Sequence::empty(alloc);
     bridge.down.doing = Doing::Nothing;
+    bridge.down.is_behind = false;
 }
 
 /// The connection is over, and lanes fall asleep, since they may not acknowledge.
@@ -298,8 +302,8 @@ fn hangs_up(
     does(bridge, Action::HangUp)
 }
 
-/// CONNACK (MQTT 3.1.1 section 3.2): the broker knows the session, or the filters are subscribed
-/// to; or it does not want us, and is asked again in a minute.
+/// CONNACK (MQTT 3.1.1 section 3.2): the broker knows the session, in which all filters were
+/// subscribed to; or they are subscribed to; or it does not want us, and is asked again in a minute.
 fn welcomed(
     alloc: Global,
     settings: &Settings,
@@ -313,11 +317,11 @@ fn welcomed(
     if code != 0 {
         return hangs_up(alloc, settings, m.minute, bridge);
     }
-    if session {
-        up(alloc, settings, m, bridge)
-    } else {
-        subscribing(alloc, settings, 0, m, bridge)
+    if session && bridge.is_subscribed {
+        return up(alloc, settings, m, bridge);
     }
+    bridge.is_subscribed = false;
+    subscribing(alloc, settings, 0, m, bridge)
 }
 
 /// PUBACK of the broker (MQTT 3.1.1 section 3.4): the lane may acknowledge the reading, and what
@@ -388,6 +392,16 @@ fn up_packet(
     }
 }
 
+/// Whether a filter is granted as it was asked for. At quality of service 0 commands could be lost.
+fn is_granted(granted: Option<Qos>) -> bool
+    ensures { result ≡ spec.is_granted granted }
+{
+    match granted {
+        Some(Qos::One) => true,
+        Some(Qos::Zero) | None => false,
+    }
+}
+
 /// SUBACK of the filter (MQTT 3.1.1 section 3.9): the next one; a filter that is not granted ends
 /// the connection.
 fn named(
@@ -423,7 +437,7 @@ fn naming_packet(
     match packet {
         Packet::SubAck { id, granted } => {
             if next_id(*id) == bridge.packet_id && next < usize::MAX {
-                named(alloc, settings, granted.is_some(), next, m, bridge)
+                named(alloc, settings, is_granted(*granted), next, m, bridge)
             } else {
                 Ok(())
             }
@@ -562,7 +576,15 @@ fn asks_broker(
     does(bridge, Action::ToBroker { packet })
 }
 
-/// Time goes by for the broker's side: it is dialled, asked whether it is there, or given up.
+/// Whether all commands that were taken are done, and others were passed over.
+fn has_passed_over(down: &Down) -> bool
+    ensures { result ≡ spec.has_passed_over down.now }
+{
+    down.is_behind && down.queue.is_empty()
+}
+
+/// Time goes by for the broker's side: it is dialled, asked whether it is there, or given up. What
+/// was passed over comes again from a new connection.
 fn side_tick(
     alloc: Global,
     settings: &Settings,
@@ -571,6 +593,9 @@ fn side_tick(
 ) -> Result<(), NoMemory>
     ensures { OnOk result (bridge.new ≡ spec.side_tick settings.now m bridge.old) }
 {
+    if has_passed_over(&bridge.down) {
+        return hangs_up(alloc, settings, m.soon, bridge);
+    }
     if m.at < bridge.due {
         return Ok(());
     }

@@ -139,6 +139,7 @@ fn lane_ready(alloc: Global, stage: &mut Stage, lane: usize) -> Result<(), Stop>
 /// `ready LANES WINDOW`: a bridge to which the broker and the gateway have said yes.
 fn ready(alloc: Global, fields: &[&str]) -> Result<Stage, Stop> {
     let mut made = new_stage(alloc, fields)?;
+    made.bridge.is_subscribed = true;
     drop(taken(alloc, &mut made, &Event::Tick)?);
     let frame = Frame::ConnAck { code: 0 };
     drop(taken(alloc, &mut made, &Event::Commands { frame })?);
@@ -212,6 +213,15 @@ fn broker_event(alloc: Global, fields: &[&str]) -> Result<Event, Stop> {
 fn kept_event(fields: &[&str]) -> Result<Event, Stop> {
     let line = number_of(fields)?;
     Ok(Event::Kept { line })
+}
+
+/// `crowd N`: the broker sends so many commands `c/ab` of quality of service 0.
+fn crowd(alloc: Global, stage: &mut Stage, count: u64) -> Result<(), Stop> {
+    for _ in 0..count {
+        let packet = packet_of(alloc, &["30", "06", "0004", "632f6162"])?;
+        drop(taken(alloc, stage, &Event::Broker { packet })?);
+    }
+    Ok(())
 }
 
 /// The event of a line.
@@ -355,9 +365,17 @@ pub(crate) fn play(
     let Some(stage) = stage_kept else {
         return Err(Stop::Line);
     };
-    if first == "second" {
-        stage.second = number_of(rest)?;
-        return Ok(());
+    match first {
+        "second" => {
+            stage.second = number_of(rest)?;
+            return Ok(());
+        }
+        "known" => {
+            stage.bridge.is_subscribed = true;
+            return Ok(());
+        }
+        "crowd" => return crowd(alloc, stage, number_of(rest)?),
+        _ => {}
     }
     let event = event_of(alloc, first, rest)?;
     let actions = taken(alloc, stage, &event)?;

@@ -43,6 +43,8 @@
 //!
 //! - `bridge LANES WINDOW`: a bridge that begins. `ready LANES WINDOW`: one to which all have said
 //!   yes; the id of each long name is 5.
+//! - `known`: it has subscribed to all filters in an earlier connection.
+//! - `crowd N`: the broker sends so many commands `c/ab` of quality of service 0; nothing is printed.
 //! - `second N`: the second from now on.
 //! - `field LANE OCTETS ..`, `commands OCTETS ..`, `broker OCTETS ..`: a frame or a packet comes.
 //! - `opened`, `lost`, `kept LINE`, `tick`: the other events.

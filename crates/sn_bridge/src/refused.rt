@@ -2,7 +2,7 @@
 
 use br_core::{Command, Why};
 use std::fs::{File, Files};
-use std::io::Write;
+use std::io::{Read, Seek, SeekFrom, Write};
 use std::os::unix::fs::OpenOptionsExt;
 use std::time::{Clock, Duration, SystemTime};
 use std::{fmt, io};
@@ -62,14 +62,46 @@ fn front(octets: &[u8]) -> &[u8] {
     octets.split_at(MOST_OCTETS).0
 }
 
-/// Writes a line into the file, and syncs it: second, quality of service, why, the broker's topic
-/// and the message in hexadecimal digits.
-fn write_line<R: Files<File = File> + Clock>(rt: &R, path: &str, owed: &Owed) -> io::Result<()> {
+/// Whether the last line of a file that is not empty is whole.
+fn is_whole(file: &File) -> io::Result<bool> {
+    let mut place = file;
+    let mut last = [0u8];
+    place.seek(SeekFrom::End(-1))?;
+    place.read_exact(&mut last)?;
+    Ok(last[0] == b'\n')
+}
+
+/// Makes the name of a new file durable: its folder is synced.
+fn sync_folder<R: Files<File = File>>(rt: &R, path: &str) -> io::Result<()> {
+    let folder = match path.rfind('/') {
+        None => ".",
+        Some(0) => "/",
+        Some(at) => &path[..at],
+    };
+    File::open(rt, folder)?.sync_all()
+}
+
+/// The file, ready for a line. Before the first one its name is made durable. A line of which a
+/// failed write or a crash left the front alone is ended.
+fn opened<R: Files<File = File>>(rt: &R, path: &str) -> io::Result<File> {
     let mut file = File::options()
+        .read(true)
         .append(true)
         .create(true)
         .mode(OWNER_ALONE)
         .open(rt, path)?;
+    if file.metadata()?.len() == 0 {
+        sync_folder(rt, path)?;
+    } else if !is_whole(&file)? {
+        file.write_all(b"\n")?;
+    }
+    Ok(file)
+}
+
+/// Writes a line into the file, and syncs it: second, quality of service, why, the broker's topic
+/// and the message in hexadecimal digits.
+fn write_line<R: Files<File = File> + Clock>(rt: &R, path: &str, owed: &Owed) -> io::Result<()> {
+    let mut file = opened(rt, path)?;
     let second = second(rt);
     let qos = if owed.command.id == 0 { 0 } else { 1 };
     let why = word_of(owed.why);

@@ -206,8 +206,14 @@ impl<'a> Turning<'a> {
         }
         self.is_lost = false;
         self.count_short(millisecond(rt));
-        self.line = None;
+        self.close();
         self.take(rt, alloc, &Event::BrokerLost)
+    }
+
+    /// There is no connection any more. Lines that are owed are not: their commands come again.
+    fn close(&mut self) {
+        self.line = None;
+        self.owed.truncate(0);
     }
 
     /// Time goes by, if a while has passed.
@@ -368,7 +374,7 @@ impl<'a> Turning<'a> {
                 let is_over = fed.fault.is_some();
                 self.take_packets(rt, alloc, fed.packets)?;
                 if is_over {
-                    self.is_lost = true;
+                    self.is_lost = self.line.is_some();
                 }
                 Ok(!is_over)
             }
@@ -443,7 +449,8 @@ impl<'a> Turning<'a> {
             Action::Dial => self.dial(rt, alloc),
             Action::HangUp => {
                 self.flush();
-                self.line = None;
+                self.is_lost = false;
+                self.close();
             }
             _ => {}
         }

@@ -1,7 +1,7 @@
 //! What is told on standard error.
 
 use br_core::{Bridge, Phase, Side};
-use mq_packet::Packet;
+use mq_packet::{Packet, Qos};
 use sn_frame::Frame;
 use std::io::Write;
 
@@ -53,12 +53,20 @@ pub(crate) fn refusal_in_frame(frame: &Frame) -> Option<Refusal> {
 pub(crate) fn refusal_in_packet(packet: &Packet) -> Option<Refusal> {
     match packet {
         Packet::ConnAck { code, .. } => refused(What::Client, *code),
-        Packet::SubAck { granted, .. } => {
-            let code = if granted.is_some() { 0 } else { 128 };
-            refused(What::Filter, code)
-        }
+        Packet::SubAck { granted, .. } => refusal_of_filter(*granted),
         _ => None,
     }
+}
+
+/// Whether a filter is refused, or granted at quality of service 0 only.
+fn refusal_of_filter(granted: Option<Qos>) -> Option<Refusal> {
+    let code = match granted {
+        Some(Qos::One) => return None,
+        Some(Qos::Zero) => 0,
+        None => 128,
+    };
+    let what = What::Filter;
+    Some(Refusal { what, code })
 }
 
 /// The broker ends each connection soon.
