@@ -1,51 +1,123 @@
--- What a bridge does is just, whatever makes a reading good, a lane's own, and a publication one of
--- which the broker may be told; if the event gives reasons for these.
-use Rattle.std.proofs.Common.{ℕ, true, List, [], ◌∷◌, fold}
+-- What a bridge does is just, whatever makes a reading good, done, a lane's own or one that came, and
+-- a publication one of which the broker may be told; if the event gives reasons for these.
+use Rattle.std.proofs.Common.{◌==◌, ℕ, true, false, if◌then◌else◌, List, [], ◌∷◌, ◌++◌, fold, refl, subst, inl, inr}
 use Rattle.std.specs.List.{AllByRecursion}
 use Rattle.br_core.specs.declared.action.Action.{Action}
 use Rattle.br_core.specs.declared.action.Action.TheVariants as actions
 use Rattle.br_core.specs.declared.event.Event.{Event}
 use Rattle.br_core.specs.declared.item.Flight.{Flight}
+use Rattle.br_core.specs.declared.item.Item.{Item}
 use Rattle.br_core.specs.declared.settings.Settings.{Settings}
 use Rattle.br_core.specs.declared.state.Bridge.{Bridge}
 use Rattle.br_core.specs.declared.state.Lane.{Lane}
 use Rattle.br_core.specs.declared.state.Moment.{Moment}
-use Rattle.br_core.specs.Runs.{IsJust}
-use Rattle.br_core.specs.Sides.{in_flight, out_again}
+use Rattle.br_core.specs.Runs.{IsJust, IsSent}
+use Rattle.br_core.specs.Sides.{in_flight, left_in_flight, out_again}
 use Rattle.br_core.specs.Steps as whole
-use Rattle.br_core.proofs.Walk.{AtPlaces, Held, IsKept, IsWalked, LaneJust, Reasons, all-offered, all-push, event-walked, get-places, set-places, taken-kept}
+use Rattle.br_core.proofs.Lists.{all-map, all-push, regroup}
+use Rattle.br_core.proofs.Walk.{AtPlaces, Held, IsKept, IsWalked, LaneJust, Reasons, event-walked, flies-out, get-places, goes-out, sends-kept, set-places, taken-kept}
 
--- lanes are as they must be, and all that is to be done is just
-abbrev pub AreJust : (ℕ → Type 0) → (ℕ → ℕ → ℕ → Type 0) → (ℕ → Type 0) → List Lane → List Action → Type 0
-AreJust Good Own May l out = AtPlaces (LaneJust Good Own) l × AllByRecursion (IsJust Good Own May) out
+-- ---- what was sent
 
-module _ (Good : ℕ → Type 0) (Own : ℕ → ℕ → ℕ → Type 0) (May : ℕ → Type 0) where
+pub sent-more : (id : ℕ) (item : Item) (xs ys : List Action) → IsSent id item xs → IsSent id item (xs ++ ys)
+sent-more id item [] ys h = absurd h
+sent-more id item (x ∷ xs) ys (inl is) = inl is
+sent-more id item (x ∷ xs) ys (inr h) = inr (sent-more id item xs ys h)
+
+sent-last : (id : ℕ) (item : Item) (xs : List Action) → IsSent id item (xs ++ flies-out id item ∷ [])
+sent-last id item [] = inl refl
+sent-last id item (x ∷ xs) = inr (sent-last id item xs)
+
+-- what is in flight came, and was sent
+abbrev pub Flown : (Item → Type 0) → List Action → Flight → Type 0
+Flown Came out one = Came one.item × IsSent one.id one.item out
+
+-- lanes, what waits and what is in flight are as they must be, after all that was to be done
+abbrev pub Stand : (ℕ → Type 0) → (ℕ → ℕ → ℕ → Type 0) → (Item → Type 0) → List Action → List Lane → List Item → List Flight → Type 0
+Stand Good Own Came out l w f = AtPlaces (LaneJust Good Own) l × AllByRecursion Came w × AllByRecursion (Flown Came out) f
+
+-- of all of these what is left in flight keeps it
+all-left : (Q : Flight → Type 0) (id : ℕ) (f : List Flight) → AllByRecursion Q f → AllByRecursion Q (left_in_flight id f)
+all-left Q id [] h = tt
+all-left Q id (one ∷ more) h =
+    let both : AllByRecursion Q (one ∷ left_in_flight id more) = (h.0, all-left Q id more h.1) in
+    elim (one.id == id) as (λ c. AllByRecursion Q (if c then more else one ∷ left_in_flight id more)) [ true ↦ h.1 | false ↦ both ]
+
+module _ (Good : ℕ → Type 0) (Done : ℕ → Type 0) (lift : (n : ℕ) → Done n → Good n) (Own : ℕ → ℕ → ℕ → Type 0) (May : ℕ → Type 0) (Came : Item → Type 0) (past : List Action) where
+  abbrev pub J : Action → Type 0
+  J a = IsJust Good Done Own May Came a
+
+  abbrev pub S : List Action → List Lane → List Item → List Flight → Type 0
+  S out l w f = Stand Good Own Came (past ++ out) l w f
+
   abbrev pub P : Held
-  P l out w f n = AreJust Good Own May l out
+  P l out w f n = S out l w f × AllByRecursion J out
 
-  again : (f : List Flight) (out : List Action) → AllByRecursion (IsJust Good Own May) out → AllByRecursion (IsJust Good Own May) (fold out_again out f)
-  again [] out h = h
-  again (one ∷ more) out h = again more (out_again out one) (all-push (IsJust Good Own May) out (actions.ToBroker (in_flight true one)) h tt)
+  -- one thing more is to be done
+  later : (a : Action) (out : List Action) (one : Flight) → Flown Came (past ++ out) one → Flown Came (past ++ (out ++ a ∷ [])) one
+  later a out one h = (h.0, subst (λ (xs : List Action). IsSent one.id one.item xs) (regroup past out (a ∷ [])) (sent-more one.id one.item (past ++ out) (a ∷ []) h.1))
 
-  pub just-kept : IsKept Good Own May P
+  stands : (a : Action) (l : List Lane) (out : List Action) (w : List Item) (f : List Flight) → S out l w f → S (out ++ a ∷ []) l w f
+  stands a l out w f h = (h.0, h.1, all-map (Flown Came (past ++ out)) (Flown Came (past ++ (out ++ a ∷ []))) f (later a out) h.2)
+
+  -- and a reading is in flight
+  flying : (id : ℕ) (item : Item) (l : List Lane) (out : List Action) (w : List Item) (f : List Flight) → Came item → S out l w f
+      → S (out ++ flies-out id item ∷ []) l w (f ++ record { id = id; item = item } ∷ [])
+  flying id item l out w f came h =
+      let next : S (out ++ flies-out id item ∷ []) l w f = stands (flies-out id item) l out w f h in
+      let sent : IsSent id item (past ++ (out ++ flies-out id item ∷ [])) =
+      subst (λ (xs : List Action). IsSent id item xs) (regroup past out (flies-out id item ∷ [])) (sent-last id item (past ++ out)) in
+      (next.0, next.1, all-push (Flown Came (past ++ (out ++ flies-out id item ∷ []))) f (record { id = id; item = item }) next.2 (came, sent))
+
+  going : (item : Item) → Came item → J (goes-out item)
+  going item came = (item, came, refl, (refl, refl, refl))
+
+  flying-just : (id : ℕ) (item : Item) → Came item → J (flies-out id item)
+  flying-just id item came = (item, came, refl, (refl, refl, refl))
+
+  pub just-kept : IsKept Good Done Own May Came P
   just-kept = record {
-    acts = λ a l out w f n p h. (h.0, all-push (IsJust Good Own May) out a h.1 p);
-    queued = λ item l out w f n h. h;
-    flown = λ id item l out w f n h. h;
-    counts = λ l out w f n h. h;
+    acts = λ a l out w f n o p h. (stands a l out w f h.0, all-push J out a h.1 p);
+    queued = λ item l out w f n came h. ((h.0.0, all-push Came w item h.0.1 came, h.0.2), h.1);
+    goes = λ item l out w f n came h. (stands (goes-out item) l out w f h.0, all-push J out (goes-out item) h.1 (going item came));
+    flies = λ id item l out w f n came h. (flying id item l out w f came h.0, all-push J out (flies-out id item) h.1 (flying-just id item came));
+    goes_first = λ item more l out f n zero h. (
+      stands (goes-out item) l out more f (h.0.0, h.0.1.1, h.0.2),
+      all-push J out (goes-out item) h.1 (going item h.0.1.0),
+    );
+    flies_first = λ id item more l out f n h. (
+      flying id item l out more f h.0.1.0 (h.0.0, h.0.1.1, h.0.2),
+      all-push J out (flies-out id item) h.1 (flying-just id item h.0.1.0),
+    );
+    counts = λ m l out w f n e h. h;
   }
 
-  pub just-walked : IsWalked Good Own May P
+  -- what is in flight goes out again
+  again : (rest : List Flight) (l : List Lane) (out : List Action) (w : List Item) (f : List Flight) (n : ℕ) → AllByRecursion (λ one. Came one.item) rest → P l out w f n
+      → P l (fold out_again out rest) w f n
+  again [] l out w f n cames h = h
+  again (one ∷ more) l out w f n cames h =
+      let a : Action = actions.ToBroker (in_flight true one) in
+      let p : J a = (one.item, cames.0, (refl, refl, refl)) in
+      again more l (out_again out one) w f n cames.1 (stands a l out w f h.0, all-push J out a h.1 p)
+
+  flown-came : (past : List Action) (one : Flight) → Flown Came past one → Came one.item
+  flown-came past one h = h.0
+
+  pub just-walked : IsWalked Good Done Own May Came P
   just-walked = record {
-    acts = λ a l out w f n o p h. (h.0, all-push (IsJust Good Own May) out a h.1 p);
-    placed = λ place x l out w f n p h. (set-places (LaneJust Good Own) l place x p h.0, h.1);
-    there = λ place l out w f n h. get-places (LaneJust Good Own) l place h.0;
-    taken = λ settings item b e h. taken-kept Good Own May P just-kept settings item b h;
-    offers = λ settings b h. all-offered Good Own May P just-kept settings b.waiting (record b { waiting = [] }) h;
-    repeated = λ l out w f n h. (h.0, again f out h.1);
-    left = λ id l out w f n good h. h;
+    acts = λ a l out w f n o p h. (stands a l out w f h.0, all-push J out a h.1 p);
+    placed = λ place x l out w f n p h. ((set-places (LaneJust Good Own) l place x p h.0.0, h.0.1, h.0.2), h.1);
+    there = λ place l out w f n h. get-places (LaneJust Good Own) l place h.0.0;
+    taken = λ settings item b e came h. taken-kept Good Done Own May Came P just-kept settings item b e came h;
+    counts = λ m l out w f n e h. h;
+    offers = λ settings b h. sends-kept Good Done Own May Came P just-kept settings b h;
+    repeated = λ l out w f n h. again f l out w f n (all-map (Flown Came (past ++ out)) (λ one. Came one.item) f (flown-came (past ++ out)) h.0.2) h;
+    left = λ id l out w f n handed h. ((h.0.0, h.0.1, all-left (Flown Came (past ++ out)) id f h.0.2), h.1);
   }
 
-  pub event-just : (settings : Settings) (event : Event) (m : Moment) (b : Bridge) → Reasons Good Own May event b → AreJust Good Own May b.lanes b.out
-      → AreJust Good Own May (whole.event_step settings event m b).lanes (whole.event_step settings event m b).out
-  event-just settings event m b why h = event-walked Good Own May P just-walked settings event m b why h
+  pub event-just : (settings : Settings) (event : Event) (m : Moment) (b : Bridge) → Reasons Good Done Own May Came settings event b
+      → P b.lanes b.out b.waiting b.flight b.number
+      → P (whole.event_step settings event m b).lanes (whole.event_step settings event m b).out (whole.event_step settings event m b).waiting (whole.event_step settings event m b).flight
+          (whole.event_step settings event m b).number
+  event-just settings event m b why h = event-walked Good Done lift Own May Came P just-walked settings event m b why h

@@ -1,19 +1,23 @@
 -- What waits or is in flight stays so until the broker has acknowledged it.
-use Rattle.std.proofs.Common.{◌≡◌, ◌==◌, ◌&&◌, ℕ, Bool, true, false, if◌then◌else◌, List, [], ◌∷◌, ◌++◌, length, fold, Option, Some, ◌⊎◌, refl, sym, subst, inl, inr}
-use Rattle.mq_packet.specs.declared.packet.Qos.{Qos}
+use Rattle.std.proofs.Common.{◌≡◌, ◌==◌, ℕ, Bool, true, false, if◌then◌else◌, List, [], ◌∷◌, ◌++◌, Option, Some, ◌⊎◌, refl, sym, subst, inl, inr}
+use Rattle.std.specs.Prelude.{slice_get}
+use Rattle.mq_packet.specs.declared.packet.Packet.{Packet}
+use Rattle.mq_packet.specs.declared.packet.Packet.TheVariants as packets
 use Rattle.mq_packet.specs.declared.packet.Qos.TheVariants as levels
 use Rattle.br_core.specs.declared.event.Event.{Event}
+use Rattle.br_core.specs.declared.event.Event.TheVariants as events
 use Rattle.br_core.specs.declared.item.Flight.{Flight}
 use Rattle.br_core.specs.declared.item.Item.{Item}
 use Rattle.br_core.specs.declared.settings.Settings.{Settings}
 use Rattle.br_core.specs.declared.state.Bridge.{Bridge}
 use Rattle.br_core.specs.Begins.{begun, moment_of}
-use Rattle.br_core.specs.Runs.{Brought, Come, Flies, Handed, IsIn, IsOne, MayTell, Waits, after, stepped}
+use Rattle.br_core.specs.Runs.{Come, Flies, Handed, IsIn, IsOne, Waits, after, stepped}
 use Rattle.br_core.specs.Steps.{emptied}
-use Rattle.br_core.specs.Sides.{acknowledged, free_id, has_window, left_in_flight, offered, sends, sent_at, waits}
-use Rattle.br_core.proofs.Just.{AreJust, just-kept, just-walked}
-use Rattle.br_core.proofs.Running.{after-one, handed-on, last-on, no-more, one-more, reasons, standing}
-use Rattle.br_core.proofs.Walk.{Held, IsKept, IsWalked, ItemGood, LaneJust, event-walked, map-places, taken-kept}
+use Rattle.br_core.specs.Sides.{acknowledged, left_in_flight}
+use Rattle.br_core.proofs.Anything.{Any, Its, Yes, first-any, frame-any, frame-may, lane-any}
+use Rattle.br_core.proofs.Lists.{no-more, one-more}
+use Rattle.br_core.proofs.Running.{after-one, handed-item, handed-on, standing}
+use Rattle.br_core.proofs.Walk.{Held, IsKept, IsWalked, ItemDone, PacketDone, Reasons, event-walked, sends-kept, taken-kept}
 
 module _ (number : ℕ) where
   -- ---- lists
@@ -36,123 +40,115 @@ module _ (number : ℕ) where
   flies-last [] one is = inl is
   flies-last (first ∷ more) one is = inr (flies-last more one is)
 
-  -- what waits among others is the one in the middle, or waits among the others
-  waits-split : (w : List Item) (item : Item) (rest : List Item) → Waits number (w ++ item ∷ rest) → ((item.number ≡ number) × IsOne item.qos) ⊎ Waits number (w ++ rest)
-  waits-split [] item rest h = h
-  waits-split (first ∷ more) item rest (inl is) = inr (inl is)
-  waits-split (first ∷ more) item rest (inr h) =
-      elim (waits-split more item rest h) as (λ _. ((item.number ≡ number) × IsOne item.qos) ⊎ Waits number ((first ∷ more) ++ rest)) [ inl is ↦ inl is | inr among ↦ inr (inr among) ]
-
-  -- and one that waits behind others waits with them
-  waits-regroup : (w : List Item) (item : Item) (rest : List Item) → Waits number (w ++ item ∷ rest) → Waits number ((w ++ item ∷ []) ++ rest)
-  waits-regroup [] item rest h = h
-  waits-regroup (first ∷ more) item rest (inl is) = inl is
-  waits-regroup (first ∷ more) item rest (inr h) = inr (waits-regroup more item rest h)
-
-  -- ---- a reading is offered
-
-  sent-among : (qos : Qos) (item : Item) (rest : List Item) (b : Bridge) → item.qos ≡ qos
-      → Waits number (b.waiting ++ item ∷ rest) ⊎ Flies number b.flight → Waits number ((sent_at qos item b).waiting ++ rest) ⊎ Flies number (sent_at qos item b).flight
-  sent-among levels.Zero item rest b e (inr flies) = inr flies
-  sent-among levels.Zero item rest b e (inl waiting) =
-      elim (waits-split b.waiting item rest waiting) as (λ _. Waits number (b.waiting ++ rest) ⊎ Flies number b.flight) [ inl is ↦ absurd (subst IsOne e is.1) | inr among ↦ inl among ]
-  sent-among levels.One item rest b e (inr flies) =
-      inr (flies-more b.flight (record { id = free_id b.packet_id b.flight; item = item }) flies)
-  sent-among levels.One item rest b e (inl waiting) =
-      let one : Flight = record { id = free_id b.packet_id b.flight; item = item } in
-      elim (waits-split b.waiting item rest waiting) as (λ _. Waits number (b.waiting ++ rest) ⊎ Flies number (b.flight ++ one ∷ [])) [ inl is ↦ inr (flies-last b.flight one is.0) | inr among ↦ inl among ]
-
-  offered-among : (c : Bool) (item : Item) (rest : List Item) (b : Bridge) → Waits number (b.waiting ++ item ∷ rest) ⊎ Flies number b.flight
-      → Waits number ((if c then sent_at item.qos item b else waits item b).waiting ++ rest) ⊎ Flies number (if c then sent_at item.qos item b else waits item b).flight
-  offered-among true item rest b h = sent-among item.qos item rest b refl h
-  offered-among false item rest b (inl waiting) = inl (waits-regroup b.waiting item rest waiting)
-  offered-among false item rest b (inr flies) = inr flies
-
-  all-among : (settings : Settings) (items : List Item) (b : Bridge) → Waits number (b.waiting ++ items) ⊎ Flies number b.flight → IsIn number (fold (offered settings) b items)
-  all-among settings [] b (inl waiting) = inl (subst (λ (w : List Item). Waits number w) (no-more b.waiting) waiting)
-  all-among settings [] b (inr flies) = inr flies
-  all-among settings (item ∷ more) b h =
-      all-among settings more (offered settings b item)
-      (offered-among ((length b.waiting == 0) && has_window settings item.qos b.flight) item more b h)
-
   -- ---- a PUBACK
 
-  module _ (Good : ℕ → Type 0) where
-    left-by : (c : Bool) (one : Flight) (more rest : List Flight) (item : Option Item) → ItemGood Good (if c then Some one.item else item)
-        → (ItemGood Good item → Flies number more → Good number ⊎ Flies number rest) → Flies number (one ∷ more)
-        → Good number ⊎ Flies number (if c then more else one ∷ rest)
-    left-by true one more rest item good k (inl is) = inl (subst Good is good)
-    left-by true one more rest item good k (inr flies) = inr flies
-    left-by false one more rest item good k (inl is) = inr (inl is)
-    left-by false one more rest item good k (inr flies) =
-        elim (k good flies) as (λ _. Good number ⊎ Flies number (one ∷ rest)) [ inl g ↦ inl g | inr h ↦ inr (inr h) ]
+  module _ (Done : ℕ → Type 0) where
+    left-by : (c : Bool) (one : Flight) (more rest : List Flight) (item : Option Item) → ItemDone Done (if c then Some one.item else item)
+        → (ItemDone Done item → Flies number more → Done number ⊎ Flies number rest) → Flies number (one ∷ more)
+        → Done number ⊎ Flies number (if c then more else one ∷ rest)
+    left-by true one more rest item handed k (inl is) = inl (subst Done is handed)
+    left-by true one more rest item handed k (inr flies) = inr flies
+    left-by false one more rest item handed k (inl is) = inr (inl is)
+    left-by false one more rest item handed k (inr flies) =
+        elim (k handed flies) as (λ _. Done number ⊎ Flies number (one ∷ rest)) [ inl g ↦ inl g | inr h ↦ inr (inr h) ]
 
-    left-flies : (id : ℕ) (f : List Flight) → ItemGood Good (acknowledged id f) → Flies number f → Good number ⊎ Flies number (left_in_flight id f)
-    left-flies id [] good h = absurd h
-    left-flies id (one ∷ more) good h =
-        left-by (one.id == id) one more (left_in_flight id more) (acknowledged id more) good (left-flies id more) h
+    left-flies : (id : ℕ) (f : List Flight) → ItemDone Done (acknowledged id f) → Flies number f → Done number ⊎ Flies number (left_in_flight id f)
+    left-flies id [] handed h = absurd h
+    left-flies id (one ∷ more) handed h =
+        left-by (one.id == id) one more (left_in_flight id more) (acknowledged id more) handed (left-flies id more) h
 
 -- ---- the walk
 
-module _ (number : ℕ) (Good : ℕ → Type 0) (Own : ℕ → ℕ → ℕ → Type 0) (May : ℕ → Type 0) where
+module _ (number : ℕ) (Done : ℕ → Type 0) where
   abbrev StaysIn : List Item → List Flight → Type 0
-  StaysIn w f = Good number ⊎ (Waits number w ⊎ Flies number f)
+  StaysIn w f = Done number ⊎ (Waits number w ⊎ Flies number f)
 
   abbrev P : Held
-  P l out w f n = AreJust Good Own May l out × StaysIn w f
+  P l out w f n = StaysIn w f
 
   queued : (item : Item) (w : List Item) (f : List Flight) → StaysIn w f → StaysIn (w ++ item ∷ []) f
-  queued item w f (inl good) = inl good
+  queued item w f (inl handed) = inl handed
   queued item w f (inr (inl waiting)) = inr (inl (waits-more number w item waiting))
   queued item w f (inr (inr flies)) = inr (inr flies)
 
   flown : (one : Flight) (w : List Item) (f : List Flight) → StaysIn w f → StaysIn w (f ++ one ∷ [])
-  flown one w f (inl good) = inl good
+  flown one w f (inl handed) = inl handed
   flown one w f (inr (inl waiting)) = inr (inl waiting)
   flown one w f (inr (inr flies)) = inr (inr (flies-more number f one flies))
 
-  offers : (settings : Settings) (b : Bridge) → StaysIn b.waiting b.flight → StaysIn (sends settings b).waiting (sends settings b).flight
-  offers settings b (inl good) = inl good
-  offers settings b (inr there) = inr (all-among number settings b.waiting (record b { waiting = [] }) there)
+  -- the first one that waits goes: one that wants an acknowledgement is in flight then
+  gone : (item : Item) (more : List Item) (f : List Flight) → item.qos ≡ levels.Zero → StaysIn (item ∷ more) f → StaysIn more f
+  gone item more f zero (inl handed) = inl handed
+  gone item more f zero (inr (inl (inl is))) = absurd (subst IsOne zero is.1)
+  gone item more f zero (inr (inl (inr waiting))) = inr (inl waiting)
+  gone item more f zero (inr (inr flies)) = inr (inr flies)
 
-  leaves : (id : ℕ) (w : List Item) (f : List Flight) → ItemGood Good (acknowledged id f) → StaysIn w f → StaysIn w (left_in_flight id f)
-  leaves id w f good (inl g) = inl g
-  leaves id w f good (inr (inl waiting)) = inr (inl waiting)
-  leaves id w f good (inr (inr flies)) =
-      elim (left-flies number Good id f good flies) as (λ _. StaysIn w (left_in_flight id f)) [ inl g ↦ inl g | inr h ↦ inr (inr h) ]
+  flown-first : (id : ℕ) (item : Item) (more : List Item) (f : List Flight) → StaysIn (item ∷ more) f → StaysIn more (f ++ record { id = id; item = item } ∷ [])
+  flown-first id item more f (inl handed) = inl handed
+  flown-first id item more f (inr (inl (inl is))) = inr (inr (flies-last number f (record { id = id; item = item }) is.0))
+  flown-first id item more f (inr (inl (inr waiting))) = inr (inl waiting)
+  flown-first id item more f (inr (inr flies)) = inr (inr (flies-more number f (record { id = id; item = item }) flies))
 
-  kept : IsKept Good Own May P
+  leaves : (id : ℕ) (w : List Item) (f : List Flight) → ItemDone Done (acknowledged id f) → StaysIn w f → StaysIn w (left_in_flight id f)
+  leaves id w f handed (inl g) = inl g
+  leaves id w f handed (inr (inl waiting)) = inr (inl waiting)
+  leaves id w f handed (inr (inr flies)) =
+      elim (left-flies number Done id f handed flies) as (λ _. StaysIn w (left_in_flight id f)) [ inl g ↦ inl g | inr h ↦ inr (inr h) ]
+
+  kept : IsKept Yes Done Its Yes Any P
   kept = record {
-    acts = λ a l out w f n p h. ((just-kept Good Own May).acts a l out w f n p h.0, h.1);
-    queued = λ item l out w f n h. (h.0, queued item w f h.1);
-    flown = λ id item l out w f n h. (h.0, flown (record { id = id; item = item }) w f h.1);
-    counts = λ l out w f n h. h;
+    acts = λ a l out w f n o p h. h;
+    queued = λ item l out w f n came h. queued item w f h;
+    goes = λ item l out w f n came h. h;
+    flies = λ id item l out w f n came h. flown (record { id = id; item = item }) w f h;
+    goes_first = λ item more l out f n zero h. gone item more f zero h;
+    flies_first = λ id item more l out f n h. flown-first id item more f h;
+    counts = λ m l out w f n e h. h;
   }
 
-  walked : IsWalked Good Own May P
+  pub walked : IsWalked Yes Done Its Yes Any P
   walked = record {
-    acts = λ a l out w f n o p h. ((just-kept Good Own May).acts a l out w f n p h.0, h.1);
-    placed = λ place x l out w f n p h. ((just-walked Good Own May).placed place x l out w f n p h.0, h.1);
-    there = λ place l out w f n h. (just-walked Good Own May).there place l out w f n h.0;
-    taken = λ settings item b e h. taken-kept Good Own May P kept settings item b h;
-    offers = λ settings b h. ((just-walked Good Own May).offers settings b h.0, offers settings b h.1);
-    repeated = λ l out w f n h. ((just-walked Good Own May).repeated l out w f n h.0, h.1);
-    left = λ id l out w f n good h. (h.0, leaves id w f good h.1);
+    acts = λ a l out w f n o p h. h;
+    placed = λ place x l out w f n p h. h;
+    there = λ place l out w f n h. lane-any place (slice_get l place);
+    taken = λ settings item b e came h. taken-kept Yes Done Its Yes Any P kept settings item b e came h;
+    counts = λ m l out w f n e h. h;
+    offers = λ settings b h. sends-kept Yes Done Its Yes Any P kept settings b h;
+    repeated = λ l out w f n h. h;
+    left = λ id l out w f n handed h. leaves id w f handed h;
   }
+
+  pub lifts : (n : ℕ) → Done n → Yes n
+  lifts n h = tt
 
 -- ---- the law
+
+-- a PUBACK is a reason; all else needs none
+packet-reasons : (settings : Settings) (before : List Come) (moment : ℕ) (packet : Packet)
+    → PacketDone (Handed settings (before ++ (events.Broker packet, moment) ∷ [])) Yes packet (emptied (after settings before))
+packet-reasons settings before moment (packets.PubAck id) =
+    handed-item settings before moment (standing settings before) id (acknowledged id (after settings before).flight) refl
+packet-reasons settings before moment (packets.Publish delivery retain topic body) = λ kept wanted. tt
+packet-reasons settings before moment packet = tt
+
+its-reasons : (settings : Settings) (before : List Come) (moment : ℕ) (event : Event)
+    → Reasons Yes (Handed settings (before ++ (event, moment) ∷ [])) Its Yes Any settings event (emptied (after settings before))
+its-reasons settings before moment (events.Field place frame) = frame-any settings place frame (emptied (after settings before))
+its-reasons settings before moment (events.Commands frame) = frame-may frame (emptied (after settings before))
+its-reasons settings before moment (events.Broker packet) = packet-reasons settings before moment packet
+its-reasons settings before moment (events.Kept line) = λ doing. first-any (after settings before).down.queue
+its-reasons settings before moment (events.Found item) = tt
+its-reasons settings before moment (events.Stored below) = λ may n under. tt
+its-reasons settings before moment event = tt
 
 stays-one : (settings : Settings) (before : List Come) (event : Event) (moment number : ℕ) → Handed settings before number ⊎ IsIn number (after settings before)
     → Handed settings (before ++ (event, moment) ∷ []) number ⊎ IsIn number (stepped settings (after settings before) (event, moment))
 stays-one settings before event moment number there =
     let run : List Come = before ++ (event, moment) ∷ [] in
-    let lifted : StaysIn number (Handed settings run) (Brought settings run) (MayTell settings run) (after settings before).waiting (after settings before).flight =
+    let here : StaysIn number (Handed settings run) (after settings before).waiting (after settings before).flight =
     elim there as (λ _. Handed settings run number ⊎ IsIn number (after settings before)) [ inl handed ↦ inl (handed-on settings before ((event, moment) ∷ []) number handed) | inr h ↦ inr h ] in
-    let lanes = map-places (LaneJust (Handed settings before) (Brought settings before)) (LaneJust (Handed settings run) (Brought settings run))
-    (after settings before).lanes (λ place x p. last-on settings before ((event, moment) ∷ []) place x.last p) (standing settings before) in
-    (event-walked (Handed settings run) (Brought settings run) (MayTell settings run) (P number (Handed settings run) (Brought settings run) (MayTell settings run))
-    (walked number (Handed settings run) (Brought settings run) (MayTell settings run)) settings event (moment_of moment) (emptied (after settings before))
-    (reasons settings before moment event) ((lanes, tt), lifted)).1
+    event-walked Yes (Handed settings run) (lifts number (Handed settings run)) Its Yes Any (P number (Handed settings run)) (walked number (Handed settings run))
+    settings event (moment_of moment) (emptied (after settings before)) (its-reasons settings before moment event) here
 
 stays-then : (settings : Settings) (before : List Come) (come : Come) (number : ℕ) → Handed settings before number ⊎ IsIn number (after settings before)
     → Handed settings (before ++ come ∷ []) number ⊎ IsIn number (after settings (before ++ come ∷ []))

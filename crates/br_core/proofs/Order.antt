@@ -1,32 +1,25 @@
 -- First sendings of readings go out in the order in which lanes brought them.
-use Rattle.std.proofs.Common.{◌≡◌, ◌∙◌, ◌==◌, ◌&&◌, ◌+◌, ◌≤◌, ℕ, Bool, true, false, if◌then◌else◌, List, [], ◌∷◌, ◌++◌, length, fold, Option, Some, None, refl, sym, ap, subst, arith, eqb-true}
+use Rattle.std.proofs.Common.{◌≡◌, ◌∙◌, ◌==◌, ◌&&◌, ◌+◌, ◌≤◌, ℕ, Bool, true, false, if◌then◌else◌, List, [], ◌∷◌, ◌++◌, length, fold, refl, sym, ap, subst, arith, eqb-true}
 use Rattle.std.specs.Prelude.{slice_get}
 use Rattle.std.proofs.lemmas.Bool.{and_parts}
 use Rattle.mq_packet.specs.declared.packet.Packet.{Packet}
-use Rattle.mq_packet.specs.declared.packet.Packet.TheVariants as packets
 use Rattle.mq_packet.specs.declared.packet.Qos.{Qos}
 use Rattle.mq_packet.specs.declared.packet.Qos.TheVariants as levels
-use Rattle.sn_frame.specs.declared.frame.Frame.{Frame}
-use Rattle.sn_frame.specs.declared.frame.Frame.TheVariants as frames
 use Rattle.br_core.specs.declared.action.Action.{Action}
 use Rattle.br_core.specs.declared.action.Action.TheVariants as actions
-use Rattle.br_core.specs.declared.event.Event.{Event}
-use Rattle.br_core.specs.declared.event.Event.TheVariants as events
-use Rattle.br_core.specs.declared.item.Command.{Command}
 use Rattle.br_core.specs.declared.item.Flight.{Flight}
 use Rattle.br_core.specs.declared.item.Item.{Item}
 use Rattle.br_core.specs.declared.settings.Settings.{Settings}
 use Rattle.br_core.specs.declared.state.Bridge.{Bridge}
-use Rattle.br_core.specs.declared.state.Lane.{Lane}
-use Rattle.br_core.specs.declared.state.Open.{Open}
 use Rattle.br_core.specs.declared.state.Side.{Side}
 use Rattle.br_core.specs.declared.state.Side.TheVariants as sides
 use Rattle.br_core.specs.Begins.{begun, moment_of}
 use Rattle.br_core.specs.Runs.{Come, Rises, after, after_from, done, done_from, first_in, firsts, stepped}
-use Rattle.br_core.specs.Sides.{acknowledged, at_once, free_id, has_window, in_flight, kept_at, offered, out_again, sent_at, takes_at, waits}
+use Rattle.br_core.specs.Sides.{at_once, free_id, has_window, in_flight, kept_at, out_again, sent_along, sent_at, takes_at, waits}
 use Rattle.br_core.specs.Steps.{emptied}
-use Rattle.br_core.proofs.Running.{no-more, one-more, regroup}
-use Rattle.br_core.proofs.Walk.{At, FirstMay, FrameMay, FrameOwn, Held, IfThere, IsOther, IsWalked, ItemGood, LaneJust, LastJust, PacketGood, Reasons, event-walked, one-taken}
+use Rattle.br_core.proofs.Anything.{Any, Its, Yes, lane-any, reasons-any}
+use Rattle.br_core.proofs.Lists.{regroup}
+use Rattle.br_core.proofs.Walk.{At, Held, IsOther, IsWalked, event-walked, one-taken, sent-waiting}
 
 -- ---- numbers that go up
 
@@ -97,120 +90,96 @@ Sorted low out w n = (mid : ℕ) × Rises low (firsts out) mid × Rises mid (num
 abbrev P : ℕ → Held
 P low l out w f n = Sorted low out w n
 
-abbrev Among : ℕ → Bridge → List Item → Type 0
-Among low b rest = Sorted low b.out (b.waiting ++ rest) b.number
+-- ---- the first one that waits goes
 
--- ---- a reading is offered
-
-sent-sorted : (low : ℕ) (out : List Action) (w : List Item) (item : Item) (rest : List Item) (n : ℕ) (packet : Packet) → length w ≡ 0 → Sorted low out (w ++ item ∷ rest) n
-    → Sorted low (out ++ actions.Reading item.number packet ∷ []) (w ++ rest) n
-sent-sorted low out [] item rest n packet e h =
+first-sorted : (low : ℕ) (out : List Action) (item : Item) (more : List Item) (n : ℕ) (packet : Packet) → Sorted low out (item ∷ more) n
+    → Sorted low (out ++ actions.Reading item.number packet ∷ []) more n
+first-sorted low out item more n packet h =
     let up : h.0 ≤ item.number = h.2.0 in
     let rises : Rises low (firsts out) item.number = rises-wide low (firsts out) h.0 item.number up h.1 in (
       item.number + 1,
       subst (λ (xs : List ℕ). Rises low xs (item.number + 1)) (sym (firsts-join out (actions.Reading item.number packet ∷ []))) (rises-more low (firsts out) item.number rises),
       h.2.1,
     )
-sent-sorted low out (first ∷ more) item rest n packet e h = absurd (omega arith)
 
-sent-at-sorted : (low : ℕ) (qos : Qos) (item : Item) (rest : List Item) (b : Bridge) → length b.waiting ≡ 0 → Among low b (item ∷ rest) → Among low (sent_at qos item b) rest
-sent-at-sorted low levels.Zero item rest b e h = sent-sorted low b.out b.waiting item rest b.number (at_once item) e h
-sent-at-sorted low levels.One item rest b e h =
-    sent-sorted low b.out b.waiting item rest b.number (in_flight false (record { id = free_id b.packet_id b.flight; item = item })) e h
+sent-first-sorted : (low : ℕ) (qos : Qos) (item : Item) (more : List Item) (b : Bridge) → Sorted low b.out (item ∷ more) b.number
+    → At (P low) (sent_at qos item (record b { waiting = more }))
+sent-first-sorted low levels.Zero item more b h = first-sorted low b.out item more b.number (at_once item) h
+sent-first-sorted low levels.One item more b h =
+    first-sorted low b.out item more b.number (in_flight false (record { id = free_id b.packet_id b.flight; item = item })) h
 
-offered-sorted : (low : ℕ) (c : Bool) (item : Item) (rest : List Item) (b : Bridge) → (c ≡ true → length b.waiting ≡ 0) → Among low b (item ∷ rest)
-    → Among low (if c then sent_at item.qos item b else waits item b) rest
-offered-sorted low true item rest b e h = sent-at-sorted low item.qos item rest b (e refl) h
-offered-sorted low false item rest b e h =
-    (h.0, h.1, subst (λ (w : List Item). Rises h.0 (numbers w) b.number) (sym (one-more b.waiting item rest)) h.2)
+choose-sorted : (low : ℕ) (c : Bool) (x y : Bridge) → At (P low) x → At (P low) y → At (P low) (if c then x else y)
+choose-sorted low true x y p q = p
+choose-sorted low false x y p q = q
 
-all-sorted : (low : ℕ) (settings : Settings) (items : List Item) (b : Bridge) → Among low b items → At (P low) (fold (offered settings) b items)
-all-sorted low settings [] b h = (h.0, h.1, subst (λ (w : List Item). Rises h.0 (numbers w) b.number) (no-more b.waiting) h.2)
-all-sorted low settings (item ∷ more) b h =
-    all-sorted low settings more (offered settings b item)
-    (offered-sorted low ((length b.waiting == 0) && has_window settings item.qos b.flight) item more b
-    (λ e. eqb-true (length b.waiting) 0 (and_parts (length b.waiting == 0) (has_window settings item.qos b.flight) e).0) h)
+along-sorted : (low : ℕ) (settings : Settings) (items : List Item) (b : Bridge) → b.waiting ≡ items → At (P low) b → At (P low) (sent_along settings items b)
+along-sorted low settings [] b e h = h
+along-sorted low settings (item ∷ more) b e h =
+    let first : Bridge = record b { waiting = more } in
+    let here : Sorted low b.out (item ∷ more) b.number = subst (λ (w : List Item). Sorted low b.out w b.number) e h in
+    choose-sorted low (has_window settings item.qos b.flight) (sent_along settings more (sent_at item.qos item first)) b
+    (along-sorted low settings more (sent_at item.qos item first) (sent-waiting item.qos item first) (sent-first-sorted low item.qos item more b here)) h
 
 -- ---- a reading is taken
 
-one-behind : (low : ℕ) (item : Item) (b : Bridge) → item.number ≡ b.number → At (P low) b → Among low (one-taken b) (item ∷ [])
+-- it goes at once if nothing waits
+alone-sorted : (low : ℕ) (out : List Action) (w : List Item) (item : Item) (n : ℕ) (packet : Packet) → length w ≡ 0 → Sorted low out (w ++ item ∷ []) n
+    → Sorted low (out ++ actions.Reading item.number packet ∷ []) w n
+alone-sorted low out [] item n packet e h = first-sorted low out item [] n packet h
+alone-sorted low out (first ∷ more) item n packet e h = absurd (omega arith)
+
+sent-at-sorted : (low : ℕ) (qos : Qos) (item : Item) (b : Bridge) → length b.waiting ≡ 0 → Sorted low b.out (b.waiting ++ item ∷ []) b.number → At (P low) (sent_at qos item b)
+sent-at-sorted low levels.Zero item b e h = alone-sorted low b.out b.waiting item b.number (at_once item) e h
+sent-at-sorted low levels.One item b e h =
+    alone-sorted low b.out b.waiting item b.number (in_flight false (record { id = free_id b.packet_id b.flight; item = item })) e h
+
+offered-sorted : (low : ℕ) (c : Bool) (item : Item) (b : Bridge) → (c ≡ true → length b.waiting ≡ 0) → Sorted low b.out (b.waiting ++ item ∷ []) b.number
+    → At (P low) (if c then sent_at item.qos item b else waits item b)
+offered-sorted low true item b e h = sent-at-sorted low item.qos item b (e refl) h
+offered-sorted low false item b e h = h
+
+one-behind : (low : ℕ) (item : Item) (b : Bridge) → b.number ≤ item.number → At (P low) b → Sorted low b.out (b.waiting ++ item ∷ []) (item.number + 1)
 one-behind low item b e h =
-    let last : Rises h.0 (numbers b.waiting) item.number = subst (λ (n : ℕ). Rises h.0 (numbers b.waiting) n) (sym e) h.2 in
+    let last : Rises h.0 (numbers b.waiting) item.number = rises-wide h.0 (numbers b.waiting) b.number item.number e h.2 in
     let more : Rises h.0 (numbers (b.waiting ++ item ∷ [])) (item.number + 1) =
     subst (λ (xs : List ℕ). Rises h.0 xs (item.number + 1)) (sym (numbers-more b.waiting item)) (rises-more h.0 (numbers b.waiting) item.number last) in
-    (h.0, h.1, subst (λ (n : ℕ). Rises h.0 (numbers (b.waiting ++ item ∷ [])) (n + 1)) e more)
+    (h.0, h.1, more)
 
-kept-sorted : (low : ℕ) (qos : Qos) (item : Item) (b : Bridge) → item.number ≡ b.number → At (P low) b → At (P low) (kept_at qos item (one-taken b))
+kept-sorted : (low : ℕ) (qos : Qos) (item : Item) (b : Bridge) → b.number ≤ item.number → At (P low) b → At (P low) (kept_at qos item (one-taken item b))
 kept-sorted low levels.Zero item b e h =
-    let up : b.number ≤ b.number + 1 = omega arith in
-    (h.0, h.1, rises-wide h.0 (numbers b.waiting) b.number (b.number + 1) up h.2)
+    let up : b.number ≤ item.number + 1 = omega arith in
+    (h.0, h.1, rises-wide h.0 (numbers b.waiting) b.number (item.number + 1) up h.2)
 kept-sorted low levels.One item b e h = one-behind low item b e h
 
-takes-sorted : (side : Side) (low : ℕ) (settings : Settings) (item : Item) (b : Bridge) → item.number ≡ b.number → At (P low) b → At (P low) (takes_at side settings item (one-taken b))
-takes-sorted sides.Up low settings item b e h = all-sorted low settings (item ∷ []) (one-taken b) (one-behind low item b e h)
+takes-sorted : (side : Side) (low : ℕ) (settings : Settings) (item : Item) (b : Bridge) → b.number ≤ item.number → At (P low) b → At (P low) (takes_at side settings item (one-taken item b))
+takes-sorted sides.Up low settings item b e h =
+    offered-sorted low ((length b.waiting == 0) && has_window settings item.qos b.flight) item (one-taken item b)
+    (λ c. eqb-true (length b.waiting) 0 (and_parts (length b.waiting == 0) (has_window settings item.qos b.flight) c).0) (one-behind low item b e h)
 takes-sorted side low settings item b e h = kept-sorted low item.qos item b e h
 
 -- ---- the walk, in which every reason is good
 
-abbrev Yes : ℕ → Type 0
-Yes n = Unit {0}
-
-abbrev Its : ℕ → ℕ → ℕ → Type 0
-Its place number msg_id = Unit {0}
-
-last-any : (place : ℕ) (last : Option Open) → LastJust Yes Its place last
-last-any place None = tt
-last-any place (Some held) = (tt, λ e. tt)
-
-lane-any : (place : ℕ) (x : Option Lane) → IfThere (LaneJust Yes Its place) x
-lane-any place None = tt
-lane-any place (Some x) = last-any place x.last
-
-first-any : (queue : List Command) → FirstMay Yes queue
-first-any [] = tt
-first-any (first ∷ more) = λ wanted. tt
-
-item-any : (item : Option Item) → ItemGood Yes item
-item-any None = tt
-item-any (Some item) = tt
-
-frame-own : (place : ℕ) (frame : Frame) (n : ℕ) → FrameOwn Its place frame n
-frame-own place (frames.Publish flags topic msg_id body) n = tt
-frame-own place frame n = tt
-
-frame-may : (frame : Frame) (b : Bridge) → FrameMay Yes frame b
-frame-may (frames.PubAck topic_id msg_id code) b = λ doing asked accepted. first-any b.down.queue
-frame-may frame b = tt
-
-packet-good : (packet : Packet) (b : Bridge) → PacketGood Yes Yes packet b
-packet-good (packets.PubAck id) b = item-any (acknowledged id b.flight)
-packet-good (packets.Publish delivery retain topic body) b = λ kept wanted. tt
-packet-good packet b = tt
-
-reasons-any : (event : Event) (b : Bridge) → Reasons Yes Its Yes event b
-reasons-any (events.Field place frame) b = frame-own place frame b.number
-reasons-any (events.Commands frame) b = frame-may frame b
-reasons-any (events.Broker packet) b = packet-good packet b
-reasons-any (events.Kept line) b = λ doing. first-any b.down.queue
-reasons-any event b = tt
-
-sorted-walked : (low : ℕ) → IsWalked Yes Its Yes (P low)
+sorted-walked : (low : ℕ) → IsWalked Yes Yes Its Yes Any (P low)
 sorted-walked low = record {
   acts = λ a l out w f n o p h. (h.0, subst (λ (xs : List ℕ). Rises low xs h.0) (sym (firsts-other out a o)) h.1, h.2);
   placed = λ place x l out w f n p h. h;
   there = λ place l out w f n h. lane-any place (slice_get l place);
-  taken = λ settings item b e h. takes-sorted b.side low settings item b e h;
-  offers = λ settings b h. all-sorted low settings b.waiting (record b { waiting = [] }) h;
+  taken = λ settings item b e came h. takes-sorted b.side low settings item b e h;
+  counts = λ m l out w f n e h. (h.0, h.1, rises-wide h.0 (numbers w) n m e h.2);
+  offers = λ settings b h. along-sorted low settings b.waiting b refl h;
   repeated = λ l out w f n h. (h.0, subst (λ (xs : List ℕ). Rises low xs h.0) (sym (again-none f out)) h.1, h.2);
-  left = λ id l out w f n good h. h;
+  left = λ id l out w f n handed h. h;
 }
+
+lifts : (n : ℕ) → Yes n → Yes n
+lifts n h = h
 
 -- ---- the law
 
 order-one : (settings : Settings) (come : Come) (b : Bridge) (low : ℕ) → Rises low (numbers b.waiting) b.number → At (P low) (stepped settings b come)
 order-one settings come b low h =
     let same : low ≤ low = omega arith in
-    event-walked Yes Its Yes (P low) (sorted-walked low) settings come.0 (moment_of come.1) (emptied b) (reasons-any come.0 (emptied b)) (low, same, h)
+    event-walked Yes Yes lifts Its Yes Any (P low) (sorted-walked low) settings come.0 (moment_of come.1) (emptied b) (reasons-any settings come.0 (emptied b)) (low, same, h)
 
 order-from : (settings : Settings) (run : List Come) (b : Bridge) (low : ℕ) → Rises low (numbers b.waiting) b.number
     → Rises low (firsts (done_from settings b run)) (after_from settings b run).number

@@ -1,9 +1,8 @@
 -- What holds of lanes, of what is to be done, of what waits and of what is in flight, and is kept by
--- each small change, holds after each step; whatever makes a reading good, a lane's own, and a
--- publication one of which the broker may be told, if the event gives reasons for these.
-use Rattle.std.proofs.Common.{◌≡◌, ◌==◌, ◌+◌, ℕ, zero, suc, Bool, true, false, ◌&&◌, not, if◌then◌else◌, List, [], ◌∷◌, ◌++◌, length, fold, Option, Some, None, refl, sym, ap, subst, arith, eqb-true}
+-- each small change, holds after each step; whatever makes a reading good, done, a lane's own or one
+-- that came, and a publication one of which the broker may be told, if the event gives reasons.
+use Rattle.std.proofs.Common.{◌≡◌, ◌==◌, ◌+◌, ◌≤◌, ℕ, zero, suc, Bool, true, false, ◌&&◌, not, if◌then◌else◌, List, [], ◌∷◌, ◌++◌, length, fold, Option, Some, None, refl, sym, ap, subst, arith, eqb-true, leb-true}
 use Rattle.std.specs.Prelude.{nat_lt, nat_le, slice_get, slice_set}
-use Rattle.std.specs.List.{AllByRecursion}
 use Rattle.std.specs.Str.{bytes_eq}
 use Rattle.std.proofs.lemmas.Bool.{and_parts}
 use Rattle.mq_packet.specs.declared.packet.Delivery.TheVariants as deliveries
@@ -37,23 +36,20 @@ use Rattle.br_core.specs.declared.state.Doing.TheVariants as doings
 use Rattle.br_core.specs.declared.state.Down.{Down}
 use Rattle.br_core.specs.declared.state.Lane.{Lane}
 use Rattle.br_core.specs.declared.state.Moment.{Moment}
+use Rattle.br_core.specs.declared.state.Named.{Named}
 use Rattle.br_core.specs.declared.state.Open.{Open}
 use Rattle.br_core.specs.declared.state.Phase.{Phase}
 use Rattle.br_core.specs.declared.state.Phase.TheVariants as phases
 use Rattle.br_core.specs.declared.state.Side.{Side}
 use Rattle.br_core.specs.declared.state.Side.TheVariants as sides
 use Rattle.br_core.specs.declared.state.TheConstants.{BROKER_KEEP_ALIVE, KEEP_ALIVE, LAST_NUMBER, MAX_NAMES, SLEEP, TRIES}
-use Rattle.br_core.specs.Sides.{acknowledged, all_again, at_once, does, free_id, has_window, in_flight, kept_at, left_in_flight, next_id, offered, once_more, out_again, sends, sent_at, sent_under, takes, takes_at, waits}
+use Rattle.br_core.specs.Sides.{acknowledged, all_again, at_once, does, free_id, has_window, in_flight, kept_at, left_in_flight, next_id, offered, once_more, out_again, sends, sent_along, sent_at, takes, takes_at, waits}
 use Rattle.br_core.specs.Lanes as lane
 use Rattle.br_core.specs.Commands as command
 use Rattle.br_core.specs.Steps as whole
 use Rattle.br_core.specs.Runs.{IsFrame, IsJust}
 
--- ---- lists
-
-pub all-push : {X : Type 0} (P : X → Type 0) (xs : List X) (x : X) → AllByRecursion P xs → P x → AllByRecursion P (xs ++ x ∷ [])
-all-push P [] x h p = (p, tt)
-all-push P (y ∷ ys) x h p = (h.0, all-push P ys x h.1 p)
+-- ---- lanes in their places
 
 -- each lane has what belongs to its place
 abbrev pub AtPlaces : (ℕ → Lane → Type 0) → List Lane → Type 0
@@ -100,10 +96,10 @@ abbrev pub FirstMay : (ℕ → Type 0) → List Command → Type 0
 FirstMay May [] = Unit {0}
 FirstMay May (first ∷ more) = Tells May first.id
 
--- the item, if there is one, is good
-abbrev pub ItemGood : (ℕ → Type 0) → Option Item → Type 0
-ItemGood Good None = Unit {0}
-ItemGood Good (Some item) = Good item.number
+-- the item, if there is one, is done
+abbrev pub ItemDone : (ℕ → Type 0) → Option Item → Type 0
+ItemDone Done None = Unit {0}
+ItemDone Done (Some item) = Done item.number
 
 refused : ◌≡◌ {A = ℕ} 2 0 → ⊥
 refused e = omega arith
@@ -128,25 +124,44 @@ abbrev pub FrameOwn : (ℕ → ℕ → ℕ → Type 0) → ℕ → Frame → ℕ
 FrameOwn Own place (frames.Publish flags topic msg_id body) number = Own place number msg_id
 FrameOwn Own place frame number = Unit {0}
 
+-- and what it brings under a name came, for a lane of these names and ids
+abbrev pub FrameCame : (Item → Type 0) → LaneSettings → List Named → ℕ → ℕ → Frame → Type 0
+FrameCame Came own ids place number (frames.Publish flags topic msg_id body) =
+    (name : ℕ) (up : UpName) (qos : Qos) → lane.name_of (kind_of flags.bits) topic own.names ids ≡ Some name
+    → slice_get own.names name ≡ Some up → Came (lane.item_of number place qos up body)
+FrameCame Came own ids place number frame = Unit {0}
+
+-- both, for the lane that there is
+abbrev pub FrameIn : (ℕ → ℕ → ℕ → Type 0) → (Item → Type 0) → Settings → ℕ → Frame → Bridge → Type 0
+FrameIn Own Came settings place frame b =
+    FrameOwn Own place frame b.number × ((own : LaneSettings) (x : Lane) → slice_get settings.lanes place ≡ Some own
+    → slice_get b.lanes place ≡ Some x → FrameCame Came own x.ids place b.number frame)
+
 -- PUBACK 0 of what was published last lets the broker be told of the first command
 abbrev pub FrameMay : (ℕ → Type 0) → Frame → Bridge → Type 0
 FrameMay May (frames.PubAck topic_id msg_id code) b =
     b.down.doing ≡ doings.Publishing → msg_id ≡ b.down.msg_id → code ≡ 0 → FirstMay May b.down.queue
 FrameMay May frame b = Unit {0}
 
--- a PUBACK makes the reading in flight good; what the broker had kept may be told at once
-abbrev pub PacketGood : (ℕ → Type 0) → (ℕ → Type 0) → Packet → Bridge → Type 0
-PacketGood Good May (packets.PubAck id) b = ItemGood Good (acknowledged id b.flight)
-PacketGood Good May (packets.Publish delivery retain topic body) b = retain ≡ true → Tells May (whole.id_in delivery)
-PacketGood Good May packet b = Unit {0}
+-- a PUBACK makes the reading in flight done; what the broker had kept may be told at once
+abbrev pub PacketDone : (ℕ → Type 0) → (ℕ → Type 0) → Packet → Bridge → Type 0
+PacketDone Done May (packets.PubAck id) b = ItemDone Done (acknowledged id b.flight)
+PacketDone Done May (packets.Publish delivery retain topic body) b = retain ≡ true → Tells May (whole.id_in delivery)
+PacketDone Done May packet b = Unit {0}
+
+-- what the spool has is good
+abbrev pub AreGood : (ℕ → Type 0) → Settings → ℕ → Bridge → Type 0
+AreGood Good settings below b = whole.may_keep settings below b ≡ true → (number : ℕ) → nat_lt number below ≡ true → Good number
 
 -- what an event gives as reasons
-abbrev pub Reasons : (ℕ → Type 0) → (ℕ → ℕ → ℕ → Type 0) → (ℕ → Type 0) → Event → Bridge → Type 0
-Reasons Good Own May (events.Field place frame) b = FrameOwn Own place frame b.number
-Reasons Good Own May (events.Commands frame) b = FrameMay May frame b
-Reasons Good Own May (events.Broker packet) b = PacketGood Good May packet b
-Reasons Good Own May (events.Kept line) b = b.down.doing ≡ doings.Refusing line → FirstMay May b.down.queue
-Reasons Good Own May event b = Unit {0}
+abbrev pub Reasons : (ℕ → Type 0) → (ℕ → Type 0) → (ℕ → ℕ → ℕ → Type 0) → (ℕ → Type 0) → (Item → Type 0) → Settings → Event → Bridge → Type 0
+Reasons Good Done Own May Came settings (events.Field place frame) b = FrameIn Own Came settings place frame b
+Reasons Good Done Own May Came settings (events.Commands frame) b = FrameMay May frame b
+Reasons Good Done Own May Came settings (events.Broker packet) b = PacketDone Done May packet b
+Reasons Good Done Own May Came settings (events.Kept line) b = b.down.doing ≡ doings.Refusing line → FirstMay May b.down.queue
+Reasons Good Done Own May Came settings (events.Found item) b = Came item
+Reasons Good Done Own May Came settings (events.Stored below) b = AreGood Good settings below b
+Reasons Good Done Own May Came settings event b = Unit {0}
 
 -- what holds of lanes, actions, readings that wait, readings in flight, and the number of the next one
 abbrev pub Held : Type 1
@@ -155,77 +170,109 @@ Held = List Lane → List Action → List Item → List Flight → ℕ → Type 
 abbrev pub At : Held → Bridge → Type 0
 At P b = P b.lanes b.out b.waiting b.flight b.number
 
--- a reading has come, which takes the next number
-abbrev pub one-taken : Bridge → Bridge
-one-taken b = record b { number = b.number + 1 }
+-- a reading has come, which takes its number
+abbrev pub one-taken : Item → Bridge → Bridge
+one-taken item b = record b { number = item.number + 1 }
+
+-- a reading without a packet id, and one under a packet id, that go out for the first time
+abbrev pub goes-out : Item → Action
+goes-out item = actions.Reading item.number (at_once item)
+
+abbrev pub flies-out : ℕ → Item → Action
+flies-out id item = actions.Reading item.number (in_flight false (record { id = id; item = item }))
 
 -- what is done beside first sendings of readings
 abbrev pub IsOther : Action → Type 0
 IsOther (actions.Reading number packet) = ⊥
 IsOther action = Unit {0}
 
--- It is kept if something just is to be done, and if a reading comes, waits or goes out.
-pub record IsKept (Good : ℕ → Type 0) (Own : ℕ → ℕ → ℕ → Type 0) (May : ℕ → Type 0) (P : Held) : Type 0 where
-  pub acts : (a : Action) (l : List Lane) (out : List Action) (w : List Item) (f : List Flight) (n : ℕ) → IsJust Good Own May a → P l out w f n → P l (out ++ a ∷ []) w f n
-  pub queued : (item : Item) (l : List Lane) (out : List Action) (w : List Item) (f : List Flight) (n : ℕ) → P l out w f n → P l out (w ++ item ∷ []) f n
-  pub flown : (id : ℕ) (item : Item) (l : List Lane) (out : List Action) (w : List Item) (f : List Flight) (n : ℕ) → P l out w f n → P l out w (f ++ record { id = id; item = item } ∷ []) n
-  pub counts : (l : List Lane) (out : List Action) (w : List Item) (f : List Flight) (n : ℕ) → P l out w f n → P l out w f (n + 1)
+-- It is kept if something just is to be done, if a reading that came waits or goes out, and if the
+-- first one that waits does.
+pub record IsKept (Good : ℕ → Type 0) (Done : ℕ → Type 0) (Own : ℕ → ℕ → ℕ → Type 0) (May : ℕ → Type 0) (Came : Item → Type 0) (P : Held) : Type 0 where
+  pub acts : (a : Action) (l : List Lane) (out : List Action) (w : List Item) (f : List Flight) (n : ℕ) → IsOther a → IsJust Good Done Own May Came a → P l out w f n → P l (out ++ a ∷ []) w f n
+  pub queued : (item : Item) (l : List Lane) (out : List Action) (w : List Item) (f : List Flight) (n : ℕ) → Came item → P l out w f n → P l out (w ++ item ∷ []) f n
+  pub goes : (item : Item) (l : List Lane) (out : List Action) (w : List Item) (f : List Flight) (n : ℕ) → Came item → P l out w f n → P l (out ++ goes-out item ∷ []) w f n
+  pub flies : (id : ℕ) (item : Item) (l : List Lane) (out : List Action) (w : List Item) (f : List Flight) (n : ℕ) → Came item → P l out w f n
+      → P l (out ++ flies-out id item ∷ []) w (f ++ record { id = id; item = item } ∷ []) n
+  pub goes_first : (item : Item) (more : List Item) (l : List Lane) (out : List Action) (f : List Flight) (n : ℕ) → item.qos ≡ levels.Zero → P l out (item ∷ more) f n
+      → P l (out ++ goes-out item ∷ []) more f n
+  pub flies_first : (id : ℕ) (item : Item) (more : List Item) (l : List Lane) (out : List Action) (f : List Flight) (n : ℕ) → P l out (item ∷ more) f n
+      → P l (out ++ flies-out id item ∷ []) more (f ++ record { id = id; item = item } ∷ []) n
+  pub counts : (m : ℕ) (l : List Lane) (out : List Action) (w : List Item) (f : List Flight) (n : ℕ) → n ≤ m → P l out w f n → P l out w f m
 
 -- And of whole bridges: if something else than a first sending is to be done, if a lane changes, if
--- a reading is taken, what waits is offered, what is in flight goes out again, and a good reading
--- leaves it; and it says what lanes are.
-pub record IsWalked (Good : ℕ → Type 0) (Own : ℕ → ℕ → ℕ → Type 0) (May : ℕ → Type 0) (P : Held) : Type 0 where
-  pub acts : (a : Action) (l : List Lane) (out : List Action) (w : List Item) (f : List Flight) (n : ℕ) → IsOther a → IsJust Good Own May a → P l out w f n → P l (out ++ a ∷ []) w f n
+-- a reading that came is taken, if numbers are passed over, if what waits is sent, if what is in
+-- flight goes out again, and if what is done leaves it; and it says what lanes are.
+pub record IsWalked (Good : ℕ → Type 0) (Done : ℕ → Type 0) (Own : ℕ → ℕ → ℕ → Type 0) (May : ℕ → Type 0) (Came : Item → Type 0) (P : Held) : Type 0 where
+  pub acts : (a : Action) (l : List Lane) (out : List Action) (w : List Item) (f : List Flight) (n : ℕ) → IsOther a → IsJust Good Done Own May Came a → P l out w f n → P l (out ++ a ∷ []) w f n
   pub placed : (place : ℕ) (x : Lane) (l : List Lane) (out : List Action) (w : List Item) (f : List Flight) (n : ℕ) → LaneJust Good Own place x → P l out w f n → P (slice_set l place x) out w f n
   pub there : (place : ℕ) (l : List Lane) (out : List Action) (w : List Item) (f : List Flight) (n : ℕ) → P l out w f n → IfThere (LaneJust Good Own place) (slice_get l place)
-  pub taken : (settings : Settings) (item : Item) (b : Bridge) → item.number ≡ b.number → At P b → At P (takes settings item (one-taken b))
+  pub taken : (settings : Settings) (item : Item) (b : Bridge) → b.number ≤ item.number → Came item → At P b → At P (takes settings item (one-taken item b))
+  pub counts : (m : ℕ) (l : List Lane) (out : List Action) (w : List Item) (f : List Flight) (n : ℕ) → n ≤ m → P l out w f n → P l out w f m
   pub offers : (settings : Settings) (b : Bridge) → At P b → At P (sends settings b)
   pub repeated : (l : List Lane) (out : List Action) (w : List Item) (f : List Flight) (n : ℕ) → P l out w f n → P l (fold out_again out f) w f n
-  pub left : (id : ℕ) (l : List Lane) (out : List Action) (w : List Item) (f : List Flight) (n : ℕ) → ItemGood Good (acknowledged id f) → P l out w f n → P l out w (left_in_flight id f) n
+  pub left : (id : ℕ) (l : List Lane) (out : List Action) (w : List Item) (f : List Flight) (n : ℕ) → ItemDone Done (acknowledged id f) → P l out w f n → P l out w (left_in_flight id f) n
+
+-- what is sent leaves what waits as it was
+pub sent-waiting : (qos : Qos) (item : Item) (b : Bridge) → (sent_at qos item b).waiting ≡ b.waiting
+sent-waiting levels.Zero item b = refl
+sent-waiting levels.One item b = refl
 
 -- ---- a reading is offered
 
-module _ (Good : ℕ → Type 0) (Own : ℕ → ℕ → ℕ → Type 0) (May : ℕ → Type 0) (P : Held) (kept : IsKept Good Own May P) where
+module _ (Good : ℕ → Type 0) (Done : ℕ → Type 0) (Own : ℕ → ℕ → ℕ → Type 0) (May : ℕ → Type 0) (Came : Item → Type 0) (P : Held) (kept : IsKept Good Done Own May Came P) where
   abbrev K : Bridge → Type 0
   K b = At P b
-
-  pub sent-under-kept : (id : ℕ) (item : Item) (b : Bridge) → K b → K (sent_under id item b)
-  sent-under-kept id item b h =
-      kept.acts (actions.Reading item.number (in_flight false (record { id = id; item = item }))) b.lanes b.out b.waiting (b.flight ++ record { id = id; item = item } ∷ []) b.number tt
-      (kept.flown id item b.lanes b.out b.waiting b.flight b.number h)
-
-  pub sent-at-kept : (qos : Qos) (item : Item) (b : Bridge) → K b → K (sent_at qos item b)
-  sent-at-kept levels.Zero item b h = kept.acts (actions.Reading item.number (at_once item)) b.lanes b.out b.waiting b.flight b.number tt h
-  sent-at-kept levels.One item b h = sent-under-kept (free_id b.packet_id b.flight) item b h
 
   choose-kept : (c : Bool) (x y : Bridge) → K x → K y → K (if c then x else y)
   choose-kept true x y p q = p
   choose-kept false x y p q = q
 
-  pub offered-kept : (settings : Settings) (b : Bridge) (item : Item) → K b → K (offered settings b item)
-  offered-kept settings b item h =
+  sent-at-kept : (qos : Qos) (item : Item) (b : Bridge) → Came item → K b → K (sent_at qos item b)
+  sent-at-kept levels.Zero item b came h = kept.goes item b.lanes b.out b.waiting b.flight b.number came h
+  sent-at-kept levels.One item b came h = kept.flies (free_id b.packet_id b.flight) item b.lanes b.out b.waiting b.flight b.number came h
+
+  waits-kept : (item : Item) (b : Bridge) → Came item → K b → K (waits item b)
+  waits-kept item b came h = kept.queued item b.lanes b.out b.waiting b.flight b.number came h
+
+  offered-kept : (settings : Settings) (b : Bridge) (item : Item) → Came item → K b → K (offered settings b item)
+  offered-kept settings b item came h =
       choose-kept ((length b.waiting == 0) && has_window settings item.qos b.flight) (sent_at item.qos item b) (waits item b)
-      (sent-at-kept item.qos item b h) (kept.queued item b.lanes b.out b.waiting b.flight b.number h)
+      (sent-at-kept item.qos item b came h) (waits-kept item b came h)
 
-  pub all-offered : (settings : Settings) (items : List Item) (b : Bridge) → K b → K (fold (offered settings) b items)
-  all-offered settings [] b h = h
-  all-offered settings (item ∷ more) b h = all-offered settings more (offered settings b item) (offered-kept settings b item h)
+  kept-at-kept : (qos : Qos) (item : Item) (b : Bridge) → Came item → K b → K (kept_at qos item b)
+  kept-at-kept levels.Zero item b came h = h
+  kept-at-kept levels.One item b came h = waits-kept item b came h
 
-  kept-at-kept : (qos : Qos) (item : Item) (b : Bridge) → K b → K (kept_at qos item b)
-  kept-at-kept levels.Zero item b h = h
-  kept-at-kept levels.One item b h = kept.queued item b.lanes b.out b.waiting b.flight b.number h
+  takes-at-kept : (side : Side) (settings : Settings) (item : Item) (b : Bridge) → Came item → K b → K (takes_at side settings item b)
+  takes-at-kept sides.Up settings item b came h = offered-kept settings b item came h
+  takes-at-kept side settings item b came h = kept-at-kept item.qos item b came h
 
-  takes-at-kept : (side : Side) (settings : Settings) (item : Item) (b : Bridge) → K b → K (takes_at side settings item b)
-  takes-at-kept sides.Up settings item b h = offered-kept settings b item h
-  takes-at-kept side settings item b h = kept-at-kept item.qos item b h
+  pub taken-kept : (settings : Settings) (item : Item) (b : Bridge) → b.number ≤ item.number → Came item → K b → K (takes settings item (one-taken item b))
+  taken-kept settings item b e came h =
+      let next : b.number ≤ item.number + 1 = omega arith in
+      takes-at-kept b.side settings item (one-taken item b) came (kept.counts (item.number + 1) b.lanes b.out b.waiting b.flight b.number next h)
 
-  pub taken-kept : (settings : Settings) (item : Item) (b : Bridge) → K b → K (takes settings item (one-taken b))
-  taken-kept settings item b h =
-      takes-at-kept b.side settings item (one-taken b) (kept.counts b.lanes b.out b.waiting b.flight b.number h)
+  -- ---- what waits is sent
+
+  first-kept : (qos : Qos) (item : Item) (more : List Item) (b : Bridge) → item.qos ≡ qos → P b.lanes b.out (item ∷ more) b.flight b.number → K (sent_at qos item (record b { waiting = more }))
+  first-kept levels.Zero item more b e h = kept.goes_first item more b.lanes b.out b.flight b.number e h
+  first-kept levels.One item more b e h = kept.flies_first (free_id b.packet_id b.flight) item more b.lanes b.out b.flight b.number h
+
+  along-kept : (settings : Settings) (items : List Item) (b : Bridge) → b.waiting ≡ items → K b → K (sent_along settings items b)
+  along-kept settings [] b e h = h
+  along-kept settings (item ∷ more) b e h =
+      let first : Bridge = record b { waiting = more } in
+      let here : P b.lanes b.out (item ∷ more) b.flight b.number = subst (λ (w : List Item). P b.lanes b.out w b.flight b.number) e h in
+      choose-kept (has_window settings item.qos b.flight) (sent_along settings more (sent_at item.qos item first)) b
+      (along-kept settings more (sent_at item.qos item first) (sent-waiting item.qos item first) (first-kept item.qos item more b refl here)) h
+
+  pub sends-kept : (settings : Settings) (b : Bridge) → K b → K (sends settings b)
+  sends-kept settings b h = along-kept settings b.waiting b refl h
 
 -- ---- all the rest
 
-module _ (Good : ℕ → Type 0) (Own : ℕ → ℕ → ℕ → Type 0) (May : ℕ → Type 0) (P : Held) (walked : IsWalked Good Own May P) where
+module _ (Good : ℕ → Type 0) (Done : ℕ → Type 0) (lift : (n : ℕ) → Done n → Good n) (Own : ℕ → ℕ → ℕ → Type 0) (May : ℕ → Type 0) (Came : Item → Type 0) (P : Held) (walked : IsWalked Good Done Own May Came P) where
   abbrev J : Bridge → Type 0
   J b = At P b
 
@@ -244,7 +291,7 @@ module _ (Good : ℕ → Type 0) (Own : ℕ → ℕ → ℕ → Type 0) (May : �
   choose-not true x y p q = p
   choose-not false x y p q = q refl
 
-  does-just : (a : Action) (b : Bridge) → IsOther a → IsJust Good Own May a → J b → J (does a b)
+  does-just : (a : Action) (b : Bridge) → IsOther a → IsJust Good Done Own May Came a → J b → J (does a b)
   does-just a b o p h = walked.acts a b.lanes b.out b.waiting b.flight b.number o p h
 
   put-just : (place : ℕ) (x : Lane) (b : Bridge) → L place x → J b → J (lane.seated place x b)
@@ -277,17 +324,31 @@ module _ (Good : ℕ → Type 0) (Own : ℕ → ℕ → ℕ → Type 0) (May : �
   subscribing-just : (own : LaneSettings) (place next : ℕ) (m : Moment) (x : Lane) (b : Bridge) → L place x → J b → J (lane.subscribing own place next m x b)
   subscribing-just own place next m x b p h = subscribing-at-just (slice_get own.names next) place next m x b p h
 
-  counted-just : (settings : Settings) (place : ℕ) (qos : Qos) (up : UpName) (body : List ℕ) (b : Bridge) → J b → J (lane.counted settings place qos up body b)
-  counted-just settings place qos up body b h =
-      walked.taken settings (lane.item_of b.number place qos up body) b refl h
+  asleep-in-just : (phase : Phase) (place : ℕ) (x : Lane) (b : Bridge) → L place x → J b → J (lane.asleep_in phase place x b)
+  asleep-in-just phases.Away place x b p h = put-just place (record x { phase = phases.Asleep; tries = 0 }) b p h
+  asleep-in-just phases.Asleep place x b p h = h
+  asleep-in-just phase place x b p h =
+      says-just place (frames.Disconnect (Some SLEEP)) (record x { phase = phases.Asleep; tries = 0 }) b tt p h
+
+  counted-just : (settings : Settings) (place : ℕ) (qos : Qos) (up : UpName) (body : List ℕ) (b : Bridge) → Came (lane.item_of b.number place qos up body) → J b
+      → J (lane.counted settings place qos up body b)
+  counted-just settings place qos up body b came h =
+      let same : b.number ≤ b.number = omega arith in
+      walked.taken settings (lane.item_of b.number place qos up body) b same came h
+
+  stored-just : (settings : Settings) (item : Item) (b : Bridge) → Came item → J b → J (lane.stored settings item b)
+  stored-just settings item b came h = choose settings.spools (does (actions.Store item) b) b (does-just (actions.Store item) b tt came h) h
 
   brings-just : (settings : Settings) (place name : ℕ) (up : UpName) (topic_id msg_id : ℕ) (body : List ℕ) (x : Lane) (b : Bridge)
-      → Own place b.number msg_id → L place x → J b → J (lane.brings settings place name up topic_id msg_id body x b)
-  brings-just settings place name up topic_id msg_id body x b own p h =
+      → Own place b.number msg_id → Came (lane.item_of b.number place levels.One up body) → L place x → J b → J (lane.brings settings place name up topic_id msg_id body x b)
+  brings-just settings place name up topic_id msg_id body x b own came p h =
       let brought : Lane = record x { last = Some (lane.open_of b.number name topic_id msg_id body) } in
-      choose (lane.has_room b) (lane.counted settings place levels.One up body (lane.seated place brought b)) (lane.seated place x b)
-      (counted-just settings place levels.One up body (lane.seated place brought b) (put-just place brought b (own, unanswered) h))
-      (put-just place x b p h)
+      let item : Item = lane.item_of b.number place levels.One up body in
+      let counted : Bridge = lane.counted settings place levels.One up body (lane.seated place brought b) in
+      choose (lane.has_room settings body b) (lane.stored settings item counted) (lane.asleep_in x.phase place x b)
+      (stored-just settings item counted came
+      (counted-just settings place levels.One up body (lane.seated place brought b) came (put-just place brought b (own, unanswered) h)))
+      (asleep-in-just x.phase place x b p h)
 
   again-at-just : (c : Bool) (place topic_id msg_id : ℕ) (held : Open) (x : Lane) (b : Bridge)
       → held.is_answered ≡ c → held.msg_id ≡ msg_id → OpenJust Good Own place held → J b → J (lane.again_at c place topic_id msg_id held x b)
@@ -303,27 +364,30 @@ module _ (Good : ℕ → Type 0) (Own : ℕ → ℕ → ℕ → Type 0) (May : �
       eqb-true held.msg_id msg_id (and_parts (held.name == name) (held.msg_id == msg_id) both.0).1
 
   brings-if-just : (last : Option Open) (settings : Settings) (place name : ℕ) (up : UpName) (topic_id msg_id : ℕ) (body : List ℕ) (x : Lane) (b : Bridge)
-      → LastJust Good Own place last → Own place b.number msg_id → L place x → J b → J (lane.brings_if last settings place name up topic_id msg_id body x b)
-  brings-if-just None settings place name up topic_id msg_id body x b o own p h =
-      brings-just settings place name up topic_id msg_id body x b own p h
-  brings-if-just (Some held) settings place name up topic_id msg_id body x b o own p h =
+      → LastJust Good Own place last → Own place b.number msg_id → Came (lane.item_of b.number place levels.One up body) → L place x → J b
+      → J (lane.brings_if last settings place name up topic_id msg_id body x b)
+  brings-if-just None settings place name up topic_id msg_id body x b o own came p h =
+      brings-just settings place name up topic_id msg_id body x b own came p h
+  brings-if-just (Some held) settings place name up topic_id msg_id body x b o own came p h =
       choose-by (lane.is_same name msg_id body held) (lane.again_at held.is_answered place topic_id msg_id held x b)
       (lane.brings settings place name up topic_id msg_id body x b)
       (λ e. again-at-just held.is_answered place topic_id msg_id held x b refl (same-id name msg_id body held e) o h)
-      (brings-just settings place name up topic_id msg_id body x b own p h)
+      (brings-just settings place name up topic_id msg_id body x b own came p h)
 
-  passes-just : (settings : Settings) (place : ℕ) (up : UpName) (body : List ℕ) (x : Lane) (b : Bridge) → L place x → J b → J (lane.passes settings place up body x b)
-  passes-just settings place up body x b p h =
-      choose (lane.has_room b) (lane.counted settings place levels.Zero up body (lane.seated place x b)) (lane.seated place x b)
-      (counted-just settings place levels.Zero up body (lane.seated place x b) (put-just place x b p h))
+  passes-just : (settings : Settings) (place : ℕ) (up : UpName) (body : List ℕ) (x : Lane) (b : Bridge) → Came (lane.item_of b.number place levels.Zero up body) → L place x → J b
+      → J (lane.passes settings place up body x b)
+  passes-just settings place up body x b came p h =
+      choose (lane.has_room settings body b) (lane.counted settings place levels.Zero up body (lane.seated place x b)) (lane.seated place x b)
+      (counted-just settings place levels.Zero up body (lane.seated place x b) came (put-just place x b p h))
       (put-just place x b p h)
 
   publication-at-just : (qos : FieldQos) (settings : Settings) (place name : ℕ) (up : UpName) (topic_id msg_id : ℕ) (body : List ℕ) (x : Lane) (b : Bridge)
-      → Own place b.number msg_id → L place x → J b → J (lane.publication_at qos settings place name up topic_id msg_id body x b)
-  publication-at-just field_levels.Zero settings place name up topic_id msg_id body x b own p h = passes-just settings place up body x b p h
-  publication-at-just field_levels.One settings place name up topic_id msg_id body x b own p h =
-      brings-if-just x.last settings place name up topic_id msg_id body x b p own p h
-  publication-at-just qos settings place name up topic_id msg_id body x b own p h = put-just place x b p h
+      → Own place b.number msg_id → ((qos : Qos) → Came (lane.item_of b.number place qos up body)) → L place x → J b
+      → J (lane.publication_at qos settings place name up topic_id msg_id body x b)
+  publication-at-just field_levels.Zero settings place name up topic_id msg_id body x b own cames p h = passes-just settings place up body x b (cames levels.Zero) p h
+  publication-at-just field_levels.One settings place name up topic_id msg_id body x b own cames p h =
+      brings-if-just x.last settings place name up topic_id msg_id body x b p own (cames levels.One) p h
+  publication-at-just qos settings place name up topic_id msg_id body x b own cames p h = put-just place x b p h
 
   unknown-at-just : (qos : FieldQos) (kind : TopicIdType) (place topic_id msg_id : ℕ) (x : Lane) (b : Bridge) → L place x → J b → J (lane.unknown_at qos kind place topic_id msg_id x b)
   unknown-at-just field_levels.One kind place topic_id msg_id x b p h =
@@ -331,16 +395,18 @@ module _ (Good : ℕ → Type 0) (Own : ℕ → ℕ → ℕ → Type 0) (May : �
   unknown-at-just qos kind place topic_id msg_id x b p h = put-just place x b p h
 
   named-at-just : (up : Option UpName) (qos : FieldQos) (kind : TopicIdType) (settings : Settings) (place name topic_id msg_id : ℕ) (body : List ℕ) (x : Lane) (b : Bridge)
-      → Own place b.number msg_id → L place x → J b → J (lane.named_at up qos kind settings place name topic_id msg_id body x b)
-  named-at-just None qos kind settings place name topic_id msg_id body x b own p h = unknown-at-just qos kind place topic_id msg_id x b p h
-  named-at-just (Some up) qos kind settings place name topic_id msg_id body x b own p h =
-      publication-at-just qos settings place name up topic_id msg_id body x b own p h
+      → Own place b.number msg_id → ((u : UpName) (level : Qos) → up ≡ Some u → Came (lane.item_of b.number place level u body)) → L place x → J b
+      → J (lane.named_at up qos kind settings place name topic_id msg_id body x b)
+  named-at-just None qos kind settings place name topic_id msg_id body x b own cames p h = unknown-at-just qos kind place topic_id msg_id x b p h
+  named-at-just (Some up) qos kind settings place name topic_id msg_id body x b own cames p h =
+      publication-at-just qos settings place name up topic_id msg_id body x b own (λ level. cames up level refl) p h
 
   known-at-just : (name : Option ℕ) (qos : FieldQos) (kind : TopicIdType) (settings : Settings) (own : LaneSettings) (place topic_id msg_id : ℕ) (body : List ℕ) (x : Lane) (b : Bridge)
-      → Own place b.number msg_id → L place x → J b → J (lane.known_at name qos kind settings own place topic_id msg_id body x b)
-  known-at-just None qos kind settings own place topic_id msg_id body x b mine p h = unknown-at-just qos kind place topic_id msg_id x b p h
-  known-at-just (Some name) qos kind settings own place topic_id msg_id body x b mine p h =
-      named-at-just (slice_get own.names name) qos kind settings place name topic_id msg_id body x b mine p h
+      → Own place b.number msg_id → ((n : ℕ) (u : UpName) (level : Qos) → name ≡ Some n → slice_get own.names n ≡ Some u → Came (lane.item_of b.number place level u body)) → L place x → J b
+      → J (lane.known_at name qos kind settings own place topic_id msg_id body x b)
+  known-at-just None qos kind settings own place topic_id msg_id body x b mine cames p h = unknown-at-just qos kind place topic_id msg_id x b p h
+  known-at-just (Some name) qos kind settings own place topic_id msg_id body x b mine cames p h =
+      named-at-just (slice_get own.names name) qos kind settings place name topic_id msg_id body x b mine (λ u level e. cames name u level refl e) p h
 
   registered-just : (name : Option ℕ) (place topic_id msg_id : ℕ) (x : Lane) (b : Bridge) → L place x → J b → J (lane.registered name place topic_id msg_id x b)
   registered-just None place topic_id msg_id x b p h = says-just place (frames.RegAck topic_id msg_id 3) x b tt p h
@@ -351,13 +417,13 @@ module _ (Good : ℕ → Type 0) (Own : ℕ → ℕ → ℕ → Type 0) (May : �
   goes-away-just place m x b p h = put-just place (record x { phase = phases.Away; tries = 0; due = m.at }) b p h
 
   awake-just : (settings : Settings) (own : LaneSettings) (place : ℕ) (m : Moment) (frame : Frame) (x : Lane) (b : Bridge)
-      → FrameOwn Own place frame b.number → L place x → J b → J (lane.awake_frame settings own place m frame x b)
-  awake-just settings own place m (frames.Publish flags topic msg_id body) x b mine p h =
-      known-at-just (lane.name_of (kind_of flags.bits) topic own.names x.ids) (qos_of flags.bits) (kind_of flags.bits) settings own place topic msg_id body x b mine p h
-  awake-just settings own place m (frames.Register topic_id msg_id name) x b mine p h =
+      → FrameOwn Own place frame b.number → FrameCame Came own x.ids place b.number frame → L place x → J b → J (lane.awake_frame settings own place m frame x b)
+  awake-just settings own place m (frames.Publish flags topic msg_id body) x b mine cames p h =
+      known-at-just (lane.name_of (kind_of flags.bits) topic own.names x.ids) (qos_of flags.bits) (kind_of flags.bits) settings own place topic msg_id body x b mine cames p h
+  awake-just settings own place m (frames.Register topic_id msg_id name) x b mine cames p h =
       registered-just (lane.place_of name own.names) place topic_id msg_id x b p h
-  awake-just settings own place m (frames.Disconnect duration) x b mine p h = goes-away-just place m x b p h
-  awake-just settings own place m frame x b mine p h = put-just place x b p h
+  awake-just settings own place m (frames.Disconnect duration) x b mine cames p h = goes-away-just place m x b p h
+  awake-just settings own place m frame x b mine cames p h = put-just place x b p h
 
   connected-just : (own : LaneSettings) (place : ℕ) (m : Moment) (frame : Frame) (x : Lane) (b : Bridge) → L place x → J b → J (lane.connected own place m frame x b)
   connected-just own place m (frames.ConnAck code) x b p h =
@@ -370,23 +436,29 @@ module _ (Good : ℕ → Type 0) (Own : ℕ → ℕ → ℕ → Type 0) (May : �
       choose (code == 0) (lane.subscribing own place (next + 1) m named b) b (subscribing-just own place (next + 1) m named b p h) h
 
   naming-just : (settings : Settings) (own : LaneSettings) (place next : ℕ) (m : Moment) (frame : Frame) (x : Lane) (b : Bridge)
-      → FrameOwn Own place frame b.number → L place x → J b → J (lane.naming_frame settings own place next m frame x b)
-  naming-just settings own place next m (frames.SubAck flags topic_id msg_id code) x b mine p h =
+      → FrameOwn Own place frame b.number → FrameCame Came own x.ids place b.number frame → L place x → J b → J (lane.naming_frame settings own place next m frame x b)
+  naming-just settings own place next m (frames.SubAck flags topic_id msg_id code) x b mine cames p h =
       choose (lane.is_its next msg_id x) (lane.subscribed own place next m topic_id code x b) b (subscribed-just own place next m topic_id code x b p h) h
-  naming-just settings own place next m frame x b mine p h = awake-just settings own place m frame x b mine p h
+  naming-just settings own place next m frame x b mine cames p h = awake-just settings own place m frame x b mine cames p h
 
   heard-lane : (c : Bool) (place : ℕ) (x y : Lane) → L place x → L place y → L place (if c then x else y)
   heard-lane true place x y p q = p
   heard-lane false place x y p q = q
 
+  heard-ids : (c : Bool) (x : Lane) (m : Moment) → (if c then x else record x { tries = 0; due = m.ping }).ids ≡ x.ids
+  heard-ids true x m = refl
+  heard-ids false x m = refl
+
   frame-in-just : (phase : Phase) (settings : Settings) (own : LaneSettings) (place : ℕ) (m : Moment) (frame : Frame) (x : Lane) (b : Bridge)
-      → FrameOwn Own place frame b.number → L place x → J b → J (lane.frame_in phase settings own place m frame x b)
-  frame-in-just phases.Away settings own place m frame x b mine p h = h
-  frame-in-just phases.Connecting settings own place m frame x b mine p h = connected-just own place m frame x b p h
-  frame-in-just (phases.Subscribing next) settings own place m frame x b mine p h = naming-just settings own place next m frame x b mine p h
-  frame-in-just phases.Listening settings own place m frame x b mine p h =
-      awake-just settings own place m frame (lane.heard m x) b mine (heard-lane (x.tries == 0) place x (record x { tries = 0; due = m.ping }) p p) h
-  frame-in-just phases.Asleep settings own place m frame x b mine p h = h
+      → FrameOwn Own place frame b.number → FrameCame Came own x.ids place b.number frame → L place x → J b → J (lane.frame_in phase settings own place m frame x b)
+  frame-in-just phases.Away settings own place m frame x b mine cames p h = h
+  frame-in-just phases.Connecting settings own place m frame x b mine cames p h = connected-just own place m frame x b p h
+  frame-in-just (phases.Subscribing next) settings own place m frame x b mine cames p h = naming-just settings own place next m frame x b mine cames p h
+  frame-in-just phases.Listening settings own place m frame x b mine cames p h =
+      let same : (lane.heard m x).ids ≡ x.ids = heard-ids (x.tries == 0) x m in
+      let heard : FrameCame Came own (lane.heard m x).ids place b.number frame = subst (λ (ids : List Named). FrameCame Came own ids place b.number frame) (sym same) cames in
+      awake-just settings own place m frame (lane.heard m x) b mine heard (heard-lane (x.tries == 0) place x (record x { tries = 0; due = m.ping }) p p) h
+  frame-in-just phases.Asleep settings own place m frame x b mine cames p h = h
 
   lane-again-just : (phase : Phase) (own : LaneSettings) (place : ℕ) (m : Moment) (x : Lane) (b : Bridge) → L place x → J b → J (lane.again phase own place m x b)
   lane-again-just phases.Away own place m x b p h = connecting-just own place m x b h
@@ -403,12 +475,6 @@ module _ (Good : ℕ → Type 0) (Own : ℕ → ℕ → ℕ → Type 0) (May : �
       (does-just (actions.NextGateway place) (lane.goes_away place m x b) tt tt (goes-away-just place m x b p h))
       (lane-again-just x.phase own place m x b p h))
 
-  asleep-in-just : (phase : Phase) (place : ℕ) (x : Lane) (b : Bridge) → L place x → J b → J (lane.asleep_in phase place x b)
-  asleep-in-just phases.Away place x b p h = put-just place (record x { phase = phases.Asleep; tries = 0 }) b p h
-  asleep-in-just phases.Asleep place x b p h = h
-  asleep-in-just phase place x b p h =
-      says-just place (frames.Disconnect (Some SLEEP)) (record x { phase = phases.Asleep; tries = 0 }) b tt p h
-
   wakes-in-just : (phase : Phase) (own : LaneSettings) (place : ℕ) (m : Moment) (x : Lane) (b : Bridge) → J b → J (lane.wakes_in phase own place m x b)
   wakes-in-just phases.Asleep own place m x b h = connecting-just own place m x b h
   wakes-in-just phase own place m x b h = h
@@ -423,8 +489,17 @@ module _ (Good : ℕ → Type 0) (Own : ℕ → ℕ → ℕ → Type 0) (May : �
   answers-held-just : (last : Option Open) (number place : ℕ) (x : Lane) (b : Bridge) → LastJust Good Own place last → Good number → J b → J (lane.answers_open last number place x b)
   answers-held-just None number place x b o good h = h
   answers-held-just (Some held) number place x b o good h =
-      choose-by (held.number == number) (lane.answered_at (lane.is_awake x.phase) place held x b) b
-      (λ e. answered-at-just (lane.is_awake x.phase) place held x b o.0 (subst Good (sym (eqb-true held.number number e)) good) h) h
+      choose-by ((held.number == number) && not held.is_answered) (lane.answered_at (lane.is_awake x.phase) place held x b) b
+      (λ e. answered-at-just (lane.is_awake x.phase) place held x b o.0
+      (subst Good (sym (eqb-true held.number number (and_parts (held.number == number) (not held.is_answered) e).0)) good) h) h
+
+  keeps-held-just : (last : Option Open) (below place : ℕ) (x : Lane) (b : Bridge) → LastJust Good Own place last → ((number : ℕ) → nat_lt number below ≡ true → Good number) → J b
+      → J (lane.keeps_open last below place x b)
+  keeps-held-just None below place x b o good h = h
+  keeps-held-just (Some held) below place x b o good h =
+      choose-by (nat_lt held.number below && not held.is_answered) (lane.answered_at (lane.is_awake x.phase) place held x b) b
+      (λ e. answered-at-just (lane.is_awake x.phase) place held x b o.0
+      (good held.number (and_parts (nat_lt held.number below) (not held.is_answered) e).0) h) h
 
   -- ---- commands
 
@@ -595,13 +670,14 @@ module _ (Good : ℕ → Type 0) (Own : ℕ → ℕ → ℕ → Type 0) (May : �
   -- ---- the whole
 
   lane-does-just : (own : Option LaneSettings) (x : Option Lane) (place : ℕ) (f : LaneSettings → Lane → Bridge → Bridge) (b : Bridge)
-      → IfThere (LaneJust Good Own place) x → ((own : LaneSettings) (x : Lane) → L place x → J (f own x b)) → J b → J (whole.lane_does own x f b)
+      → IfThere (LaneJust Good Own place) x → ((o : LaneSettings) (y : Lane) → own ≡ Some o → x ≡ Some y → L place y → J (f o y b)) → J b → J (whole.lane_does own x f b)
   lane-does-just None x place f b p k h = h
   lane-does-just (Some own) None place f b p k h = h
-  lane-does-just (Some own) (Some x) place f b p k h = k own x p
+  lane-does-just (Some own) (Some x) place f b p k h = k own x refl refl p
 
   at-lane-just : (settings : Settings) (place : ℕ) (f : LaneSettings → Lane → Bridge → Bridge) (b : Bridge)
-      → ((own : LaneSettings) (x : Lane) → L place x → J (f own x b)) → J b → J (whole.at_lane settings place f b)
+      → ((own : LaneSettings) (x : Lane) → slice_get settings.lanes place ≡ Some own → slice_get b.lanes place ≡ Some x → L place x → J (f own x b)) → J b
+      → J (whole.at_lane settings place f b)
   at-lane-just settings place f b k h =
       lane-does-just (slice_get settings.lanes place) (slice_get b.lanes place) place f b (walked.there place b.lanes b.out b.waiting b.flight b.number h) k h
 
@@ -610,7 +686,7 @@ module _ (Good : ℕ → Type 0) (Own : ℕ → ℕ → ℕ → Type 0) (May : �
   lanes-along-just [] place settings f b k h = h
   lanes-along-just (own ∷ more) place settings f b k h =
       lanes-along-just more (place + 1) settings f (whole.at_lane settings place (f place) b) k
-      (at-lane-just settings place (f place) b (λ own x p. k place own x b p h) h)
+      (at-lane-just settings place (f place) b (λ own x mine there p. k place own x b p h) h)
 
   each-lane-just : (settings : Settings) (f : ℕ → LaneSettings → Lane → Bridge → Bridge) (b : Bridge)
       → ((place : ℕ) (own : LaneSettings) (x : Lane) (b : Bridge) → L place x → J b → J (f place own x b)) → J b → J (whole.each_lane settings f b)
@@ -639,10 +715,18 @@ module _ (Good : ℕ → Type 0) (Own : ℕ → ℕ → ℕ → Type 0) (May : �
   subscribe-just : (settings : Settings) (next : ℕ) (m : Moment) (b : Bridge) → J b → J (whole.subscribing settings next m b)
   subscribe-just settings next m b h = subscribe-at-just (slice_get settings.downs next) settings next m b h
 
+  rests-just : (settings : Settings) (b : Bridge) → J b → J (whole.rests settings b)
+  rests-just settings b h =
+      choose (whole.may_listen b) b (whole.each_lane settings (λ place. lane.falls_asleep place) b) h
+      (each-lane-just settings (λ place. lane.falls_asleep place) b (λ place own x b p h. asleep-in-just x.phase place x b p h) h)
+
+  rouses-just : (settings : Settings) (m : Moment) (b : Bridge) → J b → J (whole.rouses settings m b)
+  rouses-just settings m b h =
+      choose (whole.may_wake settings b) (whole.each_lane settings (λ place. lane.wakes place m) b) b
+      (each-lane-just settings (λ place. lane.wakes place m) b (λ place own x b p h. wakes-in-just x.phase own place m x b h) h) h
+
   lost-just : (settings : Settings) (due : ℕ) (b : Bridge) → J b → J (whole.lost settings due b)
-  lost-just settings due b h =
-      each-lane-just settings (λ place. lane.falls_asleep place) (whole.ended due b) (λ place own x b p h. asleep-in-just x.phase place x b p h)
-      (h)
+  lost-just settings due b h = rests-just settings (whole.ended due b) h
 
   hangs-up-just : (settings : Settings) (due : ℕ) (b : Bridge) → J b → J (whole.hangs_up settings due b)
   hangs-up-just settings due b h = does-just actions.HangUp (whole.lost settings due b) tt tt (lost-just settings due b h)
@@ -651,18 +735,23 @@ module _ (Good : ℕ → Type 0) (Own : ℕ → ℕ → ℕ → Type 0) (May : �
   welcomed-at-just true settings m b h = up-just settings m b h
   welcomed-at-just false settings m b h = subscribe-just settings 0 m (record b { is_subscribed = false }) h
 
-  answered-just : (item : Option Item) (settings : Settings) (id : ℕ) (b : Bridge) → ItemGood Good item → ItemGood Good (acknowledged id b.flight) → J b → J (whole.answered item settings id b)
-  answered-just None settings id b good taken h = walked.left id b.lanes b.out b.waiting b.flight b.number taken h
-  answered-just (Some item) settings id b good taken h =
+  forgets-just : (settings : Settings) (number : ℕ) (b : Bridge) → Done number → J b → J (whole.forgets settings number b)
+  forgets-just settings number b handed h = choose settings.spools (does (actions.Forget number) b) b (does-just (actions.Forget number) b tt handed h) h
+
+  answered-just : (item : Option Item) (settings : Settings) (id : ℕ) (b : Bridge) → ItemDone Done item → ItemDone Done (acknowledged id b.flight) → J b → J (whole.answered item settings id b)
+  answered-just None settings id b handed taken h = walked.left id b.lanes b.out b.waiting b.flight b.number taken h
+  answered-just (Some item) settings id b handed taken h =
       let rest : Bridge = record b { flight = left_in_flight id b.flight } in
       let left : J rest = walked.left id b.lanes b.out b.waiting b.flight b.number taken h in
-      let answered : Bridge = whole.at_lane settings item.lane (lane.answers item.number item.lane) rest in
+      let spared : Bridge = whole.forgets settings item.number rest in
+      let forgot : J spared = forgets-just settings item.number rest handed left in
+      let answered : Bridge = whole.at_lane settings item.lane (lane.answers item.number item.lane) spared in
       let told : J answered =
-      at-lane-just settings item.lane (lane.answers item.number item.lane) rest
-      (λ own x p. answers-held-just x.last item.number item.lane x rest p good left) left in
+      at-lane-just settings item.lane (lane.answers item.number item.lane) spared
+      (λ own x mine there p. answers-held-just x.last item.number item.lane x spared p (lift item.number handed) forgot) forgot in
       sends-at-just answered.side settings answered told
 
-  up-packet-just : (settings : Settings) (m : Moment) (packet : Packet) (b : Bridge) → PacketGood Good May packet b → J b → J (whole.up_packet settings m packet b)
+  up-packet-just : (settings : Settings) (m : Moment) (packet : Packet) (b : Bridge) → PacketDone Done May packet b → J b → J (whole.up_packet settings m packet b)
   up-packet-just settings m (packets.PubAck id) b good h = answered-just (acknowledged id b.flight) settings id b good good h
   up-packet-just settings m (packets.Publish delivery retain topic body) b good h =
       begins-just m (command.commanded settings.downs (whole.id_in delivery) retain topic body b) (commanded-just settings.downs (whole.id_in delivery) retain topic body b good h)
@@ -672,7 +761,7 @@ module _ (Good : ℕ → Type 0) (Own : ℕ → ℕ → ℕ → Type 0) (May : �
   named-just true settings next m b h = subscribe-just settings (next + 1) m b h
   named-just false settings next m b h = hangs-up-just settings m.minute b h
 
-  naming-packet-just : (settings : Settings) (next : ℕ) (m : Moment) (packet : Packet) (b : Bridge) → PacketGood Good May packet b → J b → J (whole.naming_packet settings next m packet b)
+  naming-packet-just : (settings : Settings) (next : ℕ) (m : Moment) (packet : Packet) (b : Bridge) → PacketDone Done May packet b → J b → J (whole.naming_packet settings next m packet b)
   naming-packet-just settings next m (packets.SubAck id granted) b good h =
       choose ((next_id id == b.packet_id) && nat_lt next LAST_NUMBER) (whole.named_at (whole.is_granted granted) settings next m b) b (named-just (whole.is_granted granted) settings next m b h) h
   naming-packet-just settings next m packet b good h = up-packet-just settings m packet b good h
@@ -684,16 +773,16 @@ module _ (Good : ℕ → Type 0) (Own : ℕ → ℕ → ℕ → Type 0) (May : �
   new-packet-just settings m packet b h = hangs-up-just settings m.retry b h
 
   -- being heard changes neither what is in flight nor the lanes
-  heard-packet : (c : Bool) (packet : Packet) (x y : Bridge) → PacketGood Good May packet x → PacketGood Good May packet y → PacketGood Good May packet (if c then x else y)
+  heard-packet : (c : Bool) (packet : Packet) (x y : Bridge) → PacketDone Done May packet x → PacketDone Done May packet y → PacketDone Done May packet (if c then x else y)
   heard-packet true packet x y p q = p
   heard-packet false packet x y p q = q
 
-  same-packet : (packet : Packet) (b : Bridge) (m : Moment) → PacketGood Good May packet b → PacketGood Good May packet (record b { tries = 0; due = m.ping })
+  same-packet : (packet : Packet) (b : Bridge) (m : Moment) → PacketDone Done May packet b → PacketDone Done May packet (record b { tries = 0; due = m.ping })
   same-packet (packets.PubAck id) b m good = good
   same-packet (packets.Publish delivery retain topic body) b m good = good
   same-packet packet b m good = tt
 
-  packet-in-just : (side : Side) (settings : Settings) (m : Moment) (packet : Packet) (b : Bridge) → PacketGood Good May packet b → J b → J (whole.packet_in side settings m packet b)
+  packet-in-just : (side : Side) (settings : Settings) (m : Moment) (packet : Packet) (b : Bridge) → PacketDone Done May packet b → J b → J (whole.packet_in side settings m packet b)
   packet-in-just sides.Closed settings m packet b good h = h
   packet-in-just sides.Connecting settings m packet b good h = new-packet-just settings m packet b h
   packet-in-just (sides.Subscribing next) settings m packet b good h = naming-packet-just settings next m packet b good h
@@ -718,14 +807,31 @@ module _ (Good : ℕ → Type 0) (Own : ℕ → ℕ → ℕ → Type 0) (May : �
 
   ticks-just : (settings : Settings) (m : Moment) (b : Bridge) → J b → J (whole.ticks settings m b)
   ticks-just settings m b h =
-      let lanes : Bridge = whole.each_lane settings (λ place. lane.lane_tick place m) b in
+      let roused : Bridge = whole.rouses settings m b in
+      let lanes : Bridge = whole.each_lane settings (λ place. lane.lane_tick place m) roused in
       side-tick-just settings m (command.down_tick settings.commands m lanes) (down-tick-just settings.commands m lanes
-      (each-lane-just settings (λ place. lane.lane_tick place m) b (λ place own x b p h. lane-tick-just place m own x b p h) h))
+      (each-lane-just settings (λ place. lane.lane_tick place m) roused (λ place own x b p h. lane-tick-just place m own x b p h) (rouses-just settings m b h)))
 
-  pub event-walked : (settings : Settings) (event : Event) (m : Moment) (b : Bridge) → Reasons Good Own May event b → J b → J (whole.event_step settings event m b)
+  counts-on-just : (number : ℕ) (b : Bridge) → J b → J (whole.counts_on number b)
+  counts-on-just number b h =
+      choose-by (nat_le b.number number) (record b { number = number }) b
+      (λ e. walked.counts number b.lanes b.out b.waiting b.flight b.number (leb-true b.number number e) h) h
+
+  found-just : (settings : Settings) (item : Item) (b : Bridge) → Came item → J b → J (whole.found settings item b)
+  found-just settings item b came h =
+      choose-by (whole.is_next item b) (takes settings item (one-taken item b)) b
+      (λ e. walked.taken settings item b (leb-true b.number item.number (and_parts (nat_le b.number item.number) (nat_lt item.number LAST_NUMBER) e).0) came h) h
+
+  stored-all-just : (settings : Settings) (below : ℕ) (b : Bridge) → AreGood Good settings below b → J b → J (whole.stored settings below b)
+  stored-all-just settings below b good h =
+      let storing : Bridge = record b { is_storing = true } in
+      choose-by (whole.may_keep settings below b) (whole.each_lane settings (λ place. lane.keeps below place) storing) b
+      (λ e. each-lane-just settings (λ place. lane.keeps below place) storing (λ place own x b p h. keeps-held-just x.last below place x b p (good e) h) h) h
+
+  pub event-walked : (settings : Settings) (event : Event) (m : Moment) (b : Bridge) → Reasons Good Done Own May Came settings event b → J b → J (whole.event_step settings event m b)
   event-walked settings (events.Field place frame) m b why h =
       at-lane-just settings place (lane.lane_frame settings place m frame) b
-      (λ own x p. frame-in-just x.phase settings own place m frame x b why p h) h
+      (λ own x mine there p. frame-in-just x.phase settings own place m frame x b why.0 (why.1 own x mine there) p h) h
   event-walked settings (events.Commands frame) m b why h = down-frame-in-just b.down.phase m frame b why h
   event-walked settings (events.Broker packet) m b why h = packet-in-just b.side settings m packet b why h
   event-walked settings events.BrokerOpen m b why h =
@@ -733,4 +839,8 @@ module _ (Good : ℕ → Type 0) (Own : ℕ → ℕ → ℕ → Type 0) (May : �
       (record b { side = sides.Connecting; due = m.retry; tries = 0 }) tt tt (h)
   event-walked settings events.BrokerLost m b why h = lost-just settings m.soon b h
   event-walked settings (events.Kept line) m b why h = line-just b.down.doing line m b why h
+  event-walked settings (events.Resumed number) m b why h = counts-on-just number b h
+  event-walked settings (events.Found item) m b why h = found-just settings item b why h
+  event-walked settings (events.Stored below) m b why h = stored-all-just settings below b why h
+  event-walked settings events.StoreFailed m b why h = rests-just settings (record b { is_storing = false }) h
   event-walked settings events.Tick m b why h = ticks-just settings m b h

@@ -34,6 +34,8 @@ small =
       state = codes "s";
       here = codes "here";
       window = 2;
+      room = 1024;
+      spools = false;
     }
 
 abbrev plain : Flags
@@ -151,3 +153,51 @@ refused_first : done_from small (after_from small ready listening) refused
     ∷ actions.Refuse 0 (record { id = 4; from = codes "c/door"; topic = codes "door"; body = codes "open" }) whys.Gateway
     ∷ actions.ToBroker (packets.PubAck 4) ∷ []
 refused_first = refl
+
+-- ---- with a spool
+
+-- readings of smaller numbers than 7 came before; the spool takes readings while the broker is away
+abbrev spooling : Settings
+spooling = record small { spools = true }
+
+abbrev resumed : List Come
+resumed =
+    (events.Resumed 7, 0) ∷ (events.Stored 7, 0) ∷ (events.Tick, 1)
+    ∷ (events.Field 0 (frames.ConnAck 0), 2) ∷ (events.Field 0 (frames.SubAck once 5 1 0), 2) ∷ []
+
+woken : done_from spooling (begun spooling) resumed
+    ≡ actions.ToField 0 (frames.Connect plain 1 60 (codes "b1-u0")) ∷ actions.ToCommands (frames.Connect (record { bits = 4 }) 1 60 (codes "b1-d0"))
+    ∷ actions.Dial ∷ actions.ToField 0 (frames.Subscribe once 1 (codes "t/heat")) ∷ []
+woken = refl
+
+-- a reading is to go into the spool, and is acknowledged once the spool has it
+abbrev storing : Bridge
+storing = after_from spooling (begun spooling) resumed
+
+abbrev kept : List Come
+kept = (events.Field 0 (frames.Publish once 5 9 (codes "21")), 3) ∷ (events.Stored 7, 3) ∷ (events.Stored 8, 3) ∷ []
+
+stored_first : done_from spooling storing kept
+    ≡ actions.Store (record { number = 7; lane = 0; topic = codes "f/t/heat"; qos = levels.One; retain = false; body = codes "21" })
+    ∷ actions.ToField 0 (frames.PubAck 5 9 0) ∷ []
+stored_first = refl
+
+-- the spool cannot have what has not come
+early : done_from spooling storing ((events.Field 0 (frames.Publish once 5 9 (codes "21")), 3) ∷ (events.Stored 9, 3) ∷ [])
+    ≡ actions.Store (record { number = 7; lane = 0; topic = codes "f/t/heat"; qos = levels.One; retain = false; body = codes "21" }) ∷ []
+early = refl
+
+-- then the broker comes: the reading goes out, and the spool forgets it after the broker's PUBACK
+abbrev broker : List Come
+broker =
+    (events.BrokerOpen, 4) ∷ (events.Broker (packets.ConnAck false 0), 4) ∷ (events.Broker (packets.SubAck 1 (Some levels.One)), 4)
+    ∷ (events.Broker (packets.PubAck 2), 5) ∷ []
+
+handed_on : done_from spooling (after_from spooling storing kept) broker
+    ≡ actions.ToBroker hello ∷ actions.ToBroker (packets.Subscribe 1 (codes "c/#") levels.One) ∷ actions.ToBroker here
+    ∷ actions.Reading 7 sent ∷ actions.Forget 7 ∷ []
+handed_on = refl
+
+-- without a broker and without a spool the lane sleeps
+failed : done_from spooling storing ((events.StoreFailed, 3) ∷ []) ≡ actions.ToField 0 (frames.Disconnect (Some 65535)) ∷ []
+failed = refl

@@ -57,6 +57,7 @@ begun settings =
       due = 0;
       tries = 0;
       is_subscribed = false;
+      is_storing = false;
       waiting = [];
       flight = [];
       number = 0;

@@ -1,6 +1,6 @@
 -- What a lane does: a client of the field that brings readings. `place` is its place among the
 -- lanes, and `own` are its settings.
-use Rattle.std.specs.Prelude.{ℕ, ◌+◌, ◌/◌, ◌%◌, ◌==◌, Bool, true, false, ◌&&◌, nat_lt, nat_le, if◌then◌else◌, List, [], ◌∷◌, length, slice_get, slice_set, Option, Some, None}
+use Rattle.std.specs.Prelude.{ℕ, ◌+◌, ◌/◌, ◌%◌, ◌==◌, Bool, true, false, ◌&&◌, ◌||◌, not, nat_lt, nat_le, if◌then◌else◌, List, [], ◌∷◌, length, slice_get, slice_set, Option, Some, None}
 use Rattle.std.specs.Str.{bytes_eq}
 use Rattle.mq_packet.specs.declared.packet.Qos.{Qos}
 use Rattle.mq_packet.specs.declared.packet.Qos.TheVariants as levels
@@ -24,7 +24,7 @@ use Rattle.br_core.specs.declared.state.Named.{Named}
 use Rattle.br_core.specs.declared.state.Open.{Open}
 use Rattle.br_core.specs.declared.state.Phase.{Phase}
 use Rattle.br_core.specs.declared.state.Phase.TheVariants as phases
-use Rattle.br_core.specs.declared.state.TheConstants.{KEEP_ALIVE, LAST_NUMBER, MAX_WAITING, SLEEP, TRIES}
+use Rattle.br_core.specs.declared.state.TheConstants.{KEEP_ALIVE, LAST_NUMBER, MAX_BODY, SLEEP, TRIES}
 use Rattle.br_core.specs.Sides.{does, next_id, once_more, takes}
 
 -- a lane in its place
@@ -98,8 +98,8 @@ name_of kinds.Normal topic names ids = name_at topic ids
 name_of kinds.Short topic names ids = place_of (short_octets topic) names
 name_of kind topic names ids = None
 
--- a reading of a lane, at the quality of service that the gateway gave it: the lane has asked for no
--- greater one than the settings allow
+-- a reading of a lane, at the quality of service that the gateway gave it: the lane has asked for
+-- no greater one than the settings allow
 abbrev pub item_of : ℕ → ℕ → Qos → UpName → List ℕ → Item
 item_of number lane qos up body =
     record {
@@ -111,15 +111,25 @@ item_of number lane qos up body =
       body = body;
     }
 
--- whether one more reading is taken
-abbrev pub has_room : Bridge → Bool
-has_room bridge = nat_lt (length bridge.waiting) MAX_WAITING && nat_lt bridge.number LAST_NUMBER
+-- whether the spool can keep these octets, if there is one: no gateway has more
+abbrev pub fits : Settings → List ℕ → Bool
+fits settings body = not settings.spools || nat_le (length body) MAX_BODY
+
+-- whether one more reading is taken, which has these octets
+abbrev pub has_room : Settings → List ℕ → Bridge → Bool
+has_room settings body bridge =
+    fits settings body && nat_lt (length bridge.waiting) settings.room
+    && nat_lt bridge.number LAST_NUMBER
 
 -- a reading of this quality of service gets the next number
 abbrev pub counted : Settings → ℕ → Qos → UpName → List ℕ → Bridge → Bridge
 counted settings place qos up body bridge =
     takes settings (item_of bridge.number place qos up body)
     (record bridge { number = bridge.number + 1 })
+
+-- a reading goes into the spool, if there is one
+abbrev pub stored : Settings → Item → Bridge → Bridge
+stored settings item bridge = if settings.spools then does (actions.Store item) bridge else bridge
 
 -- what a lane has brought and may not acknowledge yet
 abbrev pub open_of : ℕ → ℕ → ℕ → ℕ → List ℕ → Open
@@ -138,14 +148,28 @@ abbrev pub is_same : ℕ → ℕ → List ℕ → Open → Bool
 is_same name msg_id body held =
     (held.name == name) && (held.msg_id == msg_id) && bytes_eq held.body body
 
+-- a lane that may not acknowledge falls asleep
+abbrev pub asleep_in : Phase → ℕ → Lane → Bridge → Bridge
+asleep_in phases.Away place lane bridge =
+    seated place (record lane { phase = phases.Asleep; tries = 0 }) bridge
+asleep_in phases.Asleep place lane bridge = bridge
+asleep_in phase place lane bridge =
+    says place (frames.Disconnect (Some SLEEP))
+    (record lane { phase = phases.Asleep; tries = 0 }) bridge
+
+abbrev pub falls_asleep : ℕ → LaneSettings → Lane → Bridge → Bridge
+falls_asleep place own lane bridge = asleep_in lane.phase place lane bridge
+
 -- a message of quality of service 1 is brought, and waits for its acknowledgement; without room it
--- is as if it had not come
+-- is as if it had not come, and the lane falls asleep
 abbrev pub brings : Settings → ℕ → ℕ → UpName → ℕ → ℕ → List ℕ → Lane → Bridge → Bridge
 brings settings place name up topic_id msg_id body lane bridge =
-    if has_room bridge
-    then counted settings place levels.One up body
-    (seated place (record lane { last = Some (open_of bridge.number name topic_id msg_id body) }) bridge)
-    else seated place lane bridge
+    if has_room settings body bridge
+    then stored settings (item_of bridge.number place levels.One up body)
+    (counted settings place levels.One up body
+    (seated place (record lane { last = Some (open_of bridge.number name topic_id msg_id body) })
+      bridge))
+    else asleep_in lane.phase place lane bridge
 
 -- a message that was answered is acknowledged again; one that waits is not brought twice
 abbrev pub again_at : Bool → ℕ → ℕ → ℕ → Open → Lane → Bridge → Bridge
@@ -155,7 +179,8 @@ again_at true place topic_id msg_id held lane bridge =
 again_at false place topic_id msg_id held lane bridge =
     seated place (record lane { last = Some (record held { topic_id = topic_id }) }) bridge
 
-abbrev pub brings_if : Option Open → Settings → ℕ → ℕ → UpName → ℕ → ℕ → List ℕ → Lane → Bridge → Bridge
+abbrev pub brings_if : Option Open → Settings → ℕ → ℕ → UpName → ℕ → ℕ → List ℕ → Lane → Bridge
+    → Bridge
 brings_if None settings place name up topic_id msg_id body lane bridge =
     brings settings place name up topic_id msg_id body lane bridge
 brings_if (Some held) settings place name up topic_id msg_id body lane bridge =
@@ -166,21 +191,23 @@ brings_if (Some held) settings place name up topic_id msg_id body lane bridge =
 -- a reading of quality of service 0 goes on, if there is room
 abbrev pub passes : Settings → ℕ → UpName → List ℕ → Lane → Bridge → Bridge
 passes settings place up body lane bridge =
-    if has_room bridge
+    if has_room settings body bridge
     then counted settings place levels.Zero up body (seated place lane bridge)
     else seated place lane bridge
 
 -- a PUBLISH under a name of the lane, by its quality of service: 2 was never asked for
-abbrev pub publication_at : FieldQos → Settings → ℕ → ℕ → UpName → ℕ → ℕ → List ℕ → Lane → Bridge → Bridge
+abbrev pub publication_at : FieldQos → Settings → ℕ → ℕ → UpName → ℕ → ℕ → List ℕ → Lane → Bridge
+    → Bridge
 publication_at field_levels.Zero settings place name up topic_id msg_id body lane bridge =
     passes settings place up body lane bridge
 publication_at field_levels.One settings place name up topic_id msg_id body lane bridge =
     brings_if lane.last settings place name up topic_id msg_id body lane bridge
-publication_at qos settings place name up topic_id msg_id body lane bridge = seated place lane bridge
+publication_at qos settings place name up topic_id msg_id body lane bridge =
+    seated place lane bridge
 
--- The code that refuses a topic that is none of the lane's. After code 2 the gateway registers an id
--- again. What is no id it would drop: while names are subscribed to it is asked to wait (code 1),
--- and then publishes by the id.
+-- The code that refuses a topic that is none of the lane's. After code 2 the gateway registers an
+-- id again. What is no id it would drop: while names are subscribed to it is asked to wait (code
+-- 1), and then publishes by the id.
 abbrev pub refusal_at : Phase → ℕ
 refusal_at (phases.Subscribing next) = 1
 refusal_at phase = 2
@@ -195,19 +222,23 @@ unknown_at field_levels.One kind place topic_id msg_id lane bridge =
     says place (frames.PubAck topic_id msg_id (refusal kind lane.phase)) lane bridge
 unknown_at qos kind place topic_id msg_id lane bridge = seated place lane bridge
 
-abbrev pub named_at : Option UpName → FieldQos → TopicIdType → Settings → ℕ → ℕ → ℕ → ℕ → List ℕ → Lane → Bridge → Bridge
+abbrev pub named_at : Option UpName → FieldQos → TopicIdType → Settings → ℕ → ℕ → ℕ → ℕ → List ℕ
+    → Lane → Bridge → Bridge
 named_at None qos kind settings place name topic_id msg_id body lane bridge =
     unknown_at qos kind place topic_id msg_id lane bridge
 named_at (Some up) qos kind settings place name topic_id msg_id body lane bridge =
     publication_at qos settings place name up topic_id msg_id body lane bridge
 
-abbrev pub known_at : Option ℕ → FieldQos → TopicIdType → Settings → LaneSettings → ℕ → ℕ → ℕ → List ℕ → Lane → Bridge → Bridge
+abbrev pub known_at : Option ℕ → FieldQos → TopicIdType → Settings → LaneSettings → ℕ → ℕ → ℕ
+    → List ℕ → Lane → Bridge → Bridge
 known_at None qos kind settings own place topic_id msg_id body lane bridge =
     unknown_at qos kind place topic_id msg_id lane bridge
 known_at (Some name) qos kind settings own place topic_id msg_id body lane bridge =
-    named_at (slice_get own.names name) qos kind settings place name topic_id msg_id body lane bridge
+    named_at (slice_get own.names name) qos kind settings place name topic_id msg_id body lane
+      bridge
 
-abbrev pub publication : Settings → LaneSettings → ℕ → Flags → ℕ → ℕ → List ℕ → Lane → Bridge → Bridge
+abbrev pub publication : Settings → LaneSettings → ℕ → Flags → ℕ → ℕ → List ℕ → Lane → Bridge
+    → Bridge
 publication settings own place flags topic_id msg_id body lane bridge =
     known_at (name_of (kind_of flags.bits) topic_id own.names lane.ids) (qos_of flags.bits)
     (kind_of flags.bits) settings own place topic_id msg_id body lane bridge
@@ -310,19 +341,7 @@ lane_tick place m own lane bridge =
     else (if nat_le TRIES lane.tries then gives_up place m lane bridge
     else again lane.phase own place m lane bridge)
 
--- a lane that may not acknowledge falls asleep
-abbrev pub asleep_in : Phase → ℕ → Lane → Bridge → Bridge
-asleep_in phases.Away place lane bridge =
-    seated place (record lane { phase = phases.Asleep; tries = 0 }) bridge
-asleep_in phases.Asleep place lane bridge = bridge
-asleep_in phase place lane bridge =
-    says place (frames.Disconnect (Some SLEEP))
-    (record lane { phase = phases.Asleep; tries = 0 }) bridge
-
-abbrev pub falls_asleep : ℕ → LaneSettings → Lane → Bridge → Bridge
-falls_asleep place own lane bridge = asleep_in lane.phase place lane bridge
-
--- and wakes: it connects
+-- a lane that sleeps wakes: it connects
 abbrev pub wakes_in : Phase → LaneSettings → ℕ → Moment → Lane → Bridge → Bridge
 wakes_in phases.Asleep own place m lane bridge = connecting own place m lane bridge
 wakes_in phase own place m lane bridge = bridge
@@ -347,7 +366,19 @@ answered_at false place held lane bridge =
 abbrev pub answers_open : Option Open → ℕ → ℕ → Lane → Bridge → Bridge
 answers_open None number place lane bridge = bridge
 answers_open (Some held) number place lane bridge =
-    if held.number == number then answered_at (is_awake lane.phase) place held lane bridge else bridge
+    if (held.number == number) && not held.is_answered
+    then answered_at (is_awake lane.phase) place held lane bridge else bridge
 
 abbrev pub answers : ℕ → ℕ → LaneSettings → Lane → Bridge → Bridge
 answers number place own lane bridge = answers_open lane.last number place lane bridge
+
+-- the spool has all readings of smaller numbers than this one: if the lane's open one is among
+-- them, it may be acknowledged
+abbrev pub keeps_open : Option Open → ℕ → ℕ → Lane → Bridge → Bridge
+keeps_open None below place lane bridge = bridge
+keeps_open (Some held) below place lane bridge =
+    if nat_lt held.number below && not held.is_answered
+    then answered_at (is_awake lane.phase) place held lane bridge else bridge
+
+abbrev pub keeps : ℕ → ℕ → LaneSettings → Lane → Bridge → Bridge
+keeps below place own lane bridge = keeps_open lane.last below place lane bridge

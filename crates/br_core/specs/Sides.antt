@@ -29,7 +29,8 @@ does action bridge = record bridge { out = bridge.out ++ action ∷ [] }
 
 -- a publication to the broker under a packet id, again or not
 abbrev pub in_flight : Bool → Flight → Packet
-in_flight dup f = packets.Publish (deliveries.Acknowledged f.id dup) f.item.retain f.item.topic f.item.body
+in_flight dup f =
+    packets.Publish (deliveries.Acknowledged f.id dup) f.item.retain f.item.topic f.item.body
 
 -- one without a packet id
 abbrev pub at_once : Item → Packet
@@ -77,9 +78,21 @@ offered settings bridge item =
     if (length bridge.waiting == 0) && has_window settings item.qos bridge.flight
     then sent_at item.qos item bridge else waits item bridge
 
--- what waits is offered again, in its order
+-- whether the first reading that waits is sent now
+abbrev pub first_goes : Settings → List Item → List Flight → Bool
+first_goes settings [] flight = false
+first_goes settings (item ∷ more) flight = has_window settings item.qos flight
+
+-- what waits is sent from the front, as far as the window is open
+abbrev pub sent_along : Settings → List Item → Bridge → Bridge
+sent_along settings [] bridge = bridge
+sent_along settings (item ∷ more) bridge =
+    if has_window settings item.qos bridge.flight
+    then sent_along settings more (sent_at item.qos item (record bridge { waiting = more }))
+    else bridge
+
 abbrev pub sends : Settings → Bridge → Bridge
-sends settings bridge = fold (offered settings) (record bridge { waiting = [] }) bridge.waiting
+sends settings bridge = sent_along settings bridge.waiting bridge
 
 -- while the broker is away, a reading that is not acknowledged is not kept
 abbrev pub kept_at : Qos → Item → Bridge → Bridge

@@ -1,5 +1,5 @@
 -- The step of the whole bridge.
-use Rattle.std.specs.Prelude.{ℕ, ◌+◌, ◌==◌, ◌&&◌, Bool, true, false, nat_lt, if◌then◌else◌, List, [], ◌∷◌, length, slice_get, Option, Some, None}
+use Rattle.std.specs.Prelude.{ℕ, ◌+◌, ◌/◌, ◌==◌, ◌&&◌, ◌||◌, Bool, true, false, nat_lt, nat_le, if◌then◌else◌, List, [], ◌∷◌, length, slice_get, Option, Some, None}
 use Rattle.mq_packet.specs.declared.packet.Delivery.{Delivery}
 use Rattle.mq_packet.specs.declared.packet.Delivery.TheVariants as deliveries
 use Rattle.mq_packet.specs.declared.packet.Packet.{Packet}
@@ -22,11 +22,12 @@ use Rattle.br_core.specs.declared.state.Side.{Side}
 use Rattle.br_core.specs.declared.state.Side.TheVariants as sides
 use Rattle.br_core.specs.declared.state.TheConstants.{BROKER_KEEP_ALIVE, LAST_NUMBER}
 use Rattle.br_core.specs.Commands.{begins, commanded, down_frame, down_tick, kept}
-use Rattle.br_core.specs.Lanes.{answers, falls_asleep, lane_frame, lane_tick, wakes}
-use Rattle.br_core.specs.Sides.{acknowledged, all_again, does, free_id, left_in_flight, next_id, sends}
+use Rattle.br_core.specs.Lanes.{answers, falls_asleep, keeps, lane_frame, lane_tick, wakes}
+use Rattle.br_core.specs.Sides.{acknowledged, all_again, does, free_id, left_in_flight, next_id, sends, takes}
 
 -- what one lane does, if there is such a lane
-abbrev pub lane_does : Option LaneSettings → Option Lane → (LaneSettings → Lane → Bridge → Bridge) → Bridge → Bridge
+abbrev pub lane_does : Option LaneSettings → Option Lane → (LaneSettings → Lane → Bridge → Bridge)
+    → Bridge → Bridge
 lane_does None lane f bridge = bridge
 lane_does (Some own) None f bridge = bridge
 lane_does (Some own) (Some lane) f bridge = f own lane bridge
@@ -36,13 +37,39 @@ at_lane settings place f bridge =
     lane_does (slice_get settings.lanes place) (slice_get bridge.lanes place) f bridge
 
 -- these lanes, from a place on, do the same
-abbrev pub lanes_along : List LaneSettings → ℕ → Settings → (ℕ → LaneSettings → Lane → Bridge → Bridge) → Bridge → Bridge
+abbrev pub lanes_along : List LaneSettings → ℕ → Settings
+    → (ℕ → LaneSettings → Lane → Bridge → Bridge) → Bridge → Bridge
 lanes_along [] place settings f bridge = bridge
 lanes_along (own ∷ more) place settings f bridge =
     lanes_along more (place + 1) settings f (at_lane settings place (f place) bridge)
 
 abbrev pub each_lane : Settings → (ℕ → LaneSettings → Lane → Bridge → Bridge) → Bridge → Bridge
 each_lane settings f bridge = lanes_along settings.lanes 0 settings f bridge
+
+-- whether publications go both ways
+abbrev pub is_up : Side → Bool
+is_up sides.Up = true
+is_up side = false
+
+-- whether what lanes bring can be acknowledged soon: by the broker, or by the spool; else they
+-- sleep
+abbrev pub may_listen : Bridge → Bool
+may_listen bridge = is_up bridge.side || bridge.is_storing
+
+abbrev pub rests : Settings → Bridge → Bridge
+rests settings bridge =
+    if may_listen bridge then bridge
+    else each_lane settings (λ place. falls_asleep place) bridge
+
+-- lanes that sleep wake if they can acknowledge, and half of the room is free
+abbrev pub may_wake : Settings → Bridge → Bool
+may_wake settings bridge =
+    may_listen bridge && nat_le (length bridge.waiting) (settings.room / 2)
+
+abbrev pub rouses : Settings → Moment → Bridge → Bridge
+rouses settings m bridge =
+    if may_wake settings bridge
+    then each_lane settings (λ place. wakes place m) bridge else bridge
 
 -- what waits is sent, if the broker is there
 abbrev pub sends_at : Side → Settings → Bridge → Bridge
@@ -55,7 +82,8 @@ sends_all settings bridge = sends_at bridge.side settings bridge
 -- the broker's topic tells that the bridge is there
 abbrev pub says_here : Settings → Bridge → Bridge
 says_here settings bridge =
-    does (actions.ToBroker (packets.Publish deliveries.Once true settings.state settings.here)) bridge
+    does (actions.ToBroker (packets.Publish deliveries.Once true settings.state settings.here))
+      bridge
 
 -- The broker is there: what is in flight goes out again, what waits is sent, lanes wake.
 abbrev pub up : Settings → Moment → Bridge → Bridge
@@ -90,10 +118,9 @@ ended due bridge =
       down = record bridge.down { queue = []; doing = doings.Nothing; is_behind = false };
     }
 
--- lanes fall asleep, since they may not acknowledge
+-- lanes fall asleep, if they may not acknowledge
 abbrev pub lost : Settings → ℕ → Bridge → Bridge
-lost settings due bridge =
-    each_lane settings (λ place. falls_asleep place) (ended due bridge)
+lost settings due bridge = rests settings (ended due bridge)
 
 -- the connection is ended by the bridge, and dialled again when it is due
 abbrev pub hangs_up : Settings → ℕ → Bridge → Bridge
@@ -111,13 +138,18 @@ welcomed settings session code m bridge =
     if code == 0 then welcomed_at (session && bridge.is_subscribed) settings m bridge
     else hangs_up settings m.minute bridge
 
+-- the spool need not keep a reading any longer, if there is a spool
+abbrev pub forgets : Settings → ℕ → Bridge → Bridge
+forgets settings number bridge =
+    if settings.spools then does (actions.Forget number) bridge else bridge
+
 -- the broker has acknowledged a reading: its lane may, and what waits is sent; of another packet id
 -- nothing is in flight
 abbrev pub answered : Option Item → Settings → ℕ → Bridge → Bridge
 answered None settings id bridge = record bridge { flight = left_in_flight id bridge.flight }
 answered (Some item) settings id bridge =
     sends_all settings (at_lane settings item.lane (answers item.number item.lane)
-    (record bridge { flight = left_in_flight id bridge.flight }))
+    (forgets settings item.number (record bridge { flight = left_in_flight id bridge.flight })))
 
 abbrev pub broker_acked : Settings → ℕ → Bridge → Bridge
 broker_acked settings id bridge = answered (acknowledged id bridge.flight) settings id bridge
@@ -178,7 +210,8 @@ packet_in sides.Up settings m packet bridge = up_packet settings m packet (heard
 -- the connection is there: CONNECT, and the broker keeps the session
 abbrev pub opened : Settings → Moment → Bridge → Bridge
 opened settings m bridge =
-    does (actions.ToBroker (packets.Connect false BROKER_KEEP_ALIVE settings.client settings.will settings.login))
+    does (actions.ToBroker
+      (packets.Connect false BROKER_KEEP_ALIVE settings.client settings.will settings.login))
     (record bridge { side = sides.Connecting; due = m.retry; tries = 0 })
 
 -- time goes by for the broker's side: it is dialled, asked whether it is there, or given up
@@ -206,7 +239,36 @@ side_tick settings m bridge =
 abbrev pub ticks : Settings → Moment → Bridge → Bridge
 ticks settings m bridge =
     side_tick settings m (down_tick settings.commands m
-    (each_lane settings (λ place. lane_tick place m) bridge))
+    (each_lane settings (λ place. lane_tick place m) (rouses settings m bridge)))
+
+-- readings of smaller numbers than this one came before the bridge began
+abbrev pub counts_on : ℕ → Bridge → Bridge
+counts_on number bridge =
+    if nat_le bridge.number number then record bridge { number = number } else bridge
+
+-- a reading that came before the bridge began goes on its way again, if it comes in its order
+abbrev pub is_next : Item → Bridge → Bool
+is_next item bridge = nat_le bridge.number item.number && nat_lt item.number LAST_NUMBER
+
+abbrev pub found : Settings → Item → Bridge → Bridge
+found settings item bridge =
+    if is_next item bridge
+    then takes settings item (record bridge { number = item.number + 1 }) else bridge
+
+-- The spool takes readings, and has those of smaller numbers than this one, all of which came:
+-- lanes may acknowledge them.
+abbrev pub may_keep : Settings → ℕ → Bridge → Bool
+may_keep settings below bridge = settings.spools && nat_le below bridge.number
+
+abbrev pub stored : Settings → ℕ → Bridge → Bridge
+stored settings below bridge =
+    if may_keep settings below bridge
+    then each_lane settings (λ place. keeps below place) (record bridge { is_storing = true })
+    else bridge
+
+-- the spool takes no readings: lanes fall asleep, if the broker is away too
+abbrev pub store_failed : Settings → Bridge → Bridge
+store_failed settings bridge = rests settings (record bridge { is_storing = false })
 
 -- what an event makes of the bridge, and adds to what is to be done
 abbrev pub event_step : Settings → Event → Moment → Bridge → Bridge
@@ -218,6 +280,10 @@ event_step settings (events.Broker packet) m bridge =
 event_step settings events.BrokerOpen m bridge = opened settings m bridge
 event_step settings events.BrokerLost m bridge = lost settings m.soon bridge
 event_step settings (events.Kept line) m bridge = kept line m bridge
+event_step settings (events.Resumed number) m bridge = counts_on number bridge
+event_step settings (events.Found item) m bridge = found settings item bridge
+event_step settings (events.Stored below) m bridge = stored settings below bridge
+event_step settings events.StoreFailed m bridge = store_failed settings bridge
 event_step settings events.Tick m bridge = ticks settings m bridge
 
 -- the step of an event: nothing is left to be done of the step before

@@ -1,6 +1,6 @@
 //! What a bridge has done.
 
-use crate::item::Command;
+use crate::item::{Command, Item};
 use mq_packet::Packet;
 use sn_frame::Frame;
 
@@ -41,6 +41,14 @@ pub enum Action {
         line: u64,
         command: Command,
         why: Why,
+    },
+    /// The reading goes into the spool, which is synced; then `Stored` with a greater number.
+    Store {
+        item: Item,
+    },
+    /// The spool need not keep the reading of this number: the broker has it.
+    Forget {
+        number: u64,
     },
     /// The next address of the gateways, for a lane.
     NextGateway {

@@ -181,8 +181,8 @@ fn is_full(down: &Down) -> bool
     down.is_behind || MAX_COMMANDS <= down.queue.len()
 }
 
-/// A command for which there is no room is passed over. If the broker waits for its acknowledgement,
-/// it sends it again in its next connection.
+/// A command for which there is no room is passed over. If the broker waits for its
+/// acknowledgement, it sends it again in its next connection.
 fn passes_over(id: u16, bridge: &mut Bridge)
     ensures { bridge.new ≡ spec.passed_over id bridge.old }
 {
@@ -438,8 +438,8 @@ fn later(m: Moment, bridge: &mut Bridge)
     bridge.down.tries = 0;
 }
 
-/// The gateway's answer to a command: accepted; congestion; no such id, and the session begins anew,
-/// so that none of its ids is used up; or it takes none.
+/// The gateway's answer to a command: accepted; congestion; no such id, and the session begins
+/// anew, so that none of its ids is used up; or it takes none.
 fn answered_first(alloc: Global, code: u8, m: Moment, bridge: &mut Bridge) -> Result<(), NoMemory>
     ensures { OnOk result (bridge.new ≡ spec.answered_first bridge.old.down.queue code m
         bridge.old) }

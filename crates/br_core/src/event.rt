@@ -1,5 +1,6 @@
 //! What comes to a bridge.
 
+use crate::item::Item;
 use mq_packet::Packet;
 use sn_frame::Frame;
 
@@ -18,6 +19,16 @@ pub enum Event {
     BrokerLost,
     /// The line of this number is on the disk.
     Kept { line: u64 },
+    /// Readings of smaller numbers than this one came before the bridge began.
+    Resumed { number: u64 },
+    /// A reading that came before the bridge began, and that the spool has kept. They are found in
+    /// the order of their numbers.
+    Found { item: Item },
+    /// The spool takes readings. It has each one of a smaller number than this that it was given,
+    /// and is synced.
+    Stored { below: u64 },
+    /// The spool cannot be written.
+    StoreFailed,
     /// Time has gone by.
     Tick,
 }

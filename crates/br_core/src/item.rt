@@ -23,6 +23,22 @@ pub struct Item {
     pub body: Octets,
 }
 
+impl Item {
+    /// An equal reading, which shares the octets.
+    pub fn copied(&self, alloc: Global) -> Result<Item, NoMemory>
+        ensures { IfOk result (λ made. made ≡ self.now) }
+    {
+        Ok(Item {
+            number: self.number,
+            lane: self.lane,
+            topic: self.topic.copied(alloc)?,
+            qos: self.qos,
+            retain: self.retain,
+            body: self.body.copied(alloc)?,
+        })
+    }
+}
+
 /// A reading that was sent to the broker and is not acknowledged.
 #[derive(Drop)]
 pub struct Flight {

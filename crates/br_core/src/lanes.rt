@@ -12,7 +12,7 @@ use crate::item::Item;
 use crate::settings::{LaneSettings, Settings, UpName};
 use crate::sides::{does, next_id, once_more, takes};
 use crate::state::{
-    Bridge, KEEP_ALIVE, LAST_NUMBER, Lane, MAX_WAITING, Moment, Named, Open, Phase, SLEEP, TRIES,
+    Bridge, KEEP_ALIVE, LAST_NUMBER, Lane, MAX_BODY, Moment, Named, Open, Phase, SLEEP, TRIES,
 };
 use mq_packet::Qos;
 use octets::{NoMemory, Octets, Sequence};
@@ -165,11 +165,20 @@ fn item_of(
     })
 }
 
-/// Whether one more reading is taken.
-fn has_room(bridge: &Bridge) -> bool
-    ensures { result ≡ spec.has_room bridge.now }
+/// Whether the spool can keep these octets, if there is one. No gateway has more.
+fn fits(settings: &Settings, body: &Octets) -> bool
+    ensures { result ≡ spec.fits settings.now body.now }
 {
-    bridge.waiting.len() < MAX_WAITING && bridge.number < LAST_NUMBER
+    !settings.spools || body.len() <= MAX_BODY
+}
+
+/// Whether one more reading is taken, which has these octets.
+fn has_room(settings: &Settings, body: &Octets, bridge: &Bridge) -> bool
+    ensures { result ≡ spec.has_room settings.now body.now bridge.now }
+{
+    fits(settings, body)
+        && bridge.waiting.len() < settings.room
+        && bridge.number < LAST_NUMBER
 }
 
 /// A reading of this quality of service gets the next number.
@@ -189,6 +198,27 @@ fn counted(
     let item = item_of(alloc, bridge.number, place, qos, up, body)?;
     bridge.number += 1;
     takes(alloc, settings, item, bridge)
+}
+
+/// A reading goes into the spool, if there is one.
+fn stored(
+    alloc: Global,
+    settings: &Settings,
+    number: u64,
+    place: usize,
+    qos: Qos,
+    up: &UpName,
+    body: &Octets,
+    bridge: &mut Bridge,
+) -> Result<(), NoMemory>
+    ensures { OnOk result (bridge.new ≡ spec.stored settings.now
+        (spec.item_of number place qos up.now body.now) bridge.old) }
+{
+    if !settings.spools {
+        return Ok(());
+    }
+    let item = item_of(alloc, number, place, qos, up, body)?;
+    does(bridge, Action::Store { item })
 }
 
 /// What a lane has brought and may not acknowledge yet.
@@ -219,8 +249,8 @@ fn is_same(name: usize, msg_id: u16, body: &Octets, held: &Open) -> bool
     held.name == name && held.msg_id == msg_id && held.body.as_slice() == body.as_slice()
 }
 
-/// A message of quality of service 1 is brought, and waits for its acknowledgement; without room it
-/// is as if it had not come.
+/// A message of quality of service 1 is brought, and waits for its acknowledgement. Without room it
+/// is as if it had not come, and the lane falls asleep: its gateway keeps it.
 fn brings(
     alloc: Global,
     settings: &Settings,
@@ -237,13 +267,14 @@ fn brings(
     ensures { OnOk result (bridge.new ≡ spec.brings settings.now place name up.now topic_id msg_id
         body.now lane bridge.old) }
 {
-    if !has_room(bridge) {
-        seated(place, lane, bridge);
-        return Ok(());
+    if !has_room(settings, body, bridge) {
+        return falls_asleep(place, lane, bridge);
     }
-    lane.last = Some(open_of(alloc, bridge.number, name, topic_id, msg_id, body)?);
+    let number = bridge.number;
+    lane.last = Some(open_of(alloc, number, name, topic_id, msg_id, body)?);
     seated(place, lane, bridge);
-    counted(alloc, settings, place, Qos::One, up, body, bridge)
+    counted(alloc, settings, place, Qos::One, up, body, bridge)?;
+    stored(alloc, settings, number, place, Qos::One, up, body, bridge)
 }
 
 /// The same message again: one that was answered is acknowledged again, one that waits is not
@@ -338,7 +369,7 @@ fn passes(
     ensures { OnOk result (bridge.new ≡ spec.passes settings.now place up.now body.now lane
         bridge.old) }
 {
-    let room = has_room(bridge);
+    let room = has_room(settings, body, bridge);
     seated(place, lane, bridge);
     if room {
         counted(alloc, settings, place, Qos::Zero, up, body, bridge)
@@ -347,8 +378,8 @@ fn passes(
     }
 }
 
-/// The code that refuses a topic which is no id: congestion while names are subscribed to, since the
-/// gateway then publishes it by its id, and code 2 would drop it.
+/// The code that refuses a topic which is no id: congestion while names are subscribed to, since
+/// the gateway then publishes it by its id, and code 2 would drop it.
 fn refusal_at(phase: Phase) -> u8
     ensures { result ≡ spec.refusal_at phase }
 {
@@ -877,7 +908,30 @@ pub(crate) fn answers(
         None => return Ok(()),
         Some(held) => held.copied(alloc)?,
     };
-    if held.number == number {
+    if held.number == number && !held.is_answered {
+        answered(place, held, lane, bridge)
+    } else {
+        Ok(())
+    }
+}
+
+/// The spool has all readings of smaller numbers than this one: if the lane's open one is among
+/// them, it may be acknowledged.
+pub(crate) fn keeps(
+    alloc: Global,
+    below: u64,
+    place: usize,
+    lane: Lane,
+    bridge: &mut Bridge,
+) -> Result<(), NoMemory>
+    requires { place < length bridge.old.lanes }
+    ensures { OnOk result (bridge.new ≡ spec.keeps_open lane.last below place lane bridge.old) }
+{
+    let held = match &lane.last {
+        None => return Ok(()),
+        Some(held) => held.copied(alloc)?,
+    };
+    if held.number < below && !held.is_answered {
         answered(place, held, lane, bridge)
     } else {
         Ok(())

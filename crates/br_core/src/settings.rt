@@ -57,4 +57,8 @@ pub struct Settings {
     pub here: Octets,
     /// How many publications to the broker may be unacknowledged, 1 to 64.
     pub window: usize,
+    /// How many readings wait at most: no further one is taken from a lane.
+    pub room: usize,
+    /// Whether readings of quality of service 1 go into a spool.
+    pub spools: bool,
 }

@@ -1,6 +1,6 @@
 //! What is done towards the broker: what is sent, what is in flight, what is acknowledged.
 
-ghost use Rattle.std.specs.Prelude.{◌≡◌, ◌<◌, ◌==◌, ◌&&◌, fold, length, remove, slice_get, None, IfOk, OnOk, MatchOption, option_map};
+ghost use Rattle.std.specs.Prelude.{◌≡◌, ◌<◌, ◌==◌, ◌&&◌, true, fold, length, remove, slice_get, None, IfOk, OnOk, MatchOption, option_map};
 ghost use Rattle.br_core.specs.Sides as spec;
 
 use crate::action::Action;
@@ -36,7 +36,8 @@ pub(crate) fn does(bridge: &mut Bridge, action: Action) -> Result<(), NoMemory>
 
 /// A publication to the broker under a packet id, again or not (MQTT 3.1.1 section 3.3).
 fn in_flight(alloc: Global, dup: bool, id: u16, item: &Item) -> Result<Packet, NoMemory>
-    ensures { IfOk result (λ packet. packet ≡ spec.in_flight dup (record { id = id; item = item.now })) }
+    ensures { IfOk result
+          (λ packet. packet ≡ spec.in_flight dup (record { id = id; item = item.now })) }
 {
     Ok(Packet::Publish {
         delivery: Delivery::Acknowledged { id, dup },
@@ -149,13 +150,35 @@ fn offered(
     }
 }
 
-/// What waits is offered again, in its order.
+/// Whether the first reading that waits is sent now.
+fn first_goes(settings: &Settings, bridge: &Bridge) -> bool
+    ensures { result ≡ spec.first_goes settings.now bridge.now.waiting bridge.now.flight }
+{
+    match bridge.waiting.first() {
+        None => false,
+        Some(item) => has_window(settings, item.qos, bridge.flight.as_slice()),
+    }
+}
+
+/// The first reading that waits is sent.
+fn sends_first(alloc: Global, settings: &Settings, bridge: &mut Bridge) -> Result<(), NoMemory>
+    requires { spec.first_goes settings.now bridge.old.waiting bridge.old.flight ≡ true }
+    ensures left { OnOk result (spec.sends settings.now bridge.new
+        ≡ spec.sends settings.now bridge.old) }
+    ensures fewer { OnOk result (length bridge.new.waiting < length bridge.old.waiting) }
+{
+    let Some(item) = bridge.waiting.take_first() else {
+        unreachable!()
+    };
+    sent(alloc, item, bridge)
+}
+
+/// What waits is sent from the front, as far as the window is open.
 pub(crate) fn sends(alloc: Global, settings: &Settings, bridge: &mut Bridge) -> Result<(), NoMemory>
     ensures { OnOk result (bridge.new ≡ spec.sends settings.now bridge.old) }
 {
-    let waiting = mem::replace(&mut bridge.waiting, Sequence::empty(alloc));
-    for item in waiting.into_vec() {
-        offered(alloc, settings, bridge, item)?;
+    'sending: while first_goes(settings, bridge) {
+        sends_first(alloc, settings, bridge)?;
     }
     Ok(())
 }
@@ -189,7 +212,8 @@ pub(crate) fn takes(
 /// Where the flight of a packet id is: the first of them.
 fn place_of(id: u16, flight: &[Flight]) -> Option<usize>
     ensures { MatchOption result
-        ((spec.acknowledged id flight.now ≡ None) × (spec.left_in_flight id flight.now ≡ flight.now))
+        ((spec.acknowledged id flight.now ≡ None)
+          × (spec.left_in_flight id flight.now ≡ flight.now))
         (λ at. (at < length flight.now)
         × (spec.acknowledged id flight.now ≡ option_map (λ f. f.item) (slice_get flight.now at))
         × (spec.left_in_flight id flight.now ≡ remove flight.now at)) }

@@ -4,6 +4,7 @@ ghost use Rattle.std.specs.Prelude.{◌≡◌, ◌<◌, ◌^◌, IfOk};
 
 use crate::action::Action;
 use crate::item::{Command, Flight, Item};
+use crate::queue::Queue;
 use octets::{NoMemory, Octets, Sequence};
 use std::alloc::Global;
 
@@ -25,7 +26,7 @@ pub const PING: u64 = 20;
 /// For how many seconds a lane falls asleep: as long as a frame can say.
 pub const SLEEP: u16 = 65_535;
 
-/// How many readings wait at most: no further one is taken from a lane.
+/// How many readings wait at most without a spool.
 pub const MAX_WAITING: usize = 1_024;
 
 /// How many commands wait at most: no further one is taken from the broker.
@@ -258,8 +259,10 @@ pub struct Bridge {
     /// Whether all filters were subscribed to since the bridge began. A session that an earlier run
     /// left may have some of them only.
     pub is_subscribed: bool,
+    /// Whether the spool takes readings.
+    pub is_storing: bool,
     /// Readings that were not sent yet.
-    pub waiting: Sequence<Item>,
+    pub waiting: Queue<Item>,
     /// Readings that were sent and are not acknowledged.
     pub flight: Sequence<Flight>,
     /// The number of the next reading.

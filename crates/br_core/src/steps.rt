@@ -9,10 +9,14 @@ ghost use Rattle.br_core.specs.declared.state.TheConstants.{LAST_NUMBER};
 use crate::action::Action;
 use crate::commands::{begins, commanded, down_frame, down_tick, kept};
 use crate::event::Event;
-use crate::lanes::{answers, falls_asleep, lane_frame, lane_tick, wakes};
+use crate::item::Item;
+use crate::lanes::{answers, falls_asleep, keeps, lane_frame, lane_tick, wakes};
+use crate::queue::Queue;
 use crate::settings::Settings;
-use crate::sides::{acknowledged, all_again, does, free_id, next_id, sends};
-use crate::state::{BROKER_KEEP_ALIVE, Bridge, Doing, Down, Lane, Moment, Phase, Side};
+use crate::sides::{acknowledged, all_again, does, free_id, next_id, sends, takes};
+use crate::state::{
+    BROKER_KEEP_ALIVE, Bridge, Doing, Down, LAST_NUMBER, Lane, Moment, Phase, Side,
+};
 use mq_packet::{Delivery, Login, Packet, Qos, Will};
 use octets::{NoMemory, Octets, Sequence};
 use sn_frame::Frame;
@@ -50,7 +54,8 @@ pub fn begun(alloc: Global, settings: &Settings) -> Result<Bridge, NoMemory>
         due: 0,
         tries: 0,
         is_subscribed: false,
-        waiting: Sequence::empty(alloc),
+        is_storing: false,
+        waiting: Queue::empty(alloc),
         flight: Sequence::empty(alloc),
         number: 0,
         packet_id: 1,
@@ -163,6 +168,27 @@ fn answer_at(
     answers(alloc, number, place, lane, bridge)
 }
 
+/// The spool has the readings of all smaller numbers: a lane's too.
+fn keep_at(
+    alloc: Global,
+    settings: &Settings,
+    place: usize,
+    below: u64,
+    bridge: &mut Bridge,
+) -> Result<(), NoMemory>
+    ensures { OnOk result (bridge.new ≡ spec.at_lane settings.now place
+        (lanes_spec.keeps below place) bridge.old) }
+{
+    let Some(_own) = settings.lanes.as_slice().get(place) else {
+        return Ok(());
+    };
+    let Some(lane) = bridge.lanes.as_slice().get(place) else {
+        return Ok(());
+    };
+    let lane = lane.copied(alloc)?;
+    keeps(alloc, below, place, lane, bridge)
+}
+
 /// Time goes by for all lanes.
 fn all_tick(
     alloc: Global,
@@ -204,6 +230,71 @@ fn all_wake(
         wake_at(alloc, settings, place, m, bridge)?;
     }
     Ok(())
+}
+
+/// The spool has the readings of all smaller numbers, of each lane.
+fn all_keep(
+    alloc: Global,
+    settings: &Settings,
+    below: u64,
+    bridge: &mut Bridge,
+) -> Result<(), NoMemory>
+    ensures { OnOk result (bridge.new ≡ spec.each_lane settings.now
+        (λ place. lanes_spec.keeps below place) bridge.old) }
+{
+    for place in 0..settings.lanes.len() {
+        keep_at(alloc, settings, place, below, bridge)?;
+    }
+    Ok(())
+}
+
+/// Whether publications go both ways.
+fn is_up(side: Side) -> bool
+    ensures { result ≡ spec.is_up side }
+{
+    match side {
+        Side::Up => true,
+        Side::Closed | Side::Connecting | Side::Subscribing { .. } => false,
+    }
+}
+
+/// Whether what lanes bring can be acknowledged soon: by the broker, or by the spool.
+fn may_listen(bridge: &Bridge) -> bool
+    ensures { result ≡ spec.may_listen bridge.now }
+{
+    is_up(bridge.side) || bridge.is_storing
+}
+
+/// Lanes fall asleep if they may not acknowledge.
+fn rests(alloc: Global, settings: &Settings, bridge: &mut Bridge) -> Result<(), NoMemory>
+    ensures { OnOk result (bridge.new ≡ spec.rests settings.now bridge.old) }
+{
+    if may_listen(bridge) {
+        return Ok(());
+    }
+    all_sleep(alloc, settings, bridge)
+}
+
+/// Whether lanes that sleep may wake: they can acknowledge, and half of the room is free.
+fn may_wake(settings: &Settings, bridge: &Bridge) -> bool
+    ensures { result ≡ spec.may_wake settings.now bridge.now }
+{
+    may_listen(bridge) && bridge.waiting.len() <= settings.room / 2
+}
+
+/// Lanes that sleep wake, if they may.
+fn rouses(
+    alloc: Global,
+    settings: &Settings,
+    m: Moment,
+    bridge: &mut Bridge,
+) -> Result<(), NoMemory>
+    ensures { OnOk result (bridge.new ≡ spec.rouses settings.now m bridge.old) }
+{
+    if !may_wake(settings, bridge) {
+        return Ok(());
+    }
+    all_wake(alloc, settings, m, bridge)
 }
 
 /// What waits is sent, if the broker is there.
@@ -281,12 +372,12 @@ fn ended(alloc: Global, due: u64, bridge: &mut Bridge)
     bridge.down.is_behind = false;
 }
 
-/// The connection is over, and lanes fall asleep, since they may not acknowledge.
+/// The connection is over, and lanes fall asleep, if they may not acknowledge.
 fn lost(alloc: Global, settings: &Settings, due: u64, bridge: &mut Bridge) -> Result<(), NoMemory>
     ensures { OnOk result (bridge.new ≡ spec.lost settings.now due bridge.old) }
 {
     ended(alloc, due, bridge);
-    all_sleep(alloc, settings, bridge)
+    rests(alloc, settings, bridge)
 }
 
 /// The bridge ends the connection, which is dialled again when it is due.
@@ -303,7 +394,8 @@ fn hangs_up(
 }
 
 /// CONNACK (MQTT 3.1.1 section 3.2): the broker knows the session, in which all filters were
-/// subscribed to; or they are subscribed to; or it does not want us, and is asked again in a minute.
+/// subscribed to; or they are subscribed to; or it does not want us, and is asked again in a
+/// minute.
 fn welcomed(
     alloc: Global,
     settings: &Settings,
@@ -324,6 +416,16 @@ fn welcomed(
     subscribing(alloc, settings, 0, m, bridge)
 }
 
+/// The spool need not keep a reading any longer, if there is a spool.
+fn forgets(settings: &Settings, number: u64, bridge: &mut Bridge) -> Result<(), NoMemory>
+    ensures { OnOk result (bridge.new ≡ spec.forgets settings.now number bridge.old) }
+{
+    if !settings.spools {
+        return Ok(());
+    }
+    does(bridge, Action::Forget { number })
+}
+
 /// PUBACK of the broker (MQTT 3.1.1 section 3.4): the lane may acknowledge the reading, and what
 /// waits is sent.
 fn answered(
@@ -337,6 +439,7 @@ fn answered(
     let Some(item) = acknowledged(alloc, id, bridge) else {
         return Ok(());
     };
+    forgets(settings, item.number, bridge)?;
     answer_at(alloc, settings, item.lane, item.number, bridge)?;
     sends_all(alloc, settings, bridge)
 }
@@ -610,10 +713,76 @@ fn side_tick(
     }
 }
 
+/// Readings of smaller numbers than this one came before the bridge began.
+fn counts_on(number: u64, bridge: &mut Bridge)
+    ensures { bridge.new ≡ spec.counts_on number bridge.old }
+{
+    if bridge.number <= number {
+        bridge.number = number;
+    }
+}
+
+/// Whether a reading that the spool has kept comes in its order.
+fn is_next(item: &Item, bridge: &Bridge) -> bool
+    ensures { result ≡ spec.is_next item.now bridge.now }
+{
+    bridge.number <= item.number && item.number < LAST_NUMBER
+}
+
+/// A reading that came before the bridge began goes on its way again.
+fn found(
+    alloc: Global,
+    settings: &Settings,
+    item: &Item,
+    bridge: &mut Bridge,
+) -> Result<(), NoMemory>
+    ensures { OnOk result (bridge.new ≡ spec.found settings.now item.now bridge.old) }
+{
+    if !is_next(item, bridge) {
+        return Ok(());
+    }
+    bridge.number = item.number + 1;
+    takes(alloc, settings, item.copied(alloc)?, bridge)
+}
+
+/// Whether the spool may say that it has all readings of smaller numbers: there is one, and they
+/// came.
+fn may_keep(settings: &Settings, below: u64, bridge: &Bridge) -> bool
+    ensures { result ≡ spec.may_keep settings.now below bridge.now }
+{
+    settings.spools && below <= bridge.number
+}
+
+/// The spool takes readings, and has those of smaller numbers than this one: lanes may acknowledge
+/// them.
+fn stored(
+    alloc: Global,
+    settings: &Settings,
+    below: u64,
+    bridge: &mut Bridge,
+) -> Result<(), NoMemory>
+    ensures { OnOk result (bridge.new ≡ spec.stored settings.now below bridge.old) }
+{
+    if !may_keep(settings, below, bridge) {
+        return Ok(());
+    }
+    bridge.is_storing = true;
+    all_keep(alloc, settings, below, bridge)
+}
+
+/// The spool takes no readings: lanes fall asleep, if the broker is away too.
+fn store_failed(alloc: Global, settings: &Settings, bridge: &mut Bridge) -> Result<(), NoMemory>
+    ensures { OnOk result (bridge.new ≡ spec.store_failed settings.now bridge.old) }
+{
+    bridge.is_storing = false;
+    rests(alloc, settings, bridge)
+}
+
 /// Time goes by.
 fn ticks(alloc: Global, settings: &Settings, m: Moment, bridge: &mut Bridge) -> Result<(), NoMemory>
     ensures { OnOk result (bridge.new ≡ spec.ticks settings.now m bridge.old) }
 {
+    rouses(alloc, settings, m, bridge)?;
     all_tick(alloc, settings, m, bridge)?;
     down_tick(alloc, &settings.commands, m, bridge)?;
     side_tick(alloc, settings, m, bridge)
@@ -622,7 +791,7 @@ fn ticks(alloc: Global, settings: &Settings, m: Moment, bridge: &mut Bridge) -> 
 /// The step of an event: what it makes of the bridge, with what is to be done in `out`.
 ///
 /// If memory runs out, the bridge has to be given up. One that begins anew loses nothing that was
-/// acknowledged: both sides send again what was not.
+/// acknowledged: both sides send again what was not, and the spool has the rest.
 pub fn step(
     alloc: Global,
     settings: &Settings,
@@ -640,6 +809,13 @@ pub fn step(
         Event::BrokerOpen => opened(alloc, settings, m, bridge),
         Event::BrokerLost => lost(alloc, settings, m.soon, bridge),
         Event::Kept { line } => kept(alloc, *line, m, bridge),
+        Event::Resumed { number } => {
+            counts_on(*number, bridge);
+            Ok(())
+        }
+        Event::Found { item } => found(alloc, settings, item, bridge),
+        Event::Stored { below } => stored(alloc, settings, *below, bridge),
+        Event::StoreFailed => store_failed(alloc, settings, bridge),
         Event::Tick => ticks(alloc, settings, m, bridge),
     }
 }

@@ -1,7 +1,10 @@
-use Rattle.std.proofs.Common.{◌≡◌, [], fold}
-use Rattle.std.specs.Vec.Iter.{into_iter_items}
-use Rattle.br_core.specs.Sides.{offered}
+use Rattle.std.proofs.Common.{◌≡◌, length}
+use Rattle.br_core.specs.Sides.{sends}
 use Rattle.br_core.proofs.sides.sends.Given as goal
 
-abbrev pub invariant-loop-item : goal.invariant-loop-item
-invariant-loop-item l = fold (offered l.settings) l.bridge (into_iter_items l.item-iterator) ≡ fold (offered l.settings) (record l.fn.bridge { waiting = [] }) l.fn.bridge.waiting
+-- what is left to be sent makes the same of it
+abbrev pub invariant-sending : goal.invariant-sending
+invariant-sending l = sends l.settings l.bridge ≡ sends l.settings l.fn.bridge
+
+abbrev pub decreases-sending : goal.decreases-sending
+decreases-sending l = length l.bridge.waiting
