@@ -22,8 +22,8 @@ STEPS = [*WORDS, "sets", "step table"]
 MAY_USE = {
     "base": [],
     "words of MQTT-SN": ["base"],
-    "bridge": WORDS,
     "sets": WORDS,
+    "bridge": [*WORDS, "sets"],
     "journal": ["base", "sets"],
     "replicas": [*WORDS, "sets"],
     "step table": [*WORDS, "sets"],

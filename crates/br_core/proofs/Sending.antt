@@ -3,7 +3,8 @@ use Rattle.std.proofs.Common.{◌≡◌, Bool, true, false, if◌then◌else◌,
 use Rattle.br_core.specs.declared.item.Item.{Item}
 use Rattle.br_core.specs.declared.settings.Settings.{Settings}
 use Rattle.br_core.specs.declared.state.Bridge.{Bridge}
-use Rattle.br_core.specs.Sides.{first_goes, has_window, sends, sent_along, sent_at}
+use Rattle.br_core.specs.Sides.{has_window, sends, sent_along, sent_at}
+use Rattle.br_core.specs.inner.Parts.{first_goes}
 use Rattle.br_core.proofs.Walk.{sent-waiting}
 
 chosen : {X : Type 0} (c : Bool) (x y : X) → c ≡ true → (if c then x else y) ≡ x

@@ -78,11 +78,6 @@ offered settings bridge item =
     if (length bridge.waiting == 0) && has_window settings item.qos bridge.flight
     then sent_at item.qos item bridge else waits item bridge
 
--- whether the first reading that waits is sent now
-abbrev pub first_goes : Settings → List Item → List Flight → Bool
-first_goes settings [] flight = false
-first_goes settings (item ∷ more) flight = has_window settings item.qos flight
-
 -- what waits is sent from the front, as far as the window is open
 abbrev pub sent_along : Settings → List Item → Bridge → Bridge
 sent_along settings [] bridge = bridge

@@ -2,6 +2,7 @@
 
 ghost use Rattle.std.specs.Prelude.{◌≡◌, ◌<◌, ◌==◌, ◌&&◌, true, fold, length, remove, slice_get, None, IfOk, OnOk, MatchOption, option_map};
 ghost use Rattle.br_core.specs.Sides as spec;
+ghost use Rattle.br_core.specs.inner.Parts as inner;
 
 use crate::action::Action;
 use crate::item::{Flight, Item};
@@ -152,7 +153,7 @@ fn offered(
 
 /// Whether the first reading that waits is sent now.
 fn first_goes(settings: &Settings, bridge: &Bridge) -> bool
-    ensures { result ≡ spec.first_goes settings.now bridge.now.waiting bridge.now.flight }
+    ensures { result ≡ inner.first_goes settings.now bridge.now.waiting bridge.now.flight }
 {
     match bridge.waiting.first() {
         None => false,
@@ -162,7 +163,7 @@ fn first_goes(settings: &Settings, bridge: &Bridge) -> bool
 
 /// The first reading that waits is sent.
 fn sends_first(alloc: Global, settings: &Settings, bridge: &mut Bridge) -> Result<(), NoMemory>
-    requires { spec.first_goes settings.now bridge.old.waiting bridge.old.flight ≡ true }
+    requires { inner.first_goes settings.now bridge.old.waiting bridge.old.flight ≡ true }
     ensures left { OnOk result (spec.sends settings.now bridge.new
         ≡ spec.sends settings.now bridge.old) }
     ensures fewer { OnOk result (length bridge.new.waiting < length bridge.old.waiting) }

@@ -3,9 +3,11 @@
 use crate::fields::octets;
 use crate::said::{Said, packet_name};
 use crate::shown::{Digits, Text};
+use crate::spool::{print_item, reading};
 use crate::stop::Stop;
 use br_core::{
-    Action, Bridge, DownFilter, Event, LaneSettings, Moment, Settings, UpName, Why, begun, step,
+    Action, Bridge, DownFilter, Event, LaneSettings, MAX_WAITING, Moment, Settings, UpName, Why,
+    begun, step,
 };
 use mq_packet::{Packet, PacketFault, Qos};
 use mq_stream::PacketIn;
@@ -79,16 +81,49 @@ fn downs(alloc: Global) -> Result<Vec<DownFilter>, Stop> {
     Ok(all)
 }
 
-/// A bridge of so many lanes and of this window.
+/// How many lanes a bridge has, its window, and the room of its spool, if it has one.
+#[derive(Clone, Copy)]
+struct Size {
+    lanes: u32,
+    window: u16,
+    room: Option<u16>,
+}
+
+/// The small number that a field is.
+fn small(field: &str) -> Result<u16, Stop> {
+    match field.parse::<u16>() {
+        Ok(number) => Ok(number),
+        Err(_) => Err(Stop::Line),
+    }
+}
+
+/// The size that fields say.
+fn size_of(fields: &[&str]) -> Result<Size, Stop> {
+    let (lanes, window, room) = match fields {
+        [lanes, window] => (lanes, window, None),
+        [lanes, window, room] => (lanes, window, Some(small(room)?)),
+        _ => return Err(Stop::Line),
+    };
+    Ok(Size {
+        lanes: u32::from(small(lanes)?),
+        window: small(window)?,
+        room,
+    })
+}
+
+/// How many readings wait at most.
+fn room_of(room: Option<u16>) -> usize {
+    match room {
+        None => MAX_WAITING,
+        Some(room) => usize::from(room),
+    }
+}
+
+/// A bridge of this size.
 fn new_stage(alloc: Global, fields: &[&str]) -> Result<Stage, Stop> {
-    let [count, window] = fields else {
-        return Err(Stop::Line);
-    };
-    let (Ok(count), Ok(window)) = (count.parse::<u32>(), window.parse::<u16>()) else {
-        return Err(Stop::Line);
-    };
+    let size = size_of(fields)?;
     let settings = Settings {
-        lanes: Sequence::new(lanes(alloc, count)?),
+        lanes: Sequence::new(lanes(alloc, size.lanes)?),
         commands: of(alloc, "b-d0")?,
         downs: Sequence::new(downs(alloc)?),
         client: of(alloc, "b")?,
@@ -96,7 +131,9 @@ fn new_stage(alloc: Global, fields: &[&str]) -> Result<Stage, Stop> {
         login: None,
         state: of(alloc, "s")?,
         here: of(alloc, "here")?,
-        window: usize::from(window),
+        window: usize::from(size.window),
+        room: room_of(size.room),
+        spools: size.room.is_some(),
     };
     let bridge = begun(alloc, &settings)?;
     Ok(Stage {
@@ -136,7 +173,7 @@ fn lane_ready(alloc: Global, stage: &mut Stage, lane: usize) -> Result<(), Stop>
     Ok(())
 }
 
-/// `ready LANES WINDOW`: a bridge to which the broker and the gateway have said yes.
+/// `ready LANES WINDOW [ROOM]`: a bridge to which the broker and the gateway have said yes.
 fn ready(alloc: Global, fields: &[&str]) -> Result<Stage, Stop> {
     let mut made = new_stage(alloc, fields)?;
     made.bridge.is_subscribed = true;
@@ -224,6 +261,30 @@ fn crowd(alloc: Global, stage: &mut Stage, count: u64) -> Result<(), Stop> {
     Ok(())
 }
 
+/// A reading that the spool has kept.
+fn found_event(alloc: Global, fields: &[&str]) -> Result<Event, Stop> {
+    let number = number_of(fields)?;
+    let item = reading(alloc, number)?;
+    Ok(Event::Found { item })
+}
+
+/// The event of a line about the spool.
+fn spool_event(alloc: Global, first: &str, rest: &[&str]) -> Result<Event, Stop> {
+    match first {
+        "found" => found_event(alloc, rest),
+        "resumed" => {
+            let number = number_of(rest)?;
+            Ok(Event::Resumed { number })
+        }
+        "stored" => {
+            let below = number_of(rest)?;
+            Ok(Event::Stored { below })
+        }
+        "store-failed" => Ok(Event::StoreFailed),
+        _ => Err(Stop::Line),
+    }
+}
+
 /// The event of a line.
 fn event_of(alloc: Global, first: &str, rest: &[&str]) -> Result<Event, Stop> {
     match first {
@@ -234,7 +295,7 @@ fn event_of(alloc: Global, first: &str, rest: &[&str]) -> Result<Event, Stop> {
         "lost" => Ok(Event::BrokerLost),
         "kept" => kept_event(rest),
         "tick" => Ok(Event::Tick),
-        _ => Err(Stop::Line),
+        other => spool_event(alloc, other, rest),
     }
 }
 
@@ -294,6 +355,11 @@ fn print_other(text: &mut String, action: &Action) -> Result<(), Stop> {
             let (word, topic) = (word_of(*why), Text(command.from.as_slice()));
             Ok(writeln!(text, "refuse {line} {word} {topic}")?)
         }
+        Action::Store { item } => {
+            text.push_str("store ")?;
+            print_item(text, item)
+        }
+        Action::Forget { number } => Ok(writeln!(text, "forget {number}")?),
         Action::NextGateway { lane } => Ok(writeln!(text, "next-gateway {lane}")?),
         other => {
             let word = bare_word(other);

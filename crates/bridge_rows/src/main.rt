@@ -41,18 +41,26 @@
 //! A bridge, whose lane 0 has the names `t/0` and `qa`, lane 1 has `t/1`, and so on. Its names are
 //! below `f/` at the broker; commands come below `c/`, and below `k/` kept ones too:
 //!
-//! - `bridge LANES WINDOW`: a bridge that begins. `ready LANES WINDOW`: one to which all have said
-//!   yes; the id of each long name is 5.
+//! - `bridge LANES WINDOW [ROOM]`: a bridge that begins, with a spool if it has room for one.
+//!   `ready LANES WINDOW [ROOM]`: one to which all have said yes; the id of each long name is 5.
 //! - `known`: it has subscribed to all filters in an earlier connection.
-//! - `crowd N`: the broker sends so many commands `c/ab` of quality of service 0; nothing is printed.
+//! - `crowd N`: the broker sends so many commands `c/ab` of quality of service 0; nothing is
+//!   printed.
 //! - `second N`: the second from now on.
 //! - `field LANE OCTETS ..`, `commands OCTETS ..`, `broker OCTETS ..`: a frame or a packet comes.
+//! - `resumed N`, `found N`, `stored N`, `store-failed`: what the spool says; a reading that it has
+//!   kept has the topic `f/t/0` and the octets `hi`.
 //! - `opened`, `lost`, `kept LINE`, `tick`: the other events.
 //!
 //! What is to be done is printed, one line each, or `nothing`.
 //!
+//! A spool:
+//!
+//! - `spool FROM BELOW NUMBER .. / NUMBER ..`: what is written of readings of the first numbers,
+//!   and of the others, which need not be kept; and what is found in it.
+//!
 //! - `fields`: octets of a line.
-//! - `packets`, `topics`, `machine`: lines that are played.
+//! - `packets`, `topics`, `machine`, `spool`: lines that are played.
 //! - `said`, `shown`: what is printed.
 //! - `stop`: why a line is not played.
 #![tactic(auto)]
@@ -62,6 +70,7 @@ mod machine;
 mod packets;
 mod said;
 mod shown;
+mod spool;
 mod stop;
 mod topics;
 
@@ -141,6 +150,7 @@ fn play(
         "prefix" | "topic" | "strip" | "apart" | "below" => {
             topics::play(alloc, text, first, rest)
         }
+        "spool" => spool::play(alloc, text, rest),
         other => machine::play(alloc, text, stage, other, rest),
     }
 }

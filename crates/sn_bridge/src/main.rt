@@ -2,9 +2,9 @@
 //! ordinary client of both: MQTT-SN 1.2 over UDP, MQTT 3.1.1 over TCP.
 //!
 //! It reads its settings, opens a socket for each lane, and then runs: what comes from both sides
-//! goes through `br_core`, and what that gives goes out. Nothing that counts is on its disk but the
-//! lines of what no side will have. It may be stopped at any moment: what it acknowledged was
-//! acknowledged to it.
+//! goes through `br_core`, and what that gives goes out. All that counts on its disk are the lines
+//! of what no side will have, and the spool, if there is one. It may be stopped at any moment: what
+//! it acknowledged was acknowledged to it, or is in the spool.
 //!
 //! Where it ends early the last line on standard error says why.
 //!
@@ -17,6 +17,7 @@
 //! - `stop`: why the program ends early (`Stop`).
 //! - `ends`: the sockets of the lanes, and the connection to the broker.
 //! - `refused`: the lines of what no side will have.
+//! - `spool`: the readings that the bridge answers for.
 //! - `running`: one turn after the other.
 //! - `telling`: what is told on standard error.
 #![tactic(auto)]
@@ -29,6 +30,7 @@ mod parsing;
 mod reading;
 mod refused;
 mod running;
+mod spool;
 mod stop;
 mod telling;
 mod words;

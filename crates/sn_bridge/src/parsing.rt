@@ -4,9 +4,11 @@ use crate::entries::{downs_in, look_for_loops, ups_in};
 use crate::keys::{address_of, list_at, number_at, octets_of, text_at, text_if, text_of};
 use crate::reading::password_at;
 use crate::stop::Stop;
-use br_core::{DownFilter, LaneSettings, Settings, UpName};
+use br_core::{DownFilter, LaneSettings, MAX_WAITING, Settings, UpName};
+use br_spool::MAX_ROOM;
 use mq_packet::{Login, Qos, Will, is_text};
 use octets::{Octets, Sequence};
+use sn_topic::MAX_TOPIC;
 use std::alloc::Global;
 use std::fs::{File, Files};
 use std::net::SocketAddr;
@@ -14,6 +16,9 @@ use toml::Table;
 
 /// How many names with an id a lane has at most: a session has 256 ids.
 const MOST_IDS: usize = 250;
+
+/// The least room of a spool.
+const LEAST_ROOM: u64 = 1_024;
 
 /// The most octets of the bridge's name.
 const MOST_OF_NAME: usize = 16;
@@ -32,6 +37,8 @@ pub(crate) struct Setup {
     pub broker: SocketAddr,
     /// The file of what no side will have.
     pub refused: Option<String>,
+    /// The path of the spool.
+    pub spool: Option<String>,
 }
 
 /// The name of the bridge: 1 to 16 octets of a to z, 0 to 9 and `-`.
@@ -178,14 +185,51 @@ fn refused_in(alloc: Global, document: &Table, has_downs: bool) -> Result<Option
     }
 }
 
-/// Refuses keys of what is not there yet: a spool, and a page.
+/// Refuses the key of what is not there yet: a page.
 fn look_for_later(document: &Table) -> Result<(), Stop> {
-    for key in ["spool", "room", "status"] {
-        if document.get(key).is_some() {
-            return Err(Stop::Key(key));
-        }
+    match document.get("status") {
+        None => Ok(()),
+        Some(_) => Err(Stop::Key("status")),
+    }
+}
+
+/// How much readings may wait, and whether they go into a spool.
+#[derive(Clone, Copy)]
+struct Room {
+    room: u64,
+    spools: bool,
+}
+
+/// The room of a document. Without a spool there is no key for it.
+fn room_in(document: &Table) -> Result<Room, Stop> {
+    if text_if(document, "spool", "spool")?.is_some() {
+        let room = number_at(document, "room", LEAST_ROOM, MAX_ROOM, MAX_ROOM)?;
+        let spools = true;
+        return Ok(Room { room, spools });
+    }
+    match document.get("room") {
+        None => Ok(Room {
+            room: MAX_WAITING as u64,
+            spools: false,
+        }),
+        Some(_) => Err(Stop::Key("room")),
+    }
+}
+
+/// Refuses topics that a spool cannot keep: those of more than 256 octets.
+fn look_for_long(spools: bool, ups: &[UpName]) -> Result<(), Stop> {
+    if spools && ups.iter().any(|up| up.topic.len() > MAX_TOPIC) {
+        return Err(Stop::Key("up.to"));
     }
     Ok(())
+}
+
+/// The path of the spool, if there is one.
+fn spool_in(alloc: Global, document: &Table) -> Result<Option<String>, Stop> {
+    match text_if(document, "spool", "spool")? {
+        None => Ok(None),
+        Some(path) => Ok(Some(String::from_str(alloc, path)?)),
+    }
 }
 
 /// Who connects to the broker, and the client id there.
@@ -266,6 +310,7 @@ fn settings_of(
     account: Account,
     identity: Identity,
     window: u64,
+    room: Room,
 ) -> Settings {
     Settings {
         lanes,
@@ -277,11 +322,13 @@ fn settings_of(
         state: identity.state,
         here: identity.here,
         window: window as usize,
+        room: room.room as usize,
+        spools: room.spools,
     }
 }
 
-/// What is carried: `client`, `user`, `password`, `lanes`, `window`, the keys of what is not there,
-/// `up` and `down`.
+/// What is carried: `client`, `user`, `password`, `lanes`, `window`, `spool`, `room`, the key of
+/// what is not there, `up` and `down`.
 fn settings_in<R: Files<File = File>>(
     rt: &R,
     alloc: Global,
@@ -291,16 +338,25 @@ fn settings_in<R: Files<File = File>>(
     let account = account_in(rt, alloc, document)?;
     let lanes = number_at(document, "lanes", 1, 16, 1)?;
     let window = number_at(document, "window", 1, 64, 16)?;
+    let room = room_in(document)?;
     look_for_later(document)?;
     let entries = entries_in(alloc, document)?;
+    look_for_long(room.spools, entries.ups.as_slice())?;
     let identity = identity_of(alloc, name)?;
     let lanes = lanes_of(alloc, name, lanes, entries.ups)?;
-    Ok(settings_of(lanes, entries.downs, account, identity, window))
+    Ok(settings_of(
+        lanes,
+        entries.downs,
+        account,
+        identity,
+        window,
+        room,
+    ))
 }
 
 /// What a document asks for, the first bad key named: `name`, `gateways`, `broker`, `client`,
-/// `user`, `password`, `lanes`, `window`, the keys of what is not there, `up`, `down`, and
-/// `refused`.
+/// `user`, `password`, `lanes`, `window`, `spool`, `room`, the key of what is not there, `up`,
+/// `down`, and `refused`.
 pub(crate) fn setup_in<R: Files<File = File>>(
     rt: &R,
     alloc: Global,
@@ -311,10 +367,12 @@ pub(crate) fn setup_in<R: Files<File = File>>(
     let broker = address_of(text_at(document, "broker", "broker")?, "broker")?;
     let settings = settings_in(rt, alloc, document, name)?;
     let refused = refused_in(alloc, document, !settings.downs.is_empty())?;
+    let spool = spool_in(alloc, document)?;
     Ok(Setup {
         settings,
         gateways,
         broker,
         refused,
+        spool,
     })
 }

@@ -3,9 +3,12 @@
 use crate::ends::{Gate, Line, Looked, dial};
 use crate::parsing::Setup;
 use crate::refused::{Owed, keep};
+use crate::spool::{Found, Kept, Spool, open};
 use crate::stop::Stop;
-use crate::telling::{Refusal, Told, refusal_in_frame, refusal_in_packet, soon_ended};
-use br_core::{Action, Bridge, Command, Event, Moment, Why, begun, step};
+use crate::telling::{
+    Refusal, Told, refusal_in_frame, refusal_in_packet, soon_ended, spool_failed,
+};
+use br_core::{Action, Bridge, Command, Event, Item, Moment, Why, begun, step};
 use mio::{Events, Poll, Registry};
 use mq_packet::Packet;
 use octets::Sequence;
@@ -47,6 +50,8 @@ struct Turning<'a> {
     /// Whether the connection has ended since the machine was told.
     is_lost: bool,
     owed: Vec<Owed>,
+    /// The readings that the bridge answers for.
+    spool: Option<Spool>,
     /// How many turns pass before a line is tried again that could not be written.
     rest: u32,
     /// The millisecond by which time goes by next.
@@ -87,10 +92,24 @@ pub(crate) fn run<T, E: Write>(
 where
     T: Files<File = File> + Clock + Net,
 {
+    let found = found_in(rt, alloc, setup, err)?;
     let mut run = opened(rt, alloc, setup)?;
-    let done = run.turns(rt, alloc, err);
+    let done = run.begin(rt, alloc, found, err);
     drop(run);
     done
+}
+
+/// The spool of the settings, with what it has kept; nothing if they name none.
+fn found_in<R: Files<File = File>, E: Write>(
+    rt: &R,
+    alloc: Global,
+    setup: &Setup,
+    err: &mut E,
+) -> Result<Option<Found>, Stop> {
+    match &setup.spool {
+        None => Ok(None),
+        Some(path) => Ok(Some(open(rt, alloc, path.as_str(), err)?)),
+    }
 }
 
 /// The sockets of so many lanes.
@@ -124,6 +143,7 @@ fn opened<'a, T: Net>(rt: &T, alloc: Global, setup: &'a Setup) -> Result<Turning
         line: None,
         is_lost: false,
         owed: Vec::new(alloc),
+        spool: None,
         rest: 0,
         due: 0,
         is_busy: false,
@@ -152,6 +172,42 @@ fn written(alloc: Global, frame: &Frame) -> Result<Vec<u8>, Stop> {
 }
 
 impl<'a> Turning<'a> {
+    /// What the spool has kept goes on its way again; then turn after turn.
+    fn begin<T, E: Write>(
+        &mut self,
+        rt: &T,
+        alloc: Global,
+        found: Option<Found>,
+        err: &mut E,
+    ) -> Result<(), Stop>
+    where
+        T: Files<File = File> + Clock + Net,
+    {
+        if let Some(found) = found {
+            self.resume(rt, alloc, found)?;
+        }
+        self.turns(rt, alloc, err)
+    }
+
+    /// The machine hears of all readings that the spool has kept, and from which number on it
+    /// counts.
+    fn resume<T: Clock + Net>(&mut self, rt: &T, alloc: Global, found: Found) -> Result<(), Stop> {
+        let Found { spool, items, next } = found;
+        self.spool = Some(spool);
+        for item in items {
+            self.find(rt, alloc, item)?;
+        }
+        self.take(rt, alloc, &Event::Resumed { number: next })
+    }
+
+    /// A reading that the spool has kept goes through the machine.
+    fn find<T: Clock + Net>(&mut self, rt: &T, alloc: Global, item: Item) -> Result<(), Stop> {
+        let event = Event::Found { item };
+        let done = self.take(rt, alloc, &event);
+        drop(event);
+        done
+    }
+
     /// Turn after turn.
     fn turns<T, E: Write>(&mut self, rt: &T, alloc: Global, err: &mut E) -> Result<(), Stop>
     where
@@ -176,7 +232,8 @@ impl<'a> Turning<'a> {
         self.is_busy = false;
     }
 
-    /// What is there on all sides, and the time; then what is to be written and sent.
+    /// What is there on all sides, and the time; then what is to be written and sent. Readings of a
+    /// turn go into the spool with one sync, and only then their lanes acknowledge them.
     fn turn<T, E: Write>(
         &mut self,
         rt: &T,
@@ -194,6 +251,7 @@ impl<'a> Turning<'a> {
         self.hear_broker(rt, alloc, buffer)?;
         self.end_lost(rt, alloc)?;
         self.pass_time(rt, alloc)?;
+        self.write_spool(rt, alloc)?;
         self.write_owed(rt, alloc, err)?;
         self.flush();
         Ok(())
@@ -429,6 +487,8 @@ impl<'a> Turning<'a> {
             Action::ToBroker { packet } => self.say(alloc, packet),
             Action::Reading { packet, .. } => self.say(alloc, packet),
             Action::Refuse { line, command, why } => self.owe(alloc, *line, command, *why),
+            Action::Store { item } => self.store(alloc, item),
+            Action::Forget { number } => self.forget(*number),
             other => {
                 self.connect(rt, alloc, other);
                 Ok(())
@@ -486,6 +546,46 @@ impl<'a> Turning<'a> {
         let command = command.copied(alloc)?;
         self.owed.push(Owed { line, command, why })?;
         Ok(())
+    }
+
+    /// A reading is to go into the spool.
+    fn store(&mut self, alloc: Global, item: &Item) -> Result<(), Stop> {
+        match &mut self.spool {
+            None => Ok(()),
+            Some(spool) => spool.store(alloc, item),
+        }
+    }
+
+    /// The spool may forget a reading.
+    fn forget(&mut self, number: u64) -> Result<(), Stop> {
+        match &mut self.spool {
+            None => Ok(()),
+            Some(spool) => spool.forget(number),
+        }
+    }
+
+    /// What became of the spool in this turn.
+    fn kept<T: Files<File = File> + Clock>(&mut self, rt: &T, alloc: Global) -> Result<Kept, Stop> {
+        let (now, next) = (millisecond(rt), self.bridge.number);
+        match &mut self.spool {
+            None => Ok(Kept::Nothing),
+            Some(spool) => spool.write(rt, alloc, now, next),
+        }
+    }
+
+    /// Writes what is to go into the spool, and tells the machine what became of it.
+    fn write_spool<T>(&mut self, rt: &T, alloc: Global) -> Result<(), Stop>
+    where
+        T: Files<File = File> + Clock + Net,
+    {
+        match self.kept(rt, alloc)? {
+            Kept::Nothing => Ok(()),
+            Kept::Below { number } => self.take(rt, alloc, &Event::Stored { below: number }),
+            Kept::Failed { fault } => {
+                self.note(Some(spool_failed(fault)));
+                self.take(rt, alloc, &Event::StoreFailed)
+            }
+        }
     }
 
     /// Dials the broker.

@@ -19,6 +19,9 @@ pub enum Stop {
     /// A key is missing, or what stands there is not good.
     #[error("settings {0}")]
     Key(&'static str),
+    /// The spool cannot be opened, or cannot hold a reading, for the fault of this number.
+    #[error("spool J{0}")]
+    Spool(u8),
     /// A socket cannot be had.
     #[error("socket")]
     Socket,
@@ -32,6 +35,7 @@ impl Stop {
     pub(crate) fn status(self) -> u8 {
         match self {
             Stop::Arguments | Stop::File | Stop::Text | Stop::Key(_) => 1,
+            Stop::Spool(_) => 2,
             Stop::Socket => 3,
             Stop::Memory => 4,
         }

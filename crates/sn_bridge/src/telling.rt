@@ -20,6 +20,8 @@ pub(crate) enum What {
     Name,
     /// A command, by the gateway.
     Command,
+    /// Readings, by the spool.
+    Spool,
 }
 
 /// What is refused, and the code that says so.
@@ -75,6 +77,12 @@ pub(crate) fn soon_ended() -> Refusal {
     Refusal { what, code: 0 }
 }
 
+/// The spool could not be written, by the number of a journal's fault.
+pub(crate) fn spool_failed(code: u8) -> Refusal {
+    let what = What::Spool;
+    Refusal { what, code }
+}
+
 /// Who refuses what, in words.
 fn words_of(what: What) -> &'static str {
     match what {
@@ -84,6 +92,7 @@ fn words_of(what: What) -> &'static str {
         What::Lane => "the gateway refuses a lane",
         What::Name => "the gateway refuses a name",
         What::Command => "the gateway refuses a command",
+        What::Spool => "the spool cannot be written",
     }
 }
 
@@ -93,6 +102,7 @@ pub(crate) struct Told {
     is_up: bool,
     listening: usize,
     is_connected: bool,
+    is_storing: bool,
     refusal: Option<Refusal>,
 }
 
@@ -114,6 +124,7 @@ impl Told {
             is_up: false,
             listening: 0,
             is_connected: false,
+            is_storing: false,
             refusal: None,
         }
     }
@@ -131,8 +142,8 @@ impl Told {
         let _ = writeln!(err, "sn_bridge: {words}, code {code}");
     }
 
-    /// Tells what has changed since: the broker, how many lanes listen, the lane for commands, and
-    /// what was refused.
+    /// Tells what has changed since: the broker, how many lanes listen, the lane for commands, the
+    /// spool, and what was refused.
     pub(crate) fn look<E: Write>(
         &mut self,
         bridge: &Bridge,
@@ -142,6 +153,7 @@ impl Told {
         self.tell_broker(bridge.side == Side::Up, err);
         self.tell_lanes(listening(bridge), bridge.lanes.len(), err);
         self.tell_commands(bridge.down.phase == Phase::Listening, err);
+        self.tell_spool(bridge.is_storing, err);
         self.tell(refusal, err);
     }
 
@@ -159,6 +171,15 @@ impl Told {
         if lanes != self.listening {
             self.listening = lanes;
             let _ = writeln!(err, "sn_bridge: {lanes} of {all} lanes listen");
+        }
+    }
+
+    /// Tells whether the spool takes readings.
+    fn tell_spool<E: Write>(&mut self, is_storing: bool, err: &mut E) {
+        if is_storing != self.is_storing {
+            self.is_storing = is_storing;
+            let word = if is_storing { "takes" } else { "refuses" };
+            let _ = writeln!(err, "sn_bridge: the spool {word} readings");
         }
     }
 

@@ -1,10 +1,14 @@
--- the first command, and a message that came before
-use Rattle.std.specs.Prelude.{ℕ, if◌then◌else◌, List, [], ◌∷◌, drop, Option, Some, None}
+-- the first command, a message that came before, and whether the first reading goes
+use Rattle.std.specs.Prelude.{ℕ, Bool, false, if◌then◌else◌, List, [], ◌∷◌, drop, Option, Some, None}
 use Rattle.br_core.specs.declared.item.Command.{Command}
+use Rattle.br_core.specs.declared.item.Flight.{Flight}
+use Rattle.br_core.specs.declared.item.Item.{Item}
+use Rattle.br_core.specs.declared.settings.Settings.{Settings}
 use Rattle.br_core.specs.declared.state.Bridge.{Bridge}
 use Rattle.br_core.specs.declared.state.Open.{Open}
 use Rattle.br_core.specs.Commands.{put_down}
 use Rattle.br_core.specs.Lanes.{is_same}
+use Rattle.br_core.specs.Sides.{has_window}
 
 -- the first command, and the bridge without it
 abbrev pub first_of : List Command → Option Command
@@ -18,3 +22,8 @@ without_first bridge = put_down (record bridge.down { queue = drop 1 bridge.down
 abbrev pub same_open : Option Open → ℕ → ℕ → List ℕ → Option Open
 same_open None name msg_id body = None
 same_open (Some held) name msg_id body = if is_same name msg_id body held then Some held else None
+
+-- whether the first reading that waits is sent now
+abbrev pub first_goes : Settings → List Item → List Flight → Bool
+first_goes settings [] flight = false
+first_goes settings (item ∷ more) flight = has_window settings item.qos flight
