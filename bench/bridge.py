@@ -1,7 +1,7 @@
 #!/usr/bin/env python3
 """How many readings a second the bridge brings from a gateway to mosquitto, by one lane and by four, beside plain round trips to both.
 
-Usage: bridge.py PROGRAM SNGW [--many N]
+Usage: bridge.py PROGRAM SNGW [--many N] [--spool]
 
 While the broker is away, so many readings wait for each lane, at most 1,000; then it comes back, and the time from the first to the last one at the
 broker's reader counts. A plain round trip is a publication at quality of service 1 and its PUBACK, to the gateway and to the broker, one after the
@@ -38,7 +38,7 @@ def plain(scene: Scene, many: int) -> float:
 
 def rate(words, folder: str, broker: tuple, lanes: int) -> tuple:
     """Readings a second by so many lanes, and the seconds of the plain round trips."""
-    with Scene(words.program, words.sngw, broker, folder, lanes) as scene:
+    with Scene(words.program, words.sngw, broker, folder, lanes, spools=words.spool) as scene:
         reader = Peer(scene.broker_port, b"reader", (b"field/#",))
         scene.ready()
         trip = plain(scene, words.many)
@@ -61,6 +61,7 @@ def main() -> int:
     words.add_argument("program", type=os.path.abspath)
     words.add_argument("sngw", type=os.path.abspath)
     words.add_argument("--many", type=int, default=1000)
+    words.add_argument("--spool", action="store_true")
     words = words.parse_args()
     with tempfile.TemporaryDirectory() as folder:
         broker, why = broker_program(folder)

@@ -3,7 +3,7 @@
 
 Usage: bridge.py PROGRAM SNGW [PART ..] [--kills N] [--seed N]
 
-The parts are settings, names, through, retained, predefined, away, refused, odd, silent, strange and kills; all of them if none is named. mosquitto is the one on PATH, or Debian's package,
+The parts are settings, names, through, retained, predefined, away, spool, full, refused, odd, silent, strange, kills and spooled-kills; all of them if none is named. mosquitto is the one on PATH, or Debian's package,
 unpacked into the trial's folder; no service of the machine is started. If it cannot be had, a line says so, and only the parts without a broker run.
 
 Each message has a number. What a sensor was told PUBACK 0 for has to come to the reader at the broker, and what the publisher at the broker was told
@@ -14,6 +14,7 @@ import argparse
 import os
 import random
 import re
+import resource
 import shutil
 import signal
 import socket
@@ -27,6 +28,7 @@ from gateway import HOST, Failed, Gateway, connect, expect, frame, free_ports, n
 
 SAVED = 3.0  # seconds after which mosquitto has surely saved what it acknowledged
 SUBACK = b"\x90\x03\x00\x01\x01"  # the answer to the only filter of a scene
+ENDLESS = 1 << 40  # octets of a file; who passes such a limit is told, and not killed
 AHEAD = 100  # messages of a name that may be on their way while programs are killed
 
 
@@ -287,7 +289,7 @@ class Process:
     def start(self) -> None:
         with open(self.err, "ab") as err:
             self.process = subprocess.Popen(self.words, cwd=self.folder, stdin=subprocess.DEVNULL, stdout=err, stderr=err, env=self.environment,
-                                            preexec_fn=with_the_starter())
+                                            preexec_fn=with_the_starter(0, ENDLESS))
 
     def kill(self, how: int = signal.SIGKILL) -> None:
         if self.process and self.process.poll() is None:
@@ -308,8 +310,8 @@ class Scene:
 
     names = [b"t/heat", b"t/cold", b"t/wind", b"t/rain"]
 
-    def __init__(self, bridge: str, sngw: str, broker: tuple, folder: str, lanes: int = 2, names: tuple = (), **more: str):
-        self.folder = tempfile.mkdtemp(dir=folder)
+    def __init__(self, bridge: str, sngw: str, broker: tuple, folder: str, lanes: int = 2, names: tuple = (), spools: bool = False, **more: str):
+        self.folder, self.spools = tempfile.mkdtemp(dir=folder), spools
         self.broker_port = free_ports(1)[0]
         self.gateway = Gateway(sngw, self.folder, 1, **more)
         self.names = list(names) or Scene.names
@@ -331,7 +333,7 @@ class Scene:
     def text(self, lanes: int) -> str:
         names = ", ".join(f'"{it.decode()}"' for it in self.names)
         return (f'name = "b1"\ngateways = ["{HOST}:{self.gateway.port}"]\nbroker = "{HOST}:{self.broker_port}"\nclient = "nimhazel-b1"\n'
-                f'lanes = {lanes}\nrefused = "{self.refused}"\n[[up]]\ntopics = [{names}]\nshort = ["qa"]\nto = "field/1/"\n'
+                f'lanes = {lanes}\nrefused = "{self.refused}"\n' + (f'spool = "{self.folder}/spool"\n' if self.spools else "") + f'[[up]]\ntopics = [{names}]\nshort = ["qa"]\nto = "field/1/"\n'
                 f'[[down]]\nfilter = "cmd/1/act/#"\nstrip = "cmd/1/"\n')
 
     def __enter__(self):
@@ -371,7 +373,8 @@ def settings(bridge: str, sngw: str, _broker: tuple, folder: str, _words) -> str
     good = scene.text(2)
     bad = [("name", 'name = "b1"', 'name = "B1"'), ("gateways", f'["{HOST}:{scene.gateway.port}"]', "[]"), ("broker", f'"{HOST}:{scene.broker_port}"', '"here"'),
            ("client", 'client = "nimhazel-b1"', f'client = "{24 * "c"}"'), ("lanes", "lanes = 2", "lanes = 17"), ("lanes", "lanes = 2", 'lanes = "2"'),
-           ("spool", "lanes = 2", 'lanes = 2\nspool = "here"'), ("up.topics", '"t/heat"', '"t/+"'), ("up.topics", '"t/heat"', '"t/cold"'), ("up.short", '"qa"', '"qaa"'),
+           ("spool", "lanes = 2", "lanes = 2\nspool = 1"), ("room", "lanes = 2", "lanes = 2\nroom = 2000"), ("room", "lanes = 2", 'lanes = 2\nspool = "s"\nroom = 5'),
+           ("status", "lanes = 2", 'lanes = 2\nstatus = "here"'), ("up.topics", '"t/heat"', '"t/+"'), ("up.topics", '"t/heat"', '"t/cold"'), ("up.short", '"qa"', '"qaa"'),
            ("up.to", '"field/1/"', '"field/#"'), ("up.filter", "[[up]]", '[[up]]\nfilter = "t/#"'), ("down.filter", '"cmd/1/act/#"', '"cmd/#/1"'),
            ("down.filter", '"cmd/1/act/#"', '"field/#"'), ("refused", f'refused = "{scene.refused}"\n', "")]
     for key, old, new in bad:
@@ -504,6 +507,72 @@ def away(bridge: str, sngw: str, broker: tuple, folder: str, _words) -> str:
         return f"500 readings while the broker was away, all came, {len(came) - 501} twice"
 
 
+def spool(bridge: str, sngw: str, broker: tuple, folder: str, words) -> str:
+    """The broker is away for as long as thousands of readings, and the bridge is killed meanwhile: the spool has them, and all come."""
+    many = words.waiting // 4
+    with Scene(bridge, sngw, broker, folder, 4, spools=True) as scene:
+        reader, sensors, faults = Peer(scene.broker_port, b"reader", (b"field/#",)), [Node(scene.gateway, b"s%d" % at) for at in range(4)], []
+        scene.ready()
+        until(lambda: reader.socket, 10, "the reader did not connect")
+        for sensor, name in zip(sensors, scene.names):
+            sensor.connect()
+            sensor.publish(name, b"0")
+        until(lambda: len({topic for topic, _, _ in reader.came}) == 4, 20, "the first readings did not come")
+        scene.broker.kill(signal.SIGTERM)
+
+        def read(sensor: Node, name: bytes) -> None:
+            try:
+                for at in range(1, many + 1):
+                    sensor.publish(name, b"%d" % at)
+                    time.sleep(0.01)  # a gateway keeps 1,024 readings for a lane whose bridge is killed
+            except Failed as fault:
+                faults.append(str(fault))
+
+        threads = [threading.Thread(target=read, args=it) for it in zip(sensors, scene.names)]
+        for it in threads:
+            it.start()
+        kills = 0
+        while any(it.is_alive() for it in threads):
+            time.sleep(5)
+            scene.bridge.kill()
+            scene.bridge.start()
+            kills += 1
+        for it in threads:
+            it.join()
+        expect(not faults, f"{faults}")
+        scene.ready()
+        scene.broker.start()
+        for name in scene.names:
+            topic = b"field/1/" + name
+            until(lambda topic=topic: len(set(count_of(reader.came, topic))) > many, 300, f"readings of {name!r} are missing: {len(set(count_of(reader.came, topic)))} of {many + 1} came")
+            expect(first_of(count_of(reader.came, topic)) == list(range(many + 1)), f"readings of {name!r} are not in order")
+        twice = len(reader.came) - 4 * (many + 1)
+        told = re.findall(r"the spool has (\d+) readings", scene.bridge.told())
+        return f"{4 * many} readings while the broker was away, {kills} kills, the spool had up to {max(map(int, told))}, all came, {twice} twice"
+
+
+def full(bridge: str, sngw: str, broker: tuple, folder: str, _words) -> str:
+    """The disk of the spool is full while the broker is away: nothing is acknowledged that is not in it, and all comes once there is room."""
+    with Scene(bridge, sngw, broker, folder, spools=True) as scene:
+        reader, sensor = Peer(scene.broker_port, b"reader", (b"field/#",)), Node(scene.gateway, b"s0")
+        sensor.connect()
+        scene.ready()
+        until(lambda: reader.socket, 10, "the reader did not connect")
+        scene.broker.kill(signal.SIGTERM)
+        until(lambda: "the broker is away" in scene.bridge.told(), 30, "the bridge does not say that the broker is away")
+        process = scene.bridge.process.pid
+        resource.prlimit(process, resource.RLIMIT_FSIZE, (20_000, resource.RLIM_INFINITY))
+        for at in range(300):
+            sensor.publish(b"t/heat", b"%0200d" % at)
+        until(lambda: "the spool refuses readings" in scene.bridge.told(), 60, f"the spool does not fill up: {scene.bridge.told()[-300:]}", 0.1)
+        scene.bridge.alive()
+        scene.bridge.kill()
+        scene.bridge.start()
+        scene.broker.start()
+        until(lambda: set(count_of(reader.came, b"field/1/t/heat")) == set(range(300)), 120, f"readings are missing: {len(set(count_of(reader.came, b'field/1/t/heat')))} of 300 came")
+        return "300 readings for a spool of 20,000 octets, all came"
+
+
 def refused(bridge: str, sngw: str, broker: tuple, folder: str, _words) -> str:
     """What no side will have is in the file, behind half a line that a crash left, and the next command comes."""
     scene = Scene(bridge, sngw, broker, folder)
@@ -603,10 +672,15 @@ def strange(bridge: str, sngw: str, _broker: tuple, folder: str, words) -> str:
         return f"{count} datagrams of nobody's, and the bridge went on"
 
 
-def kills(bridge: str, sngw: str, broker: tuple, folder: str, words) -> str:
+def spooled_kills(bridge: str, sngw: str, broker: tuple, folder: str, words) -> str:
+    """The same with a spool."""
+    return kills(bridge, sngw, broker, folder, words, True)
+
+
+def kills(bridge: str, sngw: str, broker: tuple, folder: str, words, spools: bool = False) -> str:
     """The bridge, the broker and the gateway are killed in turn: nothing that was acknowledged is lost."""
     dice = random.Random(words.seed)
-    with Scene(bridge, sngw, broker, folder) as scene:
+    with Scene(bridge, sngw, broker, folder, spools=spools) as scene:
         reader, writer = Peer(scene.broker_port, b"reader", (b"field/#",)), Peer(scene.broker_port, b"writer")
         actor, is_over, killed, sent = Node(scene.gateway, b"actor"), [], [], {}
         actor.connect()
@@ -687,8 +761,8 @@ def lost_of(sent: dict, reader: Peer, actor: Node, killed: list) -> tuple:
     return lost - brokers, brokers
 
 
-PARTS = {"settings": settings, "names": names, "through": through, "retained": retained, "predefined": predefined, "away": away, "refused": refused,
-         "odd": odd, "silent": silent, "strange": strange, "kills": kills}
+PARTS = {"settings": settings, "names": names, "through": through, "retained": retained, "predefined": predefined, "away": away, "spool": spool, "full": full,
+         "refused": refused, "odd": odd, "silent": silent, "strange": strange, "kills": kills, "spooled-kills": spooled_kills}
 WITHOUT_BROKER = ("settings", "odd", "silent", "strange")
 
 
@@ -699,6 +773,7 @@ def main() -> int:
     words.add_argument("parts", nargs="*", choices=[*PARTS, []])
     words.add_argument("--kills", type=int, default=100)
     words.add_argument("--messages", type=int, default=500)
+    words.add_argument("--waiting", type=int, default=10_000)
     words.add_argument("--names", type=int, default=600)
     words.add_argument("--seconds", type=float, default=30)
     words.add_argument("--seed", type=int, default=1)
@@ -713,9 +788,9 @@ def main() -> int:
             if not broker and name not in WITHOUT_BROKER:
                 continue
             try:
-                print(f"{name:9} {PARTS[name](bridge, sngw, broker, folder, words)}", flush=True)
+                print(f"{name:13} {PARTS[name](bridge, sngw, broker, folder, words)}", flush=True)
             except Failed as fault:
-                print(f"{name:9} FAILED: {fault}", flush=True)
+                print(f"{name:13} FAILED: {fault}", flush=True)
                 status = 1
     return status
 
