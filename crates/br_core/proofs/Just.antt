@@ -81,7 +81,7 @@ module _ (Good : ℕ → Type 0) (Done : ℕ → Type 0) (lift : (n : ℕ) → D
     queued = λ item l out w f n came h. ((h.0.0, all-push Came w item h.0.1 came, h.0.2), h.1);
     goes = λ item l out w f n came h. (stands (goes-out item) l out w f h.0, all-push J out (goes-out item) h.1 (going item came));
     flies = λ id item l out w f n came h. (flying id item l out w f came h.0, all-push J out (flies-out id item) h.1 (flying-just id item came));
-    goes_first = λ item more l out f n zero h. (
+    goes_first = λ item more l out f n q h. (
       stands (goes-out item) l out more f (h.0.0, h.0.1.1, h.0.2),
       all-push J out (goes-out item) h.1 (going item h.0.1.0),
     );

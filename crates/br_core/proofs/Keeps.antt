@@ -78,10 +78,10 @@ module _ (number : ℕ) (Done : ℕ → Type 0) where
 
   -- the first one that waits goes: one that wants an acknowledgement is in flight then
   gone : (item : Item) (more : List Item) (f : List Flight) → item.qos ≡ levels.Zero → StaysIn (item ∷ more) f → StaysIn more f
-  gone item more f zero (inl handed) = inl handed
-  gone item more f zero (inr (inl (inl is))) = absurd (subst IsOne zero is.1)
-  gone item more f zero (inr (inl (inr waiting))) = inr (inl waiting)
-  gone item more f zero (inr (inr flies)) = inr (inr flies)
+  gone item more f q (inl handed) = inl handed
+  gone item more f q (inr (inl (inl is))) = absurd (subst IsOne q is.1)
+  gone item more f q (inr (inl (inr waiting))) = inr (inl waiting)
+  gone item more f q (inr (inr flies)) = inr (inr flies)
 
   flown-first : (id : ℕ) (item : Item) (more : List Item) (f : List Flight) → StaysIn (item ∷ more) f → StaysIn more (f ++ record { id = id; item = item } ∷ [])
   flown-first id item more f (inl handed) = inl handed
@@ -101,7 +101,7 @@ module _ (number : ℕ) (Done : ℕ → Type 0) where
     queued = λ item l out w f n came h. queued item w f h;
     goes = λ item l out w f n came h. h;
     flies = λ id item l out w f n came h. flown (record { id = id; item = item }) w f h;
-    goes_first = λ item more l out f n zero h. gone item more f zero h;
+    goes_first = λ item more l out f n q h. gone item more f q h;
     flies_first = λ id item more l out f n h. flown-first id item more f h;
     counts = λ m l out w f n e h. h;
   }

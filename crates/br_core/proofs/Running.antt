@@ -104,10 +104,10 @@ over-on settings run more item h =
       up = h.up;
       comes = later-on run h.earlier (events.Field item.lane (frames.Publish h.flags h.topic h.msg_id item.body), h.moment) h.later more h.comes;
       next = h.next;
-      is_own = h.is_own;
-      is_lane = h.is_lane;
-      is_name = h.is_name;
-      is_up = h.is_up;
+      has_own = h.has_own;
+      has_lane = h.has_lane;
+      has_name = h.has_name;
+      has_up = h.has_up;
       goes_to = h.goes_to;
       is_kept = h.is_kept;
     }
@@ -197,10 +197,10 @@ module _ (settings : Settings) (before : List Come) (moment : ℕ) (stand : Stan
         up = up;
         comes = refl;
         next = refl;
-        is_own = mine;
-        is_lane = there;
-        is_name = named;
-        is_up = is;
+        has_own = mine;
+        has_lane = there;
+        has_name = named;
+        has_up = is;
         goes_to = refl;
         is_kept = refl;
       })

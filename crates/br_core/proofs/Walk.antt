@@ -377,7 +377,7 @@ module _ (Good : ℕ → Type 0) (Done : ℕ → Type 0) (lift : (n : ℕ) → D
   passes-just : (settings : Settings) (place : ℕ) (up : UpName) (body : List ℕ) (x : Lane) (b : Bridge) → Came (lane.item_of b.number place levels.Zero up body) → L place x → J b
       → J (lane.passes settings place up body x b)
   passes-just settings place up body x b came p h =
-      choose (lane.has_room settings body b) (lane.counted settings place levels.Zero up body (lane.seated place x b)) (lane.seated place x b)
+      choose (lane.goes_on settings body b) (lane.counted settings place levels.Zero up body (lane.seated place x b)) (lane.seated place x b)
       (counted-just settings place levels.Zero up body (lane.seated place x b) came (put-just place x b p h))
       (put-just place x b p h)
 

@@ -25,7 +25,7 @@ use Rattle.br_core.specs.declared.state.Open.{Open}
 use Rattle.br_core.specs.declared.state.Phase.{Phase}
 use Rattle.br_core.specs.declared.state.Phase.TheVariants as phases
 use Rattle.br_core.specs.declared.state.TheConstants.{KEEP_ALIVE, LAST_NUMBER, MAX_BODY, SLEEP, TRIES}
-use Rattle.br_core.specs.Sides.{does, next_id, once_more, takes}
+use Rattle.br_core.specs.Sides.{does, is_up, next_id, once_more, takes}
 
 -- a lane in its place
 abbrev pub seated : ℕ → Lane → Bridge → Bridge
@@ -188,10 +188,14 @@ brings_if (Some held) settings place name up topic_id msg_id body lane bridge =
     then again_at held.is_answered place topic_id msg_id held lane bridge
     else brings settings place name up topic_id msg_id body lane bridge
 
--- a reading of quality of service 0 goes on, if there is room
+-- a reading of quality of service 0 goes on, if the broker is there and there is room; else it
+-- takes no number
+abbrev pub goes_on : Settings → List ℕ → Bridge → Bool
+goes_on settings body bridge = is_up bridge.side && has_room settings body bridge
+
 abbrev pub passes : Settings → ℕ → UpName → List ℕ → Lane → Bridge → Bridge
 passes settings place up body lane bridge =
-    if has_room settings body bridge
+    if goes_on settings body bridge
     then counted settings place levels.Zero up body (seated place lane bridge)
     else seated place lane bridge
 

@@ -72,10 +72,10 @@ pub record CameOver (settings : Settings) (run : List Come) (item : Item) : Type
       ≡ earlier
       ++ (events.Field item.lane (frames.Publish flags topic msg_id item.body), moment) ∷ later
   pub next : (after settings earlier).number ≡ item.number
-  pub is_own : slice_get settings.lanes item.lane ≡ Some own
-  pub is_lane : slice_get (after settings earlier).lanes item.lane ≡ Some lane
-  pub is_name : name_of (kind_of flags.bits) topic own.names lane.ids ≡ Some name
-  pub is_up : slice_get own.names name ≡ Some up
+  pub has_own : slice_get settings.lanes item.lane ≡ Some own
+  pub has_lane : slice_get (after settings earlier).lanes item.lane ≡ Some lane
+  pub has_name : name_of (kind_of flags.bits) topic own.names lane.ids ≡ Some name
+  pub has_up : slice_get own.names name ≡ Some up
   pub goes_to : item.topic ≡ up.topic
   pub is_kept : item.retain ≡ up.retain
 

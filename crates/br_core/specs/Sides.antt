@@ -23,6 +23,11 @@ next_id id = if nat_lt id 65535 then id + 1 else 1
 abbrev pub once_more : ℕ → ℕ
 once_more tries = if nat_lt tries 255 then tries + 1 else tries
 
+-- whether publications go both ways
+abbrev pub is_up : Side → Bool
+is_up sides.Up = true
+is_up side = false
+
 -- one more thing is to be done
 abbrev pub does : Action → Bridge → Bridge
 does action bridge = record bridge { out = bridge.out ++ action ∷ [] }

@@ -23,7 +23,7 @@ use Rattle.br_core.specs.declared.state.Side.TheVariants as sides
 use Rattle.br_core.specs.declared.state.TheConstants.{BROKER_KEEP_ALIVE, LAST_NUMBER}
 use Rattle.br_core.specs.Commands.{begins, commanded, down_frame, down_tick, kept}
 use Rattle.br_core.specs.Lanes.{answers, falls_asleep, keeps, lane_frame, lane_tick, wakes}
-use Rattle.br_core.specs.Sides.{acknowledged, all_again, does, free_id, left_in_flight, next_id, sends, takes}
+use Rattle.br_core.specs.Sides.{acknowledged, all_again, does, free_id, is_up, left_in_flight, next_id, sends, takes}
 
 -- what one lane does, if there is such a lane
 abbrev pub lane_does : Option LaneSettings → Option Lane → (LaneSettings → Lane → Bridge → Bridge)
@@ -45,11 +45,6 @@ lanes_along (own ∷ more) place settings f bridge =
 
 abbrev pub each_lane : Settings → (ℕ → LaneSettings → Lane → Bridge → Bridge) → Bridge → Bridge
 each_lane settings f bridge = lanes_along settings.lanes 0 settings f bridge
-
--- whether publications go both ways
-abbrev pub is_up : Side → Bool
-is_up sides.Up = true
-is_up side = false
 
 -- whether what lanes bring can be acknowledged soon: by the broker, or by the spool; else they
 -- sleep

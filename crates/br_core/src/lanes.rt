@@ -10,7 +10,7 @@ ghost use Rattle.br_core.specs.inner.Parts as inner;
 use crate::action::Action;
 use crate::item::Item;
 use crate::settings::{LaneSettings, Settings, UpName};
-use crate::sides::{does, next_id, once_more, takes};
+use crate::sides::{does, is_up, next_id, once_more, takes};
 use crate::state::{
     Bridge, KEEP_ALIVE, LAST_NUMBER, Lane, MAX_BODY, Moment, Named, Open, Phase, SLEEP, TRIES,
 };
@@ -355,7 +355,15 @@ fn brings_if(
     }
 }
 
-/// A reading of quality of service 0 goes on, if there is room.
+/// Whether a reading of quality of service 0 goes on: the broker is there, and there is room. Else
+/// it takes no number, which the spool would have to count.
+fn goes_on(settings: &Settings, body: &Octets, bridge: &Bridge) -> bool
+    ensures { result ≡ spec.goes_on settings.now body.now bridge.now }
+{
+    is_up(bridge.side) && has_room(settings, body, bridge)
+}
+
+/// A reading of quality of service 0 goes on, if it may.
 fn passes(
     alloc: Global,
     settings: &Settings,
@@ -369,9 +377,9 @@ fn passes(
     ensures { OnOk result (bridge.new ≡ spec.passes settings.now place up.now body.now lane
         bridge.old) }
 {
-    let room = has_room(settings, body, bridge);
+    let passes_now = goes_on(settings, body, bridge);
     seated(place, lane, bridge);
-    if room {
+    if passes_now {
         counted(alloc, settings, place, Qos::Zero, up, body, bridge)
     } else {
         Ok(())

@@ -27,6 +27,16 @@ pub(crate) fn once_more(tries: u8) -> u8
     if tries < 255 { tries + 1 } else { tries }
 }
 
+/// Whether publications go both ways.
+pub(crate) fn is_up(side: Side) -> bool
+    ensures { result ≡ spec.is_up side }
+{
+    match side {
+        Side::Up => true,
+        Side::Closed | Side::Connecting | Side::Subscribing { .. } => false,
+    }
+}
+
 /// One more thing is to be done.
 pub(crate) fn does(bridge: &mut Bridge, action: Action) -> Result<(), NoMemory>
     ensures { OnOk result (bridge.new ≡ spec.does action bridge.old) }

@@ -13,7 +13,7 @@ use crate::item::Item;
 use crate::lanes::{answers, falls_asleep, keeps, lane_frame, lane_tick, wakes};
 use crate::queue::Queue;
 use crate::settings::Settings;
-use crate::sides::{acknowledged, all_again, does, free_id, next_id, sends, takes};
+use crate::sides::{acknowledged, all_again, does, free_id, is_up, next_id, sends, takes};
 use crate::state::{
     BROKER_KEEP_ALIVE, Bridge, Doing, Down, LAST_NUMBER, Lane, Moment, Phase, Side,
 };
@@ -246,16 +246,6 @@ fn all_keep(
         keep_at(alloc, settings, place, below, bridge)?;
     }
     Ok(())
-}
-
-/// Whether publications go both ways.
-fn is_up(side: Side) -> bool
-    ensures { result ≡ spec.is_up side }
-{
-    match side {
-        Side::Up => true,
-        Side::Closed | Side::Connecting | Side::Subscribing { .. } => false,
-    }
 }
 
 /// Whether what lanes bring can be acknowledged soon: by the broker, or by the spool.

@@ -27,7 +27,7 @@ use std::io::Write;
 const LATE: u64 = 1_000;
 
 /// How many numbers that may be forgotten are written at once.
-const MOST_FORGOTTEN: usize = 4_096;
+const MOST_FORGOTTEN: usize = 16_384;
 
 /// How many milliseconds pass between two looks at how long the files are.
 const LOOK: u64 = 10_000;
