@@ -176,9 +176,7 @@ fn fits(settings: &Settings, body: &Octets) -> bool
 fn has_room(settings: &Settings, body: &Octets, bridge: &Bridge) -> bool
     ensures { result ≡ spec.has_room settings.now body.now bridge.now }
 {
-    fits(settings, body)
-        && bridge.waiting.len() < settings.room
-        && bridge.number < LAST_NUMBER
+    fits(settings, body) && bridge.waiting.len() < settings.room && bridge.number < LAST_NUMBER
 }
 
 /// A reading of this quality of service gets the next number.

@@ -344,14 +344,7 @@ fn settings_in<R: Files<File = File>>(
     look_for_long(room.spools, entries.ups.as_slice())?;
     let identity = identity_of(alloc, name)?;
     let lanes = lanes_of(alloc, name, lanes, entries.ups)?;
-    Ok(settings_of(
-        lanes,
-        entries.downs,
-        account,
-        identity,
-        window,
-        room,
-    ))
+    Ok(settings_of(lanes, entries.downs, account, identity, window, room))
 }
 
 /// What a document asks for, the first bad key named: `name`, `gateways`, `broker`, `client`,
