@@ -77,7 +77,6 @@ module _ (Good : ℕ → Type 0) (Done : ℕ → Type 0) (lift : (n : ℕ) → D
 
   pub just-kept : IsKept Good Done Own May Came P
   just-kept = record {
-    acts = λ a l out w f n o p h. (stands a l out w f h.0, all-push J out a h.1 p);
     queued = λ item l out w f n came h. ((h.0.0, all-push Came w item h.0.1 came, h.0.2), h.1);
     goes = λ item l out w f n came h. (stands (goes-out item) l out w f h.0, all-push J out (goes-out item) h.1 (going item came));
     flies = λ id item l out w f n came h. (flying id item l out w f came h.0, all-push J out (flies-out id item) h.1 (flying-just id item came));
@@ -93,7 +92,7 @@ module _ (Good : ℕ → Type 0) (Done : ℕ → Type 0) (lift : (n : ℕ) → D
   }
 
   -- what is in flight goes out again
-  again : (rest : List Flight) (l : List Lane) (out : List Action) (w : List Item) (f : List Flight) (n : ℕ) → AllByRecursion (λ one. Came one.item) rest → P l out w f n
+  again : (rest : List Flight) (l : List Lane) (out : List Action) (w : List Item) (f : List Flight) (n : ℕ) → AllByRecursion (λ (one : Flight). Came one.item) rest → P l out w f n
       → P l (fold out_again out rest) w f n
   again [] l out w f n cames h = h
   again (one ∷ more) l out w f n cames h =
@@ -112,7 +111,7 @@ module _ (Good : ℕ → Type 0) (Done : ℕ → Type 0) (lift : (n : ℕ) → D
     taken = λ settings item b e came h. taken-kept Good Done Own May Came P just-kept settings item b e came h;
     counts = λ m l out w f n e h. h;
     offers = λ settings b h. sends-kept Good Done Own May Came P just-kept settings b h;
-    repeated = λ l out w f n h. again f l out w f n (all-map (Flown Came (past ++ out)) (λ one. Came one.item) f (flown-came (past ++ out)) h.0.2) h;
+    repeated = λ l out w f n h. again f l out w f n (all-map (Flown Came (past ++ out)) (λ (one : Flight). Came one.item) f (flown-came (past ++ out)) h.0.2) h;
     left = λ id l out w f n handed h. ((h.0.0, h.0.1, all-left (Flown Came (past ++ out)) id f h.0.2), h.1);
   }
 

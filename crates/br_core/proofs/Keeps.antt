@@ -97,7 +97,6 @@ module _ (number : ℕ) (Done : ℕ → Type 0) where
 
   kept : IsKept Yes Done Its Yes Any P
   kept = record {
-    acts = λ a l out w f n o p h. h;
     queued = λ item l out w f n came h. queued item w f h;
     goes = λ item l out w f n came h. h;
     flies = λ id item l out w f n came h. flown (record { id = id; item = item }) w f h;

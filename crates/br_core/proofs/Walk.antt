@@ -186,10 +186,8 @@ abbrev pub IsOther : Action → Type 0
 IsOther (actions.Reading number packet) = ⊥
 IsOther action = Unit {0}
 
--- It is kept if something just is to be done, if a reading that came waits or goes out, and if the
--- first one that waits does.
+-- It is kept if a reading that came waits or goes out, and if the first one that waits goes out.
 pub record IsKept (Good : ℕ → Type 0) (Done : ℕ → Type 0) (Own : ℕ → ℕ → ℕ → Type 0) (May : ℕ → Type 0) (Came : Item → Type 0) (P : Held) : Type 0 where
-  pub acts : (a : Action) (l : List Lane) (out : List Action) (w : List Item) (f : List Flight) (n : ℕ) → IsOther a → IsJust Good Done Own May Came a → P l out w f n → P l (out ++ a ∷ []) w f n
   pub queued : (item : Item) (l : List Lane) (out : List Action) (w : List Item) (f : List Flight) (n : ℕ) → Came item → P l out w f n → P l out (w ++ item ∷ []) f n
   pub goes : (item : Item) (l : List Lane) (out : List Action) (w : List Item) (f : List Flight) (n : ℕ) → Came item → P l out w f n → P l (out ++ goes-out item ∷ []) w f n
   pub flies : (id : ℕ) (item : Item) (l : List Lane) (out : List Action) (w : List Item) (f : List Flight) (n : ℕ) → Came item → P l out w f n
