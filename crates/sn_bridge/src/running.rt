@@ -628,6 +628,7 @@ impl<'a> Turning<'a> {
             return Ok(());
         }
         drop(self.owed.remove(0));
+        self.is_busy = true;
         self.take(rt, alloc, &Event::Kept { line })
     }
 }

@@ -2,10 +2,10 @@
 //!
 //! The spool is a gateway of its own without clients: what it takes is on the disk when `take`
 //! returns. Readings that are to go into it, and numbers of those that it may forget, wait until
-//! the end of a turn: then they become one delta, with one sync. If that fails, they wait on, and
-//! nothing was answered for.
+//! the end of a turn: then as many as a delta takes become one, with one sync. If that fails, they
+//! wait on, and nothing was answered for.
 
-ghost use Rattle.std.specs.Prelude.{◌<◌, IfSome, length};
+ghost use Rattle.std.specs.Prelude.{◌<◌, ◌≤◌, IfSome, length};
 
 use crate::stop::Stop;
 use br_core::Item;
@@ -28,6 +28,12 @@ const LATE: u64 = 1_000;
 
 /// How many numbers that may be forgotten are written at once.
 const MOST_FORGOTTEN: usize = 16_384;
+
+/// How many readings are written at once: all of them have room in a delta.
+const MOST_STORED: usize = 1_024;
+
+/// How many numbers they have at most, with those of readings that no spool keeps.
+const MOST_NUMBERS: u64 = 16_384;
 
 /// How many milliseconds pass between two looks at how long the files are.
 const LOOK: u64 = 10_000;
@@ -171,6 +177,18 @@ fn place_of(number: u64, items: &[Item]) -> Option<usize>
     None
 }
 
+/// How many of these readings, in the order of their numbers, have smaller ones than this.
+fn count_below(number: u64, items: &[Item]) -> usize
+    ensures { result ≤ length items.now }
+{
+    for at in 0..items.len() {
+        if items[at].number >= number {
+            return at;
+        }
+    }
+    items.len()
+}
+
 /// Takes so many numbers away in front.
 fn cut_front(numbers: &mut Vec<u64>, count: usize) {
     let all = numbers.len();
@@ -310,22 +328,32 @@ impl Spool {
         has_more && now >= self.late
     }
 
-    /// The delta of all that waits.
-    fn delta(&self, alloc: Global, next: u64) -> Result<Delta, Stop> {
+    /// Below which number readings are written at once: a delta has room for so many.
+    fn reach(&self, next: u64) -> u64 {
+        let far = next.min(self.below.saturating_add(MOST_NUMBERS));
+        match self.stores.as_slice().get(MOST_STORED) {
+            None => far,
+            Some(item) => far.min(item.number),
+        }
+    }
+
+    /// The delta of what waits, with the readings below a number.
+    fn delta(&self, alloc: Global, reach: u64) -> Result<Delta, Stop> {
         let count = self.forgets.len().min(MOST_FORGOTTEN);
         let (forgets, _) = self.forgets.as_slice().split_at(count);
-        let items = self.stores.as_slice();
-        match delta_of(alloc, self.below, next, items, forgets) {
+        let stores = self.stores.as_slice();
+        let (items, _) = stores.split_at(count_below(reach, stores));
+        match delta_of(alloc, self.below, reach, items, forgets) {
             Ok(delta) => Ok(delta),
             Err(fault) => Err(stop_of(fault)),
         }
     }
 
-    /// All that waited is written.
-    fn note_written(&mut self, now: u64, next: u64) {
+    /// What waited is written, with the readings below a number.
+    fn note_written(&mut self, now: u64, reach: u64) {
         cut_front(&mut self.forgets, MOST_FORGOTTEN);
-        self.stores.truncate(0);
-        self.below = next;
+        self.stores.retain(|item| item.number >= reach);
+        self.below = reach;
         self.waits = 0;
         self.late = now.saturating_add(LATE);
     }
@@ -349,8 +377,9 @@ impl Spool {
         Ok(())
     }
 
-    /// Writes all that waits, and syncs it, if the time has come: `next` is the number of the next
-    /// reading. After a failure the spool takes no readings until a later try goes well.
+    /// Writes what waits, as much as a delta takes, and syncs it, if the time has come: `next` is
+    /// the number of the next reading. After a failure the spool takes no readings until a later
+    /// try goes well.
     pub(crate) fn write<R: Files<File = File>>(
         &mut self,
         rt: &R,
@@ -364,14 +393,15 @@ impl Spool {
         if let Err(fault) = self.make_ready(rt, alloc, now) {
             return Ok(self.fails(now, fault));
         }
-        let delta = self.delta(alloc, next)?;
+        let reach = self.reach(next);
+        let delta = self.delta(alloc, reach)?;
         let answer = self.node.take(alloc, &delta);
         drop(delta);
         match answer {
             Ok(answer) => {
                 drop(answer);
-                self.note_written(now, next);
-                Ok(Kept::Below { number: next })
+                self.note_written(now, reach);
+                Ok(Kept::Below { number: reach })
             }
             Err(NodeFault::Memory) => Err(Stop::Memory),
             Err(fault) => {
