@@ -32,12 +32,13 @@ ack_of number = ops.Ack (client_of (queue_of number)) SPOOL (seq_of number) (seq
 abbrev pub is_among : ℕ → List Item → Bool
 is_among number items = list_any (λ item. item.number == number) items
 
--- so many numbers from one on, without those of these readings
+-- a number, if it is of none of these; and so many numbers from one on, without those of these
+abbrev pub other : ℕ → List Item → List ℕ
+other number items = if is_among number items then [] else number ∷ []
+
 abbrev pub others_from : ℕ → ℕ → List Item → List ℕ
 others_from from zero items = []
-others_from from (suc count) items =
-    if is_among from items then others_from (from + 1) count items
-    else from ∷ others_from (from + 1) count items
+others_from from (suc count) items = other from items ++ others_from (from + 1) count items
 
 -- What is written of the readings from a number on, below another one: these as messages; and
 -- acknowledgements of the numbers that the spool need not keep, and of all others, which it never

@@ -1,7 +1,7 @@
 //! The readings of deltas.
 
-ghost use Rattle.std.specs.Prelude.{◌≡◌, ◌++◌, fold, Some, IfOk, OnOk};
-ghost use Rattle.std.specs.List.{filter_map};
+ghost use Rattle.std.specs.Prelude.{◌≡◌, ◌++◌, Some, IfOk, OnOk};
+ghost use Rattle.std.specs.List.{flat_map};
 ghost use Rattle.std.specs.List.Sorted.{IsPermutation, IsSortedBy};
 ghost use Rattle.std.specs.Ordering.{is_lt, nat_cmp};
 ghost use Rattle.br_spool.specs.Finding as spec;
@@ -82,14 +82,25 @@ fn item_in(alloc: Global, op: &Op) -> Result<Option<Item>, NoMemory>
     }
 }
 
+/// Appends the reading of an operation, if it is one.
+fn read_op(alloc: Global, op: &Op, items: &mut Vec<Item>) -> Result<(), NoMemory>
+    ensures { OnOk result (items.new.items ≡ items.old.items ++ spec.read op.now) }
+{
+    match item_in(alloc, op)? {
+        None => Ok(()),
+        Some(item) => {
+            items.push(item)?;
+            Ok(())
+        }
+    }
+}
+
 /// Appends the readings of operations.
 fn read_into(alloc: Global, ops: &[Op], items: &mut Vec<Item>) -> Result<(), NoMemory>
-    ensures { OnOk result (items.new.items ≡ items.old.items ++ filter_map spec.item_of ops.now) }
+    ensures { OnOk result (items.new.items ≡ items.old.items ++ flat_map spec.read ops.now) }
 {
     for op in ops {
-        if let Some(item) = item_in(alloc, op)? {
-            items.push(item)?;
-        }
+        read_op(alloc, op, items)?;
     }
     Ok(())
 }
@@ -106,7 +117,7 @@ fn above(next: u64, op: &Op) -> u64
 
 /// A number above all that operations speak of, and above another one.
 fn above_all(next: u64, ops: &[Op]) -> u64
-    ensures { result ≡ fold spec.above next ops.now }
+    ensures { result ≡ spec.above_all next ops.now }
 {
     let mut top = next;
     for op in ops {

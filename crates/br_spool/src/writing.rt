@@ -92,6 +92,23 @@ fn is_among(number: u64, items: &[Item]) -> bool
     items.iter().any(|item| item.number == number)
 }
 
+/// Appends the acknowledgement of a number, unless it is that of a reading.
+fn ack_other(
+    alloc: Global,
+    number: u64,
+    items: &[Item],
+    ops: &mut Vec<Op>,
+) -> Result<(), SpoolFault>
+    ensures { OnOk result (ops.new.items ≡ ops.old.items
+        ++ map spec.ack_of (spec.other number items.now)) }
+{
+    if is_among(number, items) {
+        return Ok(());
+    }
+    ops.push(ack_of(alloc, number)?)?;
+    Ok(())
+}
+
 /// Appends acknowledgements of all numbers from one on, below another one, but those of readings.
 fn ack_others(
     alloc: Global,
@@ -104,9 +121,7 @@ fn ack_others(
         ++ map spec.ack_of (spec.others_from from (below - from) items.now)) }
 {
     for number in from..below {
-        if !is_among(number, items) {
-            ops.push(ack_of(alloc, number)?)?;
-        }
+        ack_other(alloc, number, items, ops)?;
     }
     Ok(())
 }
