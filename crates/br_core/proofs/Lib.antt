@@ -6,6 +6,7 @@ pub mod Running
 pub mod Keeps
 pub mod Order
 pub mod Taking
+pub mod Queues
 pub mod Sending
 pub mod Worked
 pub mod Places

@@ -1,5 +1,5 @@
 -- the first command, a message that came before, and whether the first reading goes
-use Rattle.std.specs.Prelude.{ℕ, Bool, false, if◌then◌else◌, List, [], ◌∷◌, drop, Option, Some, None}
+use Rattle.std.specs.Prelude.{ℕ, Bool, false, if◌then◌else◌, List, [], ◌∷◌, drop, slice_get, Option, Some, None}
 use Rattle.br_core.specs.declared.item.Command.{Command}
 use Rattle.br_core.specs.declared.item.Flight.{Flight}
 use Rattle.br_core.specs.declared.item.Item.{Item}
@@ -23,7 +23,10 @@ abbrev pub same_open : Option Open → ℕ → ℕ → List ℕ → Option Open
 same_open None name msg_id body = None
 same_open (Some held) name msg_id body = if is_same name msg_id body held then Some held else None
 
--- whether the first reading that waits is sent now
+-- whether a reading, if there is one, is sent now; and the first of those that wait
+abbrev pub goes_if : Option Item → Settings → List Flight → Bool
+goes_if None settings flight = false
+goes_if (Some item) settings flight = has_window settings item.qos flight
+
 abbrev pub first_goes : Settings → List Item → List Flight → Bool
-first_goes settings [] flight = false
-first_goes settings (item ∷ more) flight = has_window settings item.qos flight
+first_goes settings waiting flight = goes_if (slice_get waiting 0) settings flight
