@@ -1,5 +1,7 @@
--- A walk in which every reading is good, every lane's, and came: its reasons are always there.
+-- A walk in which every reading is good, every lane's, and came, and every command came: its reasons
+-- are always there.
 use Rattle.std.proofs.Common.{ℕ, List, [], ◌∷◌, Option, Some, None}
+use Rattle.std.specs.List.{AllByRecursion}
 use Rattle.br_core.specs.declared.item.Command.{Command}
 use Rattle.br_core.specs.declared.item.Item.{Item}
 use Rattle.br_core.specs.declared.settings.LaneSettings.{LaneSettings}
@@ -25,6 +27,13 @@ Its place number msg_id = Unit {0}
 
 abbrev pub Any : Item → Type 0
 Any item = Unit {0}
+
+abbrev pub Each : Command → Type 0
+Each command = Unit {0}
+
+pub each-any : (queue : List Command) → AllByRecursion Each queue
+each-any [] = tt
+each-any (first ∷ more) = (tt, each-any more)
 
 pub last-any : (place : ℕ) (last : Option Open) → LastJust Yes Its place last
 last-any place None = tt
@@ -57,15 +66,15 @@ pub frame-may : (frame : Frame) (b : Bridge) → FrameMay Yes frame b
 frame-may (frames.PubAck topic_id msg_id code) b = λ doing asked accepted. first-any b.down.queue
 frame-may frame b = tt
 
-pub packet-any : (packet : Packet) (b : Bridge) → PacketDone Yes Yes packet b
-packet-any (packets.PubAck id) b = item-any (acknowledged id b.flight)
-packet-any (packets.Publish delivery retain topic body) b = λ kept wanted. tt
-packet-any packet b = tt
+pub packet-any : (settings : Settings) (packet : Packet) (b : Bridge) → PacketDone Yes Yes Each settings packet b
+packet-any settings (packets.PubAck id) b = item-any (acknowledged id b.flight)
+packet-any settings (packets.Publish delivery retain topic body) b = (λ kept wanted. tt, tt)
+packet-any settings packet b = tt
 
-pub reasons-any : (settings : Settings) (event : Event) (b : Bridge) → Reasons Yes Yes Its Yes Any settings event b
+pub reasons-any : (settings : Settings) (event : Event) (b : Bridge) → Reasons Yes Yes Its Yes Any Each settings event b
 reasons-any settings (events.Field place frame) b = frame-any settings place frame b
 reasons-any settings (events.Commands frame) b = frame-may frame b
-reasons-any settings (events.Broker packet) b = packet-any packet b
+reasons-any settings (events.Broker packet) b = packet-any settings packet b
 reasons-any settings (events.Kept line) b = λ doing. first-any b.down.queue
 reasons-any settings (events.Found item) b = tt
 reasons-any settings (events.Stored below) b = λ may number under. tt

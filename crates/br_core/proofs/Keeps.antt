@@ -14,7 +14,7 @@ use Rattle.br_core.specs.Begins.{begun, moment_of}
 use Rattle.br_core.specs.Runs.{Come, Flies, Handed, IsIn, IsOne, Waits, after, stepped}
 use Rattle.br_core.specs.Steps.{emptied}
 use Rattle.br_core.specs.Sides.{acknowledged, left_in_flight}
-use Rattle.br_core.proofs.Anything.{Any, Its, Yes, first-any, frame-any, frame-may, lane-any}
+use Rattle.br_core.proofs.Anything.{Any, Each, Its, Yes, each-any, first-any, frame-any, frame-may, lane-any}
 use Rattle.br_core.proofs.Lists.{no-more, one-more}
 use Rattle.br_core.proofs.Running.{after-one, handed-item, handed-on, standing}
 use Rattle.br_core.proofs.Walk.{Held, IsKept, IsWalked, ItemDone, PacketDone, Reasons, event-walked, sends-kept, taken-kept}
@@ -64,7 +64,7 @@ module _ (number : ℕ) (Done : ℕ → Type 0) where
   StaysIn w f = Done number ⊎ (Waits number w ⊎ Flies number f)
 
   abbrev P : Held
-  P l out w f n = StaysIn w f
+  P l out w f n q = StaysIn w f
 
   queued : (item : Item) (w : List Item) (f : List Flight) → StaysIn w f → StaysIn (w ++ item ∷ []) f
   queued item w f (inl handed) = inl handed
@@ -95,26 +95,30 @@ module _ (number : ℕ) (Done : ℕ → Type 0) where
   leaves id w f handed (inr (inr flies)) =
       elim (left-flies number Done id f handed flies) as (λ _. StaysIn w (left_in_flight id f)) [ inl g ↦ inl g | inr h ↦ inr (inr h) ]
 
-  kept : IsKept Yes Done Its Yes Any P
+  kept : IsKept Any P
   kept = record {
-    queued = λ item l out w f n came h. queued item w f h;
-    goes = λ item l out w f n came h. h;
-    flies = λ id item l out w f n came h. flown (record { id = id; item = item }) w f h;
-    goes_first = λ item more l out f n q h. gone item more f q h;
-    flies_first = λ id item more l out f n h. flown-first id item more f h;
-    counts = λ m l out w f n e h. h;
+    queued = λ item l out w f n q came h. queued item w f h;
+    goes = λ item l out w f n q came h. h;
+    flies = λ id item l out w f n q came h. flown (record { id = id; item = item }) w f h;
+    goes_first = λ item more l out f n q zero_is h. gone item more f zero_is h;
+    flies_first = λ id item more l out f n q h. flown-first id item more f h;
+    counts = λ m l out w f n q e h. h;
   }
 
-  pub walked : IsWalked Yes Done Its Yes Any P
+  pub walked : IsWalked Yes Done Its Yes Any Each P
   walked = record {
-    acts = λ a l out w f n o p h. h;
-    placed = λ place x l out w f n p h. h;
-    there = λ place l out w f n h. lane-any place (slice_get l place);
-    taken = λ settings item b e came h. taken-kept Yes Done Its Yes Any P kept settings item b e came h;
-    counts = λ m l out w f n e h. h;
-    offers = λ settings b h. sends-kept Yes Done Its Yes Any P kept settings b h;
-    repeated = λ l out w f n h. h;
-    left = λ id l out w f n handed h. leaves id w f handed h;
+    acts = λ a l out w f n q o p h. h;
+    placed = λ place x l out w f n q p h. h;
+    there = λ place l out w f n q h. lane-any place (slice_get l place);
+    taken = λ settings item b e came h. taken-kept Any P kept settings item b e came h;
+    counts = λ m l out w f n q e h. h;
+    offers = λ settings b h. sends-kept Any P kept settings b h;
+    repeated = λ l out w f n q h. h;
+    left = λ id l out w f n q handed h. leaves id w f handed h;
+    asks = λ one l out w f n q asked h. h;
+    ends = λ first more l out w f n h. h;
+    clears = λ l out w f n q h. h;
+    owes = λ l out w f n q h. each-any q;
   }
 
   pub lifts : (n : ℕ) → Done n → Yes n
@@ -124,14 +128,14 @@ module _ (number : ℕ) (Done : ℕ → Type 0) where
 
 -- a PUBACK is a reason; all else needs none
 packet-reasons : (settings : Settings) (before : List Come) (moment : ℕ) (packet : Packet)
-    → PacketDone (Handed settings (before ++ (events.Broker packet, moment) ∷ [])) Yes packet (emptied (after settings before))
+    → PacketDone (Handed settings (before ++ (events.Broker packet, moment) ∷ [])) Yes Each settings packet (emptied (after settings before))
 packet-reasons settings before moment (packets.PubAck id) =
     handed-item settings before moment (standing settings before) id (acknowledged id (after settings before).flight) refl
-packet-reasons settings before moment (packets.Publish delivery retain topic body) = λ kept wanted. tt
+packet-reasons settings before moment (packets.Publish delivery retain topic body) = (λ kept wanted. tt, tt)
 packet-reasons settings before moment packet = tt
 
 its-reasons : (settings : Settings) (before : List Come) (moment : ℕ) (event : Event)
-    → Reasons Yes (Handed settings (before ++ (event, moment) ∷ [])) Its Yes Any settings event (emptied (after settings before))
+    → Reasons Yes (Handed settings (before ++ (event, moment) ∷ [])) Its Yes Any Each settings event (emptied (after settings before))
 its-reasons settings before moment (events.Field place frame) = frame-any settings place frame (emptied (after settings before))
 its-reasons settings before moment (events.Commands frame) = frame-may frame (emptied (after settings before))
 its-reasons settings before moment (events.Broker packet) = packet-reasons settings before moment packet
@@ -146,7 +150,7 @@ stays-one settings before event moment number there =
     let run : List Come = before ++ (event, moment) ∷ [] in
     let here : StaysIn number (Handed settings run) (after settings before).waiting (after settings before).flight =
     elim there as (λ _. Handed settings run number ⊎ IsIn number (after settings before)) [ inl handed ↦ inl (handed-on settings before ((event, moment) ∷ []) number handed) | inr h ↦ inr h ] in
-    event-walked Yes (Handed settings run) (lifts number (Handed settings run)) Its Yes Any (P number (Handed settings run)) (walked number (Handed settings run))
+    event-walked Yes (Handed settings run) (lifts number (Handed settings run)) Its Yes Any Each (P number (Handed settings run)) (walked number (Handed settings run))
     settings event (moment_of moment) (emptied (after settings before)) (its-reasons settings before moment event) here
 
 stays-then : (settings : Settings) (before : List Come) (come : Come) (number : ℕ) → Handed settings before number ⊎ IsIn number (after settings before)

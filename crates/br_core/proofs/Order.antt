@@ -17,7 +17,7 @@ use Rattle.br_core.specs.Begins.{begun, moment_of}
 use Rattle.br_core.specs.Runs.{Come, Rises, after, after_from, done, done_from, first_in, firsts, stepped}
 use Rattle.br_core.specs.Sides.{at_once, free_id, has_window, in_flight, kept_at, out_again, sent_along, sent_at, takes_at, waits}
 use Rattle.br_core.specs.Steps.{emptied}
-use Rattle.br_core.proofs.Anything.{Any, Its, Yes, lane-any, reasons-any}
+use Rattle.br_core.proofs.Anything.{Any, Each, Its, Yes, each-any, lane-any, reasons-any}
 use Rattle.br_core.proofs.Lists.{regroup}
 use Rattle.br_core.proofs.Walk.{At, Held, IsOther, IsWalked, event-walked, one-taken, sent-waiting}
 
@@ -88,7 +88,7 @@ abbrev Sorted : ℕ → List Action → List Item → ℕ → Type 0
 Sorted low out w n = (mid : ℕ) × Rises low (firsts out) mid × Rises mid (numbers w) n
 
 abbrev P : ℕ → Held
-P low l out w f n = Sorted low out w n
+P low l out w f n q = Sorted low out w n
 
 -- ---- the first one that waits goes
 
@@ -159,16 +159,20 @@ takes-sorted side low settings item b e h = kept-sorted low item.qos item b e h
 
 -- ---- the walk, in which every reason is good
 
-sorted-walked : (low : ℕ) → IsWalked Yes Yes Its Yes Any (P low)
+sorted-walked : (low : ℕ) → IsWalked Yes Yes Its Yes Any Each (P low)
 sorted-walked low = record {
-  acts = λ a l out w f n o p h. (h.0, subst (λ (xs : List ℕ). Rises low xs h.0) (sym (firsts-other out a o)) h.1, h.2);
-  placed = λ place x l out w f n p h. h;
-  there = λ place l out w f n h. lane-any place (slice_get l place);
+  acts = λ a l out w f n q o p h. (h.0, subst (λ (xs : List ℕ). Rises low xs h.0) (sym (firsts-other out a o)) h.1, h.2);
+  placed = λ place x l out w f n q p h. h;
+  there = λ place l out w f n q h. lane-any place (slice_get l place);
   taken = λ settings item b e came h. takes-sorted b.side low settings item b e h;
-  counts = λ m l out w f n e h. (h.0, h.1, rises-wide h.0 (numbers w) n m e h.2);
+  counts = λ m l out w f n q e h. (h.0, h.1, rises-wide h.0 (numbers w) n m e h.2);
   offers = λ settings b h. along-sorted low settings b.waiting b refl h;
-  repeated = λ l out w f n h. (h.0, subst (λ (xs : List ℕ). Rises low xs h.0) (sym (again-none f out)) h.1, h.2);
-  left = λ id l out w f n handed h. h;
+  repeated = λ l out w f n q h. (h.0, subst (λ (xs : List ℕ). Rises low xs h.0) (sym (again-none f out)) h.1, h.2);
+  left = λ id l out w f n q handed h. h;
+  asks = λ one l out w f n q asked h. h;
+  ends = λ first more l out w f n h. h;
+  clears = λ l out w f n q h. h;
+  owes = λ l out w f n q h. each-any q;
 }
 
 lifts : (n : ℕ) → Yes n → Yes n
@@ -179,7 +183,7 @@ lifts n h = h
 order-one : (settings : Settings) (come : Come) (b : Bridge) (low : ℕ) → Rises low (numbers b.waiting) b.number → At (P low) (stepped settings b come)
 order-one settings come b low h =
     let same : low ≤ low = omega arith in
-    event-walked Yes Yes lifts Its Yes Any (P low) (sorted-walked low) settings come.0 (moment_of come.1) (emptied b) (reasons-any settings come.0 (emptied b)) (low, same, h)
+    event-walked Yes Yes lifts Its Yes Any Each (P low) (sorted-walked low) settings come.0 (moment_of come.1) (emptied b) (reasons-any settings come.0 (emptied b)) (low, same, h)
 
 order-from : (settings : Settings) (run : List Come) (b : Bridge) (low : ℕ) → Rises low (numbers b.waiting) b.number
     → Rises low (firsts (done_from settings b run)) (after_from settings b run).number

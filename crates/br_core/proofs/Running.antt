@@ -22,7 +22,7 @@ use Rattle.br_core.specs.declared.state.Doing.TheVariants as doings
 use Rattle.br_core.specs.declared.state.Lane.{Lane}
 use Rattle.br_core.specs.declared.state.Open.{Open}
 use Rattle.br_core.specs.Begins.{begun, moment_of, new_lane}
-use Rattle.br_core.specs.Runs.{Answered, AreAllowed, Brought, Came, CameOver, Come, Handed, IsSent, MayTell, Spooled, WasFound, after, after_from, done, done_from, stepped}
+use Rattle.br_core.specs.Runs.{Answered, AreAllowed, Brought, Came, CameDown, CameOver, Come, Handed, IsSent, MayTell, Spooled, WasFound, after, after_from, done, done_from, stepped}
 use Rattle.br_core.specs.Sides.{acknowledged}
 use Rattle.br_core.specs.Steps.{emptied, id_in}
 use Rattle.br_core.proofs.Just.{Flown, Stand, event-just, sent-more}
@@ -125,6 +125,19 @@ came-on : (settings : Settings) (run more : List Come) (item : Item) → Came se
 came-on settings run more item (inl h) = inl (over-on settings run more item h)
 came-on settings run more item (inr h) = inr (found-on run more item h)
 
+down-on : (settings : Settings) (run more : List Come) (command : Command) → CameDown settings run command → CameDown settings (run ++ more) command
+down-on settings run more command h =
+    record {
+      earlier = h.earlier;
+      later = h.later ++ more;
+      delivery = h.delivery;
+      retain = h.retain;
+      moment = h.moment;
+      comes = later-on run h.earlier (events.Broker (packets.Publish h.delivery h.retain command.from command.body), h.moment) h.later more h.comes;
+      has_id = h.has_id;
+      goes_to = h.goes_to;
+    }
+
 last-on : (settings : Settings) (run more : List Come) (place : ℕ) (last : Option Open)
     → LastJust (Answered settings run) (Brought settings run) place last
     → LastJust (Answered settings (run ++ more)) (Brought settings (run ++ more)) place last
@@ -135,11 +148,11 @@ last-on settings run more place (Some held) h =
 -- ---- what stands after a run
 
 -- What lanes have open came over them, and is answered only if the broker or the spool has it. What
--- waits and what is in flight came, and what is in flight was sent.
+-- waits and what is in flight came, and what is in flight was sent. Commands came.
 abbrev pub Standing : Settings → List Come → Type 0
 Standing settings run =
-    Stand (Answered settings run) (Brought settings run) (Came settings run) (done settings run)
-    (after settings run).lanes (after settings run).waiting (after settings run).flight
+    Stand (Answered settings run) (Brought settings run) (Came settings run) (CameDown settings run) (done settings run)
+    (after settings run).lanes (after settings run).waiting (after settings run).flight (after settings run).down.queue
 
 -- what an acknowledgement takes out of flight came, and was sent under the id
 taken-by : (Came : Item → Type 0) (out : List Action) (id : ℕ) (one : Flight) (more : List Flight) (item : Item) (c : Bool) → (one.id == id) ≡ c → Flown Came out one
@@ -211,10 +224,10 @@ module _ (settings : Settings) (before : List Come) (moment : ℕ) (stand : Stan
   field-reasons place frame = (field-own place frame, field-came place frame)
 
   accepted-first : (topic_id msg_id code : ℕ) (queue : List Command)
-      → here.down.doing ≡ doings.Publishing → msg_id ≡ here.down.msg_id → code ≡ 0 → here.down.queue ≡ queue
+      → here.down.doing ≡ doings.Publishing → msg_id ≡ here.down.msg_id → code ≡ 0 → here.down.queue ≡ queue → AllByRecursion (CameDown settings before) queue
       → FirstMay (MayTell settings (grown (events.Commands (frames.PubAck topic_id msg_id code)))) queue
-  accepted-first topic_id msg_id code [] doing asked accepted e = tt
-  accepted-first topic_id msg_id code (command ∷ more) doing asked accepted e = λ wanted.
+  accepted-first topic_id msg_id code [] doing asked accepted e all = tt
+  accepted-first topic_id msg_id code (command ∷ more) doing asked accepted e all = λ wanted.
       inl (record {
         earlier = before;
         topic_id = topic_id;
@@ -223,13 +236,13 @@ module _ (settings : Settings) (before : List Come) (moment : ℕ) (stand : Stan
         comes = ap (λ n. before ++ (events.Commands (frames.PubAck topic_id msg_id n), moment) ∷ []) accepted;
         doing = doing;
         asked = asked;
-        first = (command, more, e, refl);
+        first = (command, more, e, refl, all.0);
       })
 
   command-reasons : (frame : Frame)
       → FrameMay (MayTell settings (grown (events.Commands frame))) frame here
   command-reasons (frames.PubAck topic_id msg_id code) = λ doing asked accepted.
-      accepted-first topic_id msg_id code here.down.queue doing asked accepted refl
+      accepted-first topic_id msg_id code here.down.queue doing asked accepted refl stand.3
   command-reasons frame = tt
 
   pub handed-item : (id : ℕ) (item : Option Item) → acknowledged id here.flight ≡ item → ItemDone (Handed settings (grown (events.Broker (packets.PubAck id)))) item
@@ -263,22 +276,32 @@ module _ (settings : Settings) (before : List Come) (moment : ℕ) (stand : Stan
       }))
 
   broker-reasons : (packet : Packet)
-      → PacketDone (Handed settings (grown (events.Broker packet))) (MayTell settings (grown (events.Broker packet))) packet here
+      → PacketDone (Handed settings (grown (events.Broker packet))) (MayTell settings (grown (events.Broker packet))) (CameDown settings (grown (events.Broker packet))) settings packet here
   broker-reasons (packets.PubAck id) = handed-item id (acknowledged id here.flight) refl
-  broker-reasons (packets.Publish delivery retain topic body) = λ e. old-publication delivery retain topic body e
+  broker-reasons (packets.Publish delivery retain topic body) =
+      (λ e. old-publication delivery retain topic body e, record {
+        earlier = before;
+        later = [];
+        delivery = delivery;
+        retain = retain;
+        moment = moment;
+        comes = refl;
+        has_id = refl;
+        goes_to = refl;
+      })
   broker-reasons packet = tt
 
-  line-first : (line : ℕ) (queue : List Command) → here.down.doing ≡ doings.Refusing line → here.down.queue ≡ queue
+  line-first : (line : ℕ) (queue : List Command) → here.down.doing ≡ doings.Refusing line → here.down.queue ≡ queue → AllByRecursion (CameDown settings before) queue
       → FirstMay (MayTell settings (grown (events.Kept line))) queue
-  line-first line [] doing e = tt
-  line-first line (command ∷ more) doing e = λ wanted.
+  line-first line [] doing e all = tt
+  line-first line (command ∷ more) doing e all = λ wanted.
       inr (inl (record {
         earlier = before;
         line = line;
         moment = moment;
         comes = refl;
         doing = doing;
-        first = (command, more, e, refl);
+        first = (command, more, e, refl, all.0);
       }))
 
   found-came : (item : Item) → Came settings (grown (events.Found item)) item
@@ -299,11 +322,11 @@ module _ (settings : Settings) (before : List Come) (moment : ℕ) (stand : Stan
       })
 
   pub reasons : (event : Event)
-      → Reasons (Answered settings (grown event)) (Handed settings (grown event)) (Brought settings (grown event)) (MayTell settings (grown event)) (Came settings (grown event)) settings event here
+      → Reasons (Answered settings (grown event)) (Handed settings (grown event)) (Brought settings (grown event)) (MayTell settings (grown event)) (Came settings (grown event)) (CameDown settings (grown event)) settings event here
   reasons (events.Field place frame) = field-reasons place frame
   reasons (events.Commands frame) = command-reasons frame
   reasons (events.Broker packet) = broker-reasons packet
-  reasons (events.Kept line) = λ doing. line-first line here.down.queue doing refl
+  reasons (events.Kept line) = λ doing. line-first line here.down.queue doing refl stand.3
   reasons (events.Found item) = found-came item
   reasons (events.Stored below) = spool-has below
   reasons event = tt
@@ -315,8 +338,8 @@ handed-answers settings run number h = inl h
 
 -- what stands before a step, in the words of the run that it ends
 lifted : (settings : Settings) (before : List Come) (come : Come) → Standing settings before
-    → Stand (Answered settings (before ++ come ∷ [])) (Brought settings (before ++ come ∷ [])) (Came settings (before ++ come ∷ [])) (done settings before ++ [])
-    (after settings before).lanes (after settings before).waiting (after settings before).flight
+    → Stand (Answered settings (before ++ come ∷ [])) (Brought settings (before ++ come ∷ [])) (Came settings (before ++ come ∷ [])) (CameDown settings (before ++ come ∷ [])) (done settings before ++ [])
+    (after settings before).lanes (after settings before).waiting (after settings before).flight (after settings before).down.queue
 lifted settings before come h =
     let run : List Come = before ++ come ∷ [] in
     let out : List Action = done settings before in
@@ -326,21 +349,22 @@ lifted settings before come h =
           (after settings before).lanes (λ place x p. last-on settings before (come ∷ []) place x.last p) h.0,
       all-map (Came settings before) (Came settings run) (after settings before).waiting (came-on settings before (come ∷ [])) h.1,
       all-map (Flown (Came settings before) out) (Flown (Came settings run) (out ++ [])) (after settings before).flight flown h.2,
+      all-map (CameDown settings before) (CameDown settings run) (after settings before).down.queue (down-on settings before (come ∷ [])) h.3,
     )
 
 -- what stands after a step, and that all that is to be done is just
 abbrev Stepped : Settings → List Come → Event → ℕ → Type 0
 Stepped settings before event moment =
     Stand (Answered settings (before ++ (event, moment) ∷ [])) (Brought settings (before ++ (event, moment) ∷ [])) (Came settings (before ++ (event, moment) ∷ []))
-    (done settings before ++ (stepped settings (after settings before) (event, moment)).out)
+    (CameDown settings (before ++ (event, moment) ∷ [])) (done settings before ++ (stepped settings (after settings before) (event, moment)).out)
     (stepped settings (after settings before) (event, moment)).lanes (stepped settings (after settings before) (event, moment)).waiting
-    (stepped settings (after settings before) (event, moment)).flight
+    (stepped settings (after settings before) (event, moment)).flight (stepped settings (after settings before) (event, moment)).down.queue
     × AreAllowed settings (before ++ (event, moment) ∷ []) (stepped settings (after settings before) (event, moment)).out
 
 step-just : (settings : Settings) (before : List Come) (event : Event) (moment : ℕ) → Standing settings before → Stepped settings before event moment
 step-just settings before event moment h =
     let run : List Come = before ++ (event, moment) ∷ [] in
-    event-just (Answered settings run) (Handed settings run) (handed-answers settings run) (Brought settings run) (MayTell settings run) (Came settings run) (done settings before)
+    event-just (Answered settings run) (Handed settings run) (handed-answers settings run) (Brought settings run) (MayTell settings run) (Came settings run) (CameDown settings run) (done settings before)
     settings event (moment_of moment) (emptied (after settings before)) (reasons settings before moment h event) (lifted settings before (event, moment) h, tt)
 
 standing-one : (settings : Settings) (before : List Come) (come : Come) → Standing settings before → Standing settings (before ++ come ∷ [])
@@ -349,8 +373,8 @@ standing-one settings before come h =
     let next : Bridge = stepped settings (after settings before) come in
     let after_it : after settings run ≡ next = after-one settings (begun settings) before come in
     let done_it : done settings run ≡ done settings before ++ next.out = done-one settings (begun settings) before come in
-    let P : Bridge → Type 0 = λ b. Stand (Answered settings run) (Brought settings run) (Came settings run) (done settings run) b.lanes b.waiting b.flight in
-    let Q : List Action → Type 0 = λ out. Stand (Answered settings run) (Brought settings run) (Came settings run) out next.lanes next.waiting next.flight in
+    let P : Bridge → Type 0 = λ b. Stand (Answered settings run) (Brought settings run) (Came settings run) (CameDown settings run) (done settings run) b.lanes b.waiting b.flight b.down.queue in
+    let Q : List Action → Type 0 = λ out. Stand (Answered settings run) (Brought settings run) (Came settings run) (CameDown settings run) out next.lanes next.waiting next.flight next.down.queue in
     subst P (sym after_it) (subst Q (sym done_it) (step-just settings before come.0 come.1 h).0)
 
 standing-on : (settings : Settings) (before more : List Come) → Standing settings before → Standing settings (before ++ more)
@@ -364,7 +388,7 @@ new-places F [] k = tt
 new-places F (x ∷ xs) k = (k 0, new-places (λ n. F (suc n)) xs (λ n. k (suc n)))
 
 pub standing : (settings : Settings) (run : List Come) → Standing settings run
-standing settings run = standing-on settings [] run (new-places (LaneJust (Answered settings []) (Brought settings [])) settings.lanes (λ n. tt), tt, tt)
+standing settings run = standing-on settings [] run (new-places (LaneJust (Answered settings []) (Brought settings [])) settings.lanes (λ n. tt), tt, tt, tt)
 
 pub allowed : (settings : Settings) (before : List Come) (event : Event) (moment : ℕ)
     → AreAllowed settings (before ++ (event, moment) ∷ []) (stepped settings (after settings before) (event, moment)).out

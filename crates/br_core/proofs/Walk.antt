@@ -1,10 +1,13 @@
--- What holds of lanes, of what is to be done, of what waits and of what is in flight, and is kept by
--- each small change, holds after each step; whatever makes a reading good, done, a lane's own or one
--- that came, and a publication one of which the broker may be told, if the event gives reasons.
+-- What holds of lanes, of what is to be done, of what waits, of what is in flight and of commands,
+-- and is kept by each small change, holds after each step; whatever makes a reading good, done, a
+-- lane's own or one that came, a publication one of which the broker may be told, and a command one
+-- that came, if the event gives reasons.
 use Rattle.std.proofs.Common.{◌≡◌, ◌==◌, ◌+◌, ◌≤◌, ℕ, zero, suc, Bool, true, false, ◌&&◌, not, if◌then◌else◌, List, [], ◌∷◌, ◌++◌, length, fold, Option, Some, None, refl, sym, ap, subst, arith, eqb-true, leb-true}
 use Rattle.std.specs.Prelude.{nat_lt, nat_le, slice_get, slice_set}
+use Rattle.std.specs.List.{AllByRecursion}
 use Rattle.std.specs.Str.{bytes_eq}
 use Rattle.std.proofs.lemmas.Bool.{and_parts}
+use Rattle.mq_packet.specs.declared.packet.Delivery.{Delivery}
 use Rattle.mq_packet.specs.declared.packet.Delivery.TheVariants as deliveries
 use Rattle.mq_packet.specs.declared.packet.Packet.{Packet}
 use Rattle.mq_packet.specs.declared.packet.Packet.TheVariants as packets
@@ -47,7 +50,7 @@ use Rattle.br_core.specs.Sides.{acknowledged, all_again, at_once, does, free_id,
 use Rattle.br_core.specs.Lanes as lane
 use Rattle.br_core.specs.Commands as command
 use Rattle.br_core.specs.Steps as whole
-use Rattle.br_core.specs.Runs.{IsFrame, IsJust}
+use Rattle.br_core.specs.Runs.{IsCommand, IsFrame, IsJust, field_topic, topic_by}
 
 -- ---- lanes in their places
 
@@ -143,32 +146,45 @@ FrameMay May (frames.PubAck topic_id msg_id code) b =
     b.down.doing ≡ doings.Publishing → msg_id ≡ b.down.msg_id → code ≡ 0 → FirstMay May b.down.queue
 FrameMay May frame b = Unit {0}
 
--- a PUBACK makes the reading in flight done; what the broker had kept may be told at once
-abbrev pub PacketDone : (ℕ → Type 0) → (ℕ → Type 0) → Packet → Bridge → Type 0
-PacketDone Done May (packets.PubAck id) b = ItemDone Done (acknowledged id b.flight)
-PacketDone Done May (packets.Publish delivery retain topic body) b = retain ≡ true → Tells May (whole.id_in delivery)
-PacketDone Done May packet b = Unit {0}
+-- the first command, if there is one, came
+abbrev pub FirstAsked : (Command → Type 0) → List Command → Type 0
+FirstAsked Asked [] = Unit {0}
+FirstAsked Asked (first ∷ more) = Asked first
+
+-- the command that a publication is
+abbrev pub command-in : Settings → Delivery → List ℕ → List ℕ → Command
+command-in settings delivery topic body =
+    record { id = whole.id_in delivery; from = topic; topic = field_topic settings topic; body = body }
+
+-- a PUBACK makes the reading in flight done; what the broker had kept may be told at once; what it
+-- publishes came
+abbrev pub PacketDone : (ℕ → Type 0) → (ℕ → Type 0) → (Command → Type 0) → Settings → Packet → Bridge → Type 0
+PacketDone Done May Asked settings (packets.PubAck id) b = ItemDone Done (acknowledged id b.flight)
+PacketDone Done May Asked settings (packets.Publish delivery retain topic body) b =
+    (retain ≡ true → Tells May (whole.id_in delivery)) × Asked (command-in settings delivery topic body)
+PacketDone Done May Asked settings packet b = Unit {0}
 
 -- what the spool has is good
 abbrev pub AreGood : (ℕ → Type 0) → Settings → ℕ → Bridge → Type 0
 AreGood Good settings below b = whole.may_keep settings below b ≡ true → (number : ℕ) → nat_lt number below ≡ true → Good number
 
 -- what an event gives as reasons
-abbrev pub Reasons : (ℕ → Type 0) → (ℕ → Type 0) → (ℕ → ℕ → ℕ → Type 0) → (ℕ → Type 0) → (Item → Type 0) → Settings → Event → Bridge → Type 0
-Reasons Good Done Own May Came settings (events.Field place frame) b = FrameIn Own Came settings place frame b
-Reasons Good Done Own May Came settings (events.Commands frame) b = FrameMay May frame b
-Reasons Good Done Own May Came settings (events.Broker packet) b = PacketDone Done May packet b
-Reasons Good Done Own May Came settings (events.Kept line) b = b.down.doing ≡ doings.Refusing line → FirstMay May b.down.queue
-Reasons Good Done Own May Came settings (events.Found item) b = Came item
-Reasons Good Done Own May Came settings (events.Stored below) b = AreGood Good settings below b
-Reasons Good Done Own May Came settings event b = Unit {0}
+abbrev pub Reasons : (ℕ → Type 0) → (ℕ → Type 0) → (ℕ → ℕ → ℕ → Type 0) → (ℕ → Type 0) → (Item → Type 0) → (Command → Type 0) → Settings → Event → Bridge → Type 0
+Reasons Good Done Own May Came Asked settings (events.Field place frame) b = FrameIn Own Came settings place frame b
+Reasons Good Done Own May Came Asked settings (events.Commands frame) b = FrameMay May frame b
+Reasons Good Done Own May Came Asked settings (events.Broker packet) b = PacketDone Done May Asked settings packet b
+Reasons Good Done Own May Came Asked settings (events.Kept line) b = b.down.doing ≡ doings.Refusing line → FirstMay May b.down.queue
+Reasons Good Done Own May Came Asked settings (events.Found item) b = Came item
+Reasons Good Done Own May Came Asked settings (events.Stored below) b = AreGood Good settings below b
+Reasons Good Done Own May Came Asked settings event b = Unit {0}
 
--- what holds of lanes, actions, readings that wait, readings in flight, and the number of the next one
+-- what holds of lanes, actions, readings that wait, readings in flight, the number of the next one,
+-- and commands
 abbrev pub Held : Type 1
-Held = List Lane → List Action → List Item → List Flight → ℕ → Type 0
+Held = List Lane → List Action → List Item → List Flight → ℕ → List Command → Type 0
 
 abbrev pub At : Held → Bridge → Type 0
-At P b = P b.lanes b.out b.waiting b.flight b.number
+At P b = P b.lanes b.out b.waiting b.flight b.number b.down.queue
 
 -- a reading has come, which takes its number
 abbrev pub one-taken : Item → Bridge → Bridge
@@ -187,29 +203,37 @@ IsOther (actions.Reading number packet) = ⊥
 IsOther action = Unit {0}
 
 -- It is kept if a reading that came waits or goes out, and if the first one that waits goes out.
-pub record IsKept (Good : ℕ → Type 0) (Done : ℕ → Type 0) (Own : ℕ → ℕ → ℕ → Type 0) (May : ℕ → Type 0) (Came : Item → Type 0) (P : Held) : Type 0 where
-  pub queued : (item : Item) (l : List Lane) (out : List Action) (w : List Item) (f : List Flight) (n : ℕ) → Came item → P l out w f n → P l out (w ++ item ∷ []) f n
-  pub goes : (item : Item) (l : List Lane) (out : List Action) (w : List Item) (f : List Flight) (n : ℕ) → Came item → P l out w f n → P l (out ++ goes-out item ∷ []) w f n
-  pub flies : (id : ℕ) (item : Item) (l : List Lane) (out : List Action) (w : List Item) (f : List Flight) (n : ℕ) → Came item → P l out w f n
-      → P l (out ++ flies-out id item ∷ []) w (f ++ record { id = id; item = item } ∷ []) n
-  pub goes_first : (item : Item) (more : List Item) (l : List Lane) (out : List Action) (f : List Flight) (n : ℕ) → item.qos ≡ levels.Zero → P l out (item ∷ more) f n
-      → P l (out ++ goes-out item ∷ []) more f n
-  pub flies_first : (id : ℕ) (item : Item) (more : List Item) (l : List Lane) (out : List Action) (f : List Flight) (n : ℕ) → P l out (item ∷ more) f n
-      → P l (out ++ flies-out id item ∷ []) more (f ++ record { id = id; item = item } ∷ []) n
-  pub counts : (m : ℕ) (l : List Lane) (out : List Action) (w : List Item) (f : List Flight) (n : ℕ) → n ≤ m → P l out w f n → P l out w f m
+pub record IsKept (Came : Item → Type 0) (P : Held) : Type 0 where
+  pub queued : (item : Item) (l : List Lane) (out : List Action) (w : List Item) (f : List Flight) (n : ℕ) (q : List Command) → Came item → P l out w f n q → P l out (w ++ item ∷ []) f n q
+  pub goes : (item : Item) (l : List Lane) (out : List Action) (w : List Item) (f : List Flight) (n : ℕ) (q : List Command) → Came item → P l out w f n q → P l (out ++ goes-out item ∷ []) w f n q
+  pub flies : (id : ℕ) (item : Item) (l : List Lane) (out : List Action) (w : List Item) (f : List Flight) (n : ℕ) (q : List Command) → Came item → P l out w f n q
+      → P l (out ++ flies-out id item ∷ []) w (f ++ record { id = id; item = item } ∷ []) n q
+  pub goes_first : (item : Item) (more : List Item) (l : List Lane) (out : List Action) (f : List Flight) (n : ℕ) (q : List Command) → item.qos ≡ levels.Zero → P l out (item ∷ more) f n q
+      → P l (out ++ goes-out item ∷ []) more f n q
+  pub flies_first : (id : ℕ) (item : Item) (more : List Item) (l : List Lane) (out : List Action) (f : List Flight) (n : ℕ) (q : List Command) → P l out (item ∷ more) f n q
+      → P l (out ++ flies-out id item ∷ []) more (f ++ record { id = id; item = item } ∷ []) n q
+  pub counts : (m : ℕ) (l : List Lane) (out : List Action) (w : List Item) (f : List Flight) (n : ℕ) (q : List Command) → n ≤ m → P l out w f n q → P l out w f m q
 
 -- And of whole bridges: if something else than a first sending is to be done, if a lane changes, if
 -- a reading that came is taken, if numbers are passed over, if what waits is sent, if what is in
--- flight goes out again, and if what is done leaves it; and it says what lanes are.
-pub record IsWalked (Good : ℕ → Type 0) (Done : ℕ → Type 0) (Own : ℕ → ℕ → ℕ → Type 0) (May : ℕ → Type 0) (Came : Item → Type 0) (P : Held) : Type 0 where
-  pub acts : (a : Action) (l : List Lane) (out : List Action) (w : List Item) (f : List Flight) (n : ℕ) → IsOther a → IsJust Good Done Own May Came a → P l out w f n → P l (out ++ a ∷ []) w f n
-  pub placed : (place : ℕ) (x : Lane) (l : List Lane) (out : List Action) (w : List Item) (f : List Flight) (n : ℕ) → LaneJust Good Own place x → P l out w f n → P (slice_set l place x) out w f n
-  pub there : (place : ℕ) (l : List Lane) (out : List Action) (w : List Item) (f : List Flight) (n : ℕ) → P l out w f n → IfThere (LaneJust Good Own place) (slice_get l place)
+-- flight goes out again, and if what is done leaves it; if a command that came waits, if the first
+-- one is done, and if all are left; and it says what lanes and commands are.
+pub record IsWalked (Good : ℕ → Type 0) (Done : ℕ → Type 0) (Own : ℕ → ℕ → ℕ → Type 0) (May : ℕ → Type 0) (Came : Item → Type 0) (Asked : Command → Type 0) (P : Held) : Type 0 where
+  pub acts : (a : Action) (l : List Lane) (out : List Action) (w : List Item) (f : List Flight) (n : ℕ) (q : List Command) → IsOther a → IsJust Good Done Own May Came Asked a → P l out w f n q
+      → P l (out ++ a ∷ []) w f n q
+  pub placed : (place : ℕ) (x : Lane) (l : List Lane) (out : List Action) (w : List Item) (f : List Flight) (n : ℕ) (q : List Command) → LaneJust Good Own place x → P l out w f n q
+      → P (slice_set l place x) out w f n q
+  pub there : (place : ℕ) (l : List Lane) (out : List Action) (w : List Item) (f : List Flight) (n : ℕ) (q : List Command) → P l out w f n q → IfThere (LaneJust Good Own place) (slice_get l place)
   pub taken : (settings : Settings) (item : Item) (b : Bridge) → b.number ≤ item.number → Came item → At P b → At P (takes settings item (one-taken item b))
-  pub counts : (m : ℕ) (l : List Lane) (out : List Action) (w : List Item) (f : List Flight) (n : ℕ) → n ≤ m → P l out w f n → P l out w f m
+  pub counts : (m : ℕ) (l : List Lane) (out : List Action) (w : List Item) (f : List Flight) (n : ℕ) (q : List Command) → n ≤ m → P l out w f n q → P l out w f m q
   pub offers : (settings : Settings) (b : Bridge) → At P b → At P (sends settings b)
-  pub repeated : (l : List Lane) (out : List Action) (w : List Item) (f : List Flight) (n : ℕ) → P l out w f n → P l (fold out_again out f) w f n
-  pub left : (id : ℕ) (l : List Lane) (out : List Action) (w : List Item) (f : List Flight) (n : ℕ) → ItemDone Done (acknowledged id f) → P l out w f n → P l out w (left_in_flight id f) n
+  pub repeated : (l : List Lane) (out : List Action) (w : List Item) (f : List Flight) (n : ℕ) (q : List Command) → P l out w f n q → P l (fold out_again out f) w f n q
+  pub left : (id : ℕ) (l : List Lane) (out : List Action) (w : List Item) (f : List Flight) (n : ℕ) (q : List Command) → ItemDone Done (acknowledged id f) → P l out w f n q
+      → P l out w (left_in_flight id f) n q
+  pub asks : (one : Command) (l : List Lane) (out : List Action) (w : List Item) (f : List Flight) (n : ℕ) (q : List Command) → Asked one → P l out w f n q → P l out w f n (q ++ one ∷ [])
+  pub ends : (first : Command) (more : List Command) (l : List Lane) (out : List Action) (w : List Item) (f : List Flight) (n : ℕ) → P l out w f n (first ∷ more) → P l out w f n more
+  pub clears : (l : List Lane) (out : List Action) (w : List Item) (f : List Flight) (n : ℕ) (q : List Command) → P l out w f n q → P l out w f n []
+  pub owes : (l : List Lane) (out : List Action) (w : List Item) (f : List Flight) (n : ℕ) (q : List Command) → P l out w f n q → AllByRecursion Asked q
 
 -- what is sent leaves what waits as it was
 pub sent-waiting : (qos : Qos) (item : Item) (b : Bridge) → (sent_at qos item b).waiting ≡ b.waiting
@@ -218,7 +242,7 @@ sent-waiting levels.One item b = refl
 
 -- ---- a reading is offered
 
-module _ (Good : ℕ → Type 0) (Done : ℕ → Type 0) (Own : ℕ → ℕ → ℕ → Type 0) (May : ℕ → Type 0) (Came : Item → Type 0) (P : Held) (kept : IsKept Good Done Own May Came P) where
+module _ (Came : Item → Type 0) (P : Held) (kept : IsKept Came P) where
   abbrev K : Bridge → Type 0
   K b = At P b
 
@@ -227,11 +251,11 @@ module _ (Good : ℕ → Type 0) (Done : ℕ → Type 0) (Own : ℕ → ℕ → 
   choose-kept false x y p q = q
 
   sent-at-kept : (qos : Qos) (item : Item) (b : Bridge) → Came item → K b → K (sent_at qos item b)
-  sent-at-kept levels.Zero item b came h = kept.goes item b.lanes b.out b.waiting b.flight b.number came h
-  sent-at-kept levels.One item b came h = kept.flies (free_id b.packet_id b.flight) item b.lanes b.out b.waiting b.flight b.number came h
+  sent-at-kept levels.Zero item b came h = kept.goes item b.lanes b.out b.waiting b.flight b.number b.down.queue came h
+  sent-at-kept levels.One item b came h = kept.flies (free_id b.packet_id b.flight) item b.lanes b.out b.waiting b.flight b.number b.down.queue came h
 
   waits-kept : (item : Item) (b : Bridge) → Came item → K b → K (waits item b)
-  waits-kept item b came h = kept.queued item b.lanes b.out b.waiting b.flight b.number came h
+  waits-kept item b came h = kept.queued item b.lanes b.out b.waiting b.flight b.number b.down.queue came h
 
   offered-kept : (settings : Settings) (b : Bridge) (item : Item) → Came item → K b → K (offered settings b item)
   offered-kept settings b item came h =
@@ -249,19 +273,19 @@ module _ (Good : ℕ → Type 0) (Done : ℕ → Type 0) (Own : ℕ → ℕ → 
   pub taken-kept : (settings : Settings) (item : Item) (b : Bridge) → b.number ≤ item.number → Came item → K b → K (takes settings item (one-taken item b))
   taken-kept settings item b e came h =
       let next : b.number ≤ item.number + 1 = omega arith in
-      takes-at-kept b.side settings item (one-taken item b) came (kept.counts (item.number + 1) b.lanes b.out b.waiting b.flight b.number next h)
+      takes-at-kept b.side settings item (one-taken item b) came (kept.counts (item.number + 1) b.lanes b.out b.waiting b.flight b.number b.down.queue next h)
 
   -- ---- what waits is sent
 
-  first-kept : (qos : Qos) (item : Item) (more : List Item) (b : Bridge) → item.qos ≡ qos → P b.lanes b.out (item ∷ more) b.flight b.number → K (sent_at qos item (record b { waiting = more }))
-  first-kept levels.Zero item more b e h = kept.goes_first item more b.lanes b.out b.flight b.number e h
-  first-kept levels.One item more b e h = kept.flies_first (free_id b.packet_id b.flight) item more b.lanes b.out b.flight b.number h
+  first-kept : (qos : Qos) (item : Item) (more : List Item) (b : Bridge) → item.qos ≡ qos → P b.lanes b.out (item ∷ more) b.flight b.number b.down.queue → K (sent_at qos item (record b { waiting = more }))
+  first-kept levels.Zero item more b e h = kept.goes_first item more b.lanes b.out b.flight b.number b.down.queue e h
+  first-kept levels.One item more b e h = kept.flies_first (free_id b.packet_id b.flight) item more b.lanes b.out b.flight b.number b.down.queue h
 
   along-kept : (settings : Settings) (items : List Item) (b : Bridge) → b.waiting ≡ items → K b → K (sent_along settings items b)
   along-kept settings [] b e h = h
   along-kept settings (item ∷ more) b e h =
       let first : Bridge = record b { waiting = more } in
-      let here : P b.lanes b.out (item ∷ more) b.flight b.number = subst (λ (w : List Item). P b.lanes b.out w b.flight b.number) e h in
+      let here : P b.lanes b.out (item ∷ more) b.flight b.number b.down.queue = subst (λ (w : List Item). P b.lanes b.out w b.flight b.number b.down.queue) e h in
       choose-kept (has_window settings item.qos b.flight) (sent_along settings more (sent_at item.qos item first)) b
       (along-kept settings more (sent_at item.qos item first) (sent-waiting item.qos item first) (first-kept item.qos item more b refl here)) h
 
@@ -270,7 +294,7 @@ module _ (Good : ℕ → Type 0) (Done : ℕ → Type 0) (Own : ℕ → ℕ → 
 
 -- ---- all the rest
 
-module _ (Good : ℕ → Type 0) (Done : ℕ → Type 0) (lift : (n : ℕ) → Done n → Good n) (Own : ℕ → ℕ → ℕ → Type 0) (May : ℕ → Type 0) (Came : Item → Type 0) (P : Held) (walked : IsWalked Good Done Own May Came P) where
+module _ (Good : ℕ → Type 0) (Done : ℕ → Type 0) (lift : (n : ℕ) → Done n → Good n) (Own : ℕ → ℕ → ℕ → Type 0) (May : ℕ → Type 0) (Came : Item → Type 0) (Asked : Command → Type 0) (P : Held) (walked : IsWalked Good Done Own May Came Asked P) where
   abbrev J : Bridge → Type 0
   J b = At P b
 
@@ -289,11 +313,11 @@ module _ (Good : ℕ → Type 0) (Done : ℕ → Type 0) (lift : (n : ℕ) → D
   choose-not true x y p q = p
   choose-not false x y p q = q refl
 
-  does-just : (a : Action) (b : Bridge) → IsOther a → IsJust Good Done Own May Came a → J b → J (does a b)
-  does-just a b o p h = walked.acts a b.lanes b.out b.waiting b.flight b.number o p h
+  does-just : (a : Action) (b : Bridge) → IsOther a → IsJust Good Done Own May Came Asked a → J b → J (does a b)
+  does-just a b o p h = walked.acts a b.lanes b.out b.waiting b.flight b.number b.down.queue o p h
 
   put-just : (place : ℕ) (x : Lane) (b : Bridge) → L place x → J b → J (lane.seated place x b)
-  put-just place x b p h = walked.placed place x b.lanes b.out b.waiting b.flight b.number p h
+  put-just place x b p h = walked.placed place x b.lanes b.out b.waiting b.flight b.number b.down.queue p h
 
   says-just : (place : ℕ) (frame : Frame) (x : Lane) (b : Bridge) → IsFrame Good Own place frame → L place x → J b → J (lane.says place frame x b)
   says-just place frame x b f p h = does-just (actions.ToField place frame) (lane.seated place x b) tt f (put-just place x b p h)
@@ -304,7 +328,7 @@ module _ (Good : ℕ → Type 0) (Done : ℕ → Type 0) (lift : (n : ℕ) → D
   sends-just settings b h = walked.offers settings b h
 
   all-again-just : (b : Bridge) → J b → J (all_again b)
-  all-again-just b h = walked.repeated b.lanes b.out b.waiting b.flight b.number h
+  all-again-just b h = walked.repeated b.lanes b.out b.waiting b.flight b.number b.down.queue h
 
   -- ---- lanes
 
@@ -501,128 +525,148 @@ module _ (Good : ℕ → Type 0) (Done : ℕ → Type 0) (lift : (n : ℕ) → D
 
   -- ---- commands
 
-  down-just : (down : Down) (b : Bridge) → J b → J (command.put_down down b)
-  down-just down b h = h
+  -- it holds with another lane for commands
+  abbrev D : Down → Bridge → Type 0
+  D down b = J (command.put_down down b)
 
-  says-down-just : (frame : Frame) (down : Down) (b : Bridge) → J b → J (command.says_down frame down b)
-  says-down-just frame down b h = does-just (actions.ToCommands frame) (command.put_down down b) tt tt (down-just down b h)
+  first-asked : (queue : List Command) → AllByRecursion Asked queue → FirstAsked Asked queue
+  first-asked [] all = tt
+  first-asked (first ∷ more) all = all.0
+
+  asked-first : (b : Bridge) → J b → FirstAsked Asked b.down.queue
+  asked-first b h = first-asked b.down.queue (walked.owes b.lanes b.out b.waiting b.flight b.number b.down.queue h)
+
+  says-down-just : (frame : Frame) (down : Down) (b : Bridge) → IsCommand Asked frame → D down b → J (command.says_down frame down b)
+  says-down-just frame down b given h = does-just (actions.ToCommands frame) (command.put_down down b) tt given h
 
   told-just : (id : ℕ) (b : Bridge) → Tells May id → J b → J (command.told id b)
   told-just id b may h = choose-not (id == 0) b (does (actions.ToBroker (packets.PubAck id)) b) h (λ e. does-just (actions.ToBroker (packets.PubAck id)) b tt (may e) h)
 
-  queued-just : (id : ℕ) (from topic body : List ℕ) (b : Bridge) → J b → J (command.queued id from topic body b)
-  queued-just id from topic body b h = h
+  queued-just : (id : ℕ) (from topic body : List ℕ) (b : Bridge) → Asked (record { id = id; from = from; topic = topic; body = body }) → J b → J (command.queued id from topic body b)
+  queued-just id from topic body b asked h =
+      walked.asks (record { id = id; from = from; topic = topic; body = body }) b.lanes b.out b.waiting b.flight b.number b.down.queue asked h
 
-  asked-just : (entry : Option DownFilter) (id : ℕ) (retain : Bool) (topic body : List ℕ) (b : Bridge) → (retain ≡ true → Tells May id) → J b → J (command.asked entry id retain topic body b)
-  asked-just None id retain topic body b may h = queued-just id topic [] body b h
-  asked-just (Some entry) id retain topic body b may h =
+  asked-just : (entry : Option DownFilter) (id : ℕ) (retain : Bool) (topic body : List ℕ) (b : Bridge) → (retain ≡ true → Tells May id)
+      → Asked (record { id = id; from = topic; topic = topic_by entry topic; body = body }) → J b → J (command.asked entry id retain topic body b)
+  asked-just None id retain topic body b may asked h = queued-just id topic [] body b asked h
+  asked-just (Some entry) id retain topic body b may asked h =
       choose-by (retain && not entry.retained) (command.told id b) (command.queued id topic (command.stripped entry.strip topic) body b)
-      (λ e. told-just id b (may (and_parts retain (not entry.retained) e).0) h) (queued-just id topic (command.stripped entry.strip topic) body b h)
+      (λ e. told-just id b (may (and_parts retain (not entry.retained) e).0) h) (queued-just id topic (command.stripped entry.strip topic) body b asked h)
 
   passed-over-just : (id : ℕ) (b : Bridge) → J b → J (command.passed_over id b)
   passed-over-just id b h = choose (id == 0) b (command.put_down (record b.down { is_behind = true }) b) h h
 
-  commanded-just : (downs : List DownFilter) (id : ℕ) (retain : Bool) (topic body : List ℕ) (b : Bridge) → (retain ≡ true → Tells May id) → J b → J (command.commanded downs id retain topic body b)
-  commanded-just downs id retain topic body b may h =
+  commanded-just : (downs : List DownFilter) (id : ℕ) (retain : Bool) (topic body : List ℕ) (b : Bridge) → (retain ≡ true → Tells May id)
+      → Asked (record { id = id; from = topic; topic = topic_by (command.filter_for topic downs) topic; body = body }) → J b → J (command.commanded downs id retain topic body b)
+  commanded-just downs id retain topic body b may asked h =
       let over : Bridge = command.passed_over id b in
-      let asked : Bridge = command.asked (command.filter_for topic downs) id retain topic body b in
-      choose (command.is_queued id b.down.queue) b (if command.is_full b.down then over else asked) h
-      (choose (command.is_full b.down) over asked
-      (passed-over-just id b h) (asked-just (command.filter_for topic downs) id retain topic body b may h))
+      let queued : Bridge = command.asked (command.filter_for topic downs) id retain topic body b in
+      choose (command.is_queued id b.down.queue) b (if command.is_full b.down then over else queued) h
+      (choose (command.is_full b.down) over queued
+      (passed-over-just id b h) (asked-just (command.filter_for topic downs) id retain topic body b may asked h))
 
-  away-just : (m : Moment) (down : Down) (b : Bridge) → J b → J (command.away m down b)
+  away-just : (m : Moment) (down : Down) (b : Bridge) → D down b → J (command.away m down b)
   away-just m down b h = h
 
-  publishing-just : (dup short : Bool) (topic_id : ℕ) (m : Moment) (first : Command) (down : Down) (b : Bridge) → J b → J (command.publishing dup short topic_id m first down b)
-  publishing-just dup short topic_id m first down b h =
+  publishing-just : (dup short : Bool) (topic_id : ℕ) (m : Moment) (first : Command) (down : Down) (b : Bridge) → Asked first → D down b → J (command.publishing dup short topic_id m first down b)
+  publishing-just dup short topic_id m first down b asked h =
       says-down-just (frames.Publish (command.publish_flags dup short) topic_id (command.sent_id dup down.msg_id) first.body)
-      (record down { doing = doings.Publishing; tries = once_more down.tries; due = m.retry; msg_id = command.sent_id dup down.msg_id }) b h
+      (record down { doing = doings.Publishing; tries = once_more down.tries; due = m.retry; msg_id = command.sent_id dup down.msg_id }) b (first, asked, refl) h
 
-  registering-just : (m : Moment) (first : Command) (down : Down) (b : Bridge) → J b → J (command.registering m first down b)
-  registering-just m first down b h =
+  registering-just : (m : Moment) (first : Command) (down : Down) (b : Bridge) → Asked first → D down b → J (command.registering m first down b)
+  registering-just m first down b asked h =
       let asking : Down = record down { doing = doings.Registering; tries = once_more down.tries; due = m.retry; msg_id = next_id down.msg_id } in
-      let frame : Frame = frames.Register 0 (next_id down.msg_id) first.topic in
-      choose (nat_lt (length down.ids) MAX_NAMES) (command.says_down frame asking b) (command.away m down b)
-      (says-down-just frame asking b h) (away-just m down b h)
+      choose (nat_lt (length down.ids) MAX_NAMES) (command.says_down (frames.Register 0 (next_id down.msg_id) first.topic) asking b) (command.away m down b)
+      (says-down-just (frames.Register 0 (next_id down.msg_id) first.topic) asking b (first, asked, refl) h) (away-just m down b h)
 
-  sent-below-just : (id : Option ℕ) (dup : Bool) (m : Moment) (first : Command) (down : Down) (b : Bridge) → J b → J (command.sent_under id dup m first down b)
-  sent-below-just None dup m first down b h = registering-just m first down b h
-  sent-below-just (Some id) dup m first down b h = publishing-just dup false id m first down b h
+  sent-below-just : (id : Option ℕ) (dup : Bool) (m : Moment) (first : Command) (down : Down) (b : Bridge) → Asked first → D down b → J (command.sent_under id dup m first down b)
+  sent-below-just None dup m first down b asked h = registering-just m first down b asked h
+  sent-below-just (Some id) dup m first down b asked h = publishing-just dup false id m first down b asked h
 
-  sent-as-just : (id : Option ℕ) (dup : Bool) (m : Moment) (first : Command) (down : Down) (b : Bridge) → J b → J (command.sent_as id dup m first down b)
-  sent-as-just None dup m first down b h = sent-below-just (command.id_of first.topic down.ids) dup m first down b h
-  sent-as-just (Some id) dup m first down b h = publishing-just dup true id m first down b h
+  sent-as-just : (id : Option ℕ) (dup : Bool) (m : Moment) (first : Command) (down : Down) (b : Bridge) → Asked first → D down b → J (command.sent_as id dup m first down b)
+  sent-as-just None dup m first down b asked h = sent-below-just (command.id_of first.topic down.ids) dup m first down b asked h
+  sent-as-just (Some id) dup m first down b asked h = publishing-just dup true id m first down b asked h
 
-  refusing-just : (why : Why) (first : Command) (down : Down) (b : Bridge) → J b → J (command.refusing why first down b)
-  refusing-just why first down b h =
+  refusing-just : (why : Why) (first : Command) (down : Down) (b : Bridge) → Asked first → D down b → J (command.refusing why first down b)
+  refusing-just why first down b asked h =
       let told : Down = record down { doing = doings.Refusing down.line; line = down.line + 1 } in
       choose (nat_lt down.line LAST_NUMBER) (does (actions.Refuse down.line first why) (command.put_down told b)) (command.put_down down b)
-      (does-just (actions.Refuse down.line first why) (command.put_down told b) tt tt (down-just told b h)) (down-just down b h)
+      (does-just (actions.Refuse down.line first why) (command.put_down told b) tt asked h) h
 
-  sent-in-just : (phase : Phase) (dup : Bool) (m : Moment) (first : Command) (down : Down) (b : Bridge) → J b → J (command.sent_in phase dup m first down b)
-  sent-in-just phases.Listening dup m first down b h = sent-as-just (command.short_name first.topic) dup m first down b h
-  sent-in-just phase dup m first down b h = down-just down b h
+  sent-in-just : (phase : Phase) (dup : Bool) (m : Moment) (first : Command) (down : Down) (b : Bridge) → Asked first → D down b → J (command.sent_in phase dup m first down b)
+  sent-in-just phases.Listening dup m first down b asked h = sent-as-just (command.short_name first.topic) dup m first down b asked h
+  sent-in-just phase dup m first down b asked h = h
 
-  begun-by-just : (why : Option Why) (dup : Bool) (m : Moment) (first : Command) (down : Down) (b : Bridge) → J b → J (command.begun_by why dup m first down b)
-  begun-by-just (Some why) dup m first down b h = refusing-just why first down b h
-  begun-by-just None dup m first down b h = sent-in-just down.phase dup m first down b h
+  begun-by-just : (why : Option Why) (dup : Bool) (m : Moment) (first : Command) (down : Down) (b : Bridge) → Asked first → D down b → J (command.begun_by why dup m first down b)
+  begun-by-just (Some why) dup m first down b asked h = refusing-just why first down b asked h
+  begun-by-just None dup m first down b asked h = sent-in-just down.phase dup m first down b asked h
 
-  begun-just : (queue : List Command) (dup : Bool) (m : Moment) (down : Down) (b : Bridge) → J b → J (command.begun queue dup m down b)
-  begun-just [] dup m down b h = down-just down b h
-  begun-just (first ∷ more) dup m down b h = begun-by-just (command.obstacle first) dup m first down b h
+  begun-just : (queue : List Command) (dup : Bool) (m : Moment) (down : Down) (b : Bridge) → FirstAsked Asked queue → D down b → J (command.begun queue dup m down b)
+  begun-just [] dup m down b asked h = h
+  begun-just (first ∷ more) dup m down b asked h = begun-by-just (command.obstacle first) dup m first down b asked h
 
   begun-at-just : (doing : Doing) (m : Moment) (b : Bridge) → J b → J (command.begun_at doing m b)
-  begun-at-just doings.Nothing m b h = begun-just b.down.queue false m b.down b h
+  begun-at-just doings.Nothing m b h = begun-just b.down.queue false m b.down b (asked-first b h) h
   begun-at-just doing m b h = h
 
   begins-just : (m : Moment) (b : Bridge) → J b → J (command.begins m b)
   begins-just m b h = begun-at-just b.down.doing m b h
 
-  done-with-just : (queue : List Command) (b : Bridge) → FirstMay May queue → J b → J (command.done_with queue b)
-  done-with-just [] b may h = down-just (record b.down { doing = doings.Nothing; tries = 0 }) b h
-  done-with-just (first ∷ more) b may h =
+  done-with-just : (queue : List Command) (b : Bridge) → FirstMay May queue → P b.lanes b.out b.waiting b.flight b.number queue → J b → J (command.done_with queue b)
+  done-with-just [] b may held h = h
+  done-with-just (first ∷ more) b may held h =
       let rest : Down = record b.down { doing = doings.Nothing; tries = 0; queue = more } in
-      told-just first.id (command.put_down rest b) may (down-just rest b h)
+      told-just first.id (command.put_down rest b) may (walked.ends first more b.lanes b.out b.waiting b.flight b.number held)
 
   done-just : (m : Moment) (b : Bridge) → FirstMay May b.down.queue → J b → J (command.done m b)
-  done-just m b may h = begins-just m (command.done_with b.down.queue b) (done-with-just b.down.queue b may h)
+  done-just m b may h = begins-just m (command.done_with b.down.queue b) (done-with-just b.down.queue b may h h)
 
   later-just : (m : Moment) (b : Bridge) → J b → J (command.later m b)
   later-just m b h = h
 
-  answered-first-just : (queue : List Command) (code : ℕ) (m : Moment) (b : Bridge) → (code ≡ 0 → FirstMay May b.down.queue) → J b → J (command.answered_first queue code m b)
-  answered-first-just [] code m b may h = h
-  answered-first-just (first ∷ more) code m b may h =
+  answered-first-just : (queue : List Command) (code : ℕ) (m : Moment) (b : Bridge) → (code ≡ 0 → FirstMay May b.down.queue) → FirstAsked Asked queue → J b
+      → J (command.answered_first queue code m b)
+  answered-first-just [] code m b may asked h = h
+  answered-first-just (first ∷ more) code m b may asked h =
       let again : Bridge = command.away m b.down b in
       let none : Bridge = command.refusing whys.Gateway first b.down b in
       choose-by (code == 0) (command.done m b) (if code == 1 then command.later m b else (if code == 2 then again else none))
       (λ e. done-just m b (may (eqb-true code 0 e)) h)
       (choose (code == 1) (command.later m b) (if code == 2 then again else none) (later-just m b h)
       (choose (code == 2) again none
-      (away-just m b.down b h) (refusing-just whys.Gateway first b.down b h)))
+      (away-just m b.down b h) (refusing-just whys.Gateway first b.down b asked h)))
 
-  named-first-just : (queue : List Command) (topic_id code : ℕ) (m : Moment) (b : Bridge) → J b → J (command.named_first queue topic_id code m b)
-  named-first-just [] topic_id code m b h = h
-  named-first-just (first ∷ more) topic_id code m b h =
+  named-first-just : (queue : List Command) (topic_id code : ℕ) (m : Moment) (b : Bridge) → FirstAsked Asked queue → J b → J (command.named_first queue topic_id code m b)
+  named-first-just [] topic_id code m b asked h = h
+  named-first-just (first ∷ more) topic_id code m b asked h =
       let named : Bridge = command.named topic_id first b in
       let none : Bridge = command.refusing whys.Gateway first b.down b in
       choose (code == 0) (command.publishing false false topic_id m first named.down named) (if code == 1 then command.later m b else none)
-      (publishing-just false false topic_id m first named.down named (h))
-      (choose (code == 1) (command.later m b) none (later-just m b h) (refusing-just whys.Gateway first b.down b h))
+      (publishing-just false false topic_id m first named.down named asked h)
+      (choose (code == 1) (command.later m b) none (later-just m b h) (refusing-just whys.Gateway first b.down b asked h))
+
+  heard-if : (c : Bool) (m : Moment) (b : Bridge) → J b → D (if c then b.down else record b.down { tries = 0; due = m.ping }) b
+  heard-if true m b h = h
+  heard-if false m b h = h
+
+  heard-at-just : (doing : Doing) (m : Moment) (b : Bridge) → J b → D (command.heard_at doing m b.down) b
+  heard-at-just doings.Publishing m b h = h
+  heard-at-just doings.Registering m b h = h
+  heard-at-just doing m b h = heard-if (b.down.tries == 0) m b h
 
   heard-just : (m : Moment) (b : Bridge) → J b → J (command.heard m b)
-  heard-just m b h = h
+  heard-just m b h = heard-at-just b.down.doing m b h
 
   acked-at-just : (doing : Doing) (msg_id code : ℕ) (m : Moment) (b : Bridge)
       → (doing ≡ doings.Publishing → msg_id ≡ b.down.msg_id → code ≡ 0 → FirstMay May b.down.queue) → J b → J (command.acked_at doing msg_id code m b)
   acked-at-just doings.Publishing msg_id code m b may h =
       choose-by (msg_id == b.down.msg_id) (command.answered_first b.down.queue code m b) b
-      (λ e. answered-first-just b.down.queue code m b (may refl (eqb-true msg_id b.down.msg_id e)) h) h
+      (λ e. answered-first-just b.down.queue code m b (may refl (eqb-true msg_id b.down.msg_id e)) (asked-first b h) h) h
   acked-at-just doing msg_id code m b may h = heard-just m b h
 
   down-named-just : (doing : Doing) (topic_id msg_id code : ℕ) (m : Moment) (b : Bridge) → J b → J (command.named_at doing topic_id msg_id code m b)
   down-named-just doings.Registering topic_id msg_id code m b h =
-      choose (msg_id == b.down.msg_id) (command.named_first b.down.queue topic_id code m b) b (named-first-just b.down.queue topic_id code m b h) h
+      choose (msg_id == b.down.msg_id) (command.named_first b.down.queue topic_id code m b) b (named-first-just b.down.queue topic_id code m b (asked-first b h) h) h
   down-named-just doing topic_id msg_id code m b h = heard-just m b h
 
   listening-just : (m : Moment) (frame : Frame) (b : Bridge) → FrameMay May frame b → J b → J (command.listening_frame m frame b)
@@ -634,7 +678,7 @@ module _ (Good : ℕ → Type 0) (Done : ℕ → Type 0) (lift : (n : ℕ) → D
   down-connected-just : (m : Moment) (frame : Frame) (b : Bridge) → J b → J (command.connected m frame b)
   down-connected-just m (frames.ConnAck code) b h =
       let up : Bridge = command.put_down (record b.down { phase = phases.Listening; tries = 0; due = m.ping; doing = command.unfinished b.down.doing }) b in
-      choose (code == 0) (command.begins m up) b (begins-just m up (h)) h
+      choose (code == 0) (command.begins m up) b (begins-just m up h) h
   down-connected-just m frame b h = h
 
   down-frame-in-just : (phase : Phase) (m : Moment) (frame : Frame) (b : Bridge) → FrameMay May frame b → J b → J (command.frame_in phase m frame b)
@@ -643,16 +687,16 @@ module _ (Good : ℕ → Type 0) (Done : ℕ → Type 0) (lift : (n : ℕ) → D
   down-frame-in-just phase m frame b may h = h
 
   down-again-at-just : (doing : Doing) (m : Moment) (b : Bridge) → J b → J (command.again_at doing m b)
-  down-again-at-just doings.Publishing m b h = begun-just b.down.queue true m b.down b h
-  down-again-at-just doings.Registering m b h = begun-just b.down.queue false m b.down b h
+  down-again-at-just doings.Publishing m b h = begun-just b.down.queue true m b.down b (asked-first b h) h
+  down-again-at-just doings.Registering m b h = begun-just b.down.queue false m b.down b (asked-first b h) h
   down-again-at-just doing m b h =
-      says-down-just (frames.PingReq []) (record b.down { tries = once_more b.down.tries; due = m.retry }) b h
+      says-down-just (frames.PingReq []) (record b.down { tries = once_more b.down.tries; due = m.retry }) b tt h
 
   down-again-just : (phase : Phase) (client : List ℕ) (m : Moment) (b : Bridge) → J b → J (command.again phase client m b)
   down-again-just phases.Listening client m b h = down-again-at-just b.down.doing m b h
   down-again-just phase client m b h =
       says-down-just (frames.Connect (record { bits = 4 }) 1 KEEP_ALIVE client)
-      (record b.down { phase = phases.Connecting; tries = once_more b.down.tries; due = m.retry; ids = [] }) b h
+      (record b.down { phase = phases.Connecting; tries = once_more b.down.tries; due = m.retry; ids = [] }) b tt h
 
   down-tick-just : (client : List ℕ) (m : Moment) (b : Bridge) → J b → J (command.down_tick client m b)
   down-tick-just client m b h =
@@ -677,7 +721,7 @@ module _ (Good : ℕ → Type 0) (Done : ℕ → Type 0) (lift : (n : ℕ) → D
       → ((own : LaneSettings) (x : Lane) → slice_get settings.lanes place ≡ Some own → slice_get b.lanes place ≡ Some x → L place x → J (f own x b)) → J b
       → J (whole.at_lane settings place f b)
   at-lane-just settings place f b k h =
-      lane-does-just (slice_get settings.lanes place) (slice_get b.lanes place) place f b (walked.there place b.lanes b.out b.waiting b.flight b.number h) k h
+      lane-does-just (slice_get settings.lanes place) (slice_get b.lanes place) place f b (walked.there place b.lanes b.out b.waiting b.flight b.number b.down.queue h) k h
 
   lanes-along-just : (owns : List LaneSettings) (place : ℕ) (settings : Settings) (f : ℕ → LaneSettings → Lane → Bridge → Bridge) (b : Bridge)
       → ((place : ℕ) (own : LaneSettings) (x : Lane) (b : Bridge) → L place x → J b → J (f place own x b)) → J b → J (whole.lanes_along owns place settings f b)
@@ -724,7 +768,7 @@ module _ (Good : ℕ → Type 0) (Done : ℕ → Type 0) (lift : (n : ℕ) → D
       (each-lane-just settings (λ place. lane.wakes place m) b (λ place own x b p h. wakes-in-just x.phase own place m x b h) h) h
 
   lost-just : (settings : Settings) (due : ℕ) (b : Bridge) → J b → J (whole.lost settings due b)
-  lost-just settings due b h = rests-just settings (whole.ended due b) h
+  lost-just settings due b h = rests-just settings (whole.ended due b) (walked.clears b.lanes b.out b.waiting b.flight b.number b.down.queue h)
 
   hangs-up-just : (settings : Settings) (due : ℕ) (b : Bridge) → J b → J (whole.hangs_up settings due b)
   hangs-up-just settings due b h = does-just actions.HangUp (whole.lost settings due b) tt tt (lost-just settings due b h)
@@ -737,10 +781,10 @@ module _ (Good : ℕ → Type 0) (Done : ℕ → Type 0) (lift : (n : ℕ) → D
   forgets-just settings number b handed h = choose settings.spools (does (actions.Forget number) b) b (does-just (actions.Forget number) b tt handed h) h
 
   answered-just : (item : Option Item) (settings : Settings) (id : ℕ) (b : Bridge) → ItemDone Done item → ItemDone Done (acknowledged id b.flight) → J b → J (whole.answered item settings id b)
-  answered-just None settings id b handed taken h = walked.left id b.lanes b.out b.waiting b.flight b.number taken h
+  answered-just None settings id b handed taken h = walked.left id b.lanes b.out b.waiting b.flight b.number b.down.queue taken h
   answered-just (Some item) settings id b handed taken h =
       let rest : Bridge = record b { flight = left_in_flight id b.flight } in
-      let left : J rest = walked.left id b.lanes b.out b.waiting b.flight b.number taken h in
+      let left : J rest = walked.left id b.lanes b.out b.waiting b.flight b.number b.down.queue taken h in
       let spared : Bridge = whole.forgets settings item.number rest in
       let forgot : J spared = forgets-just settings item.number rest handed left in
       let answered : Bridge = whole.at_lane settings item.lane (lane.answers item.number item.lane) spared in
@@ -749,17 +793,17 @@ module _ (Good : ℕ → Type 0) (Done : ℕ → Type 0) (lift : (n : ℕ) → D
       (λ own x mine there p. answers-held-just x.last item.number item.lane x spared p (lift item.number handed) forgot) forgot in
       sends-at-just answered.side settings answered told
 
-  up-packet-just : (settings : Settings) (m : Moment) (packet : Packet) (b : Bridge) → PacketDone Done May packet b → J b → J (whole.up_packet settings m packet b)
+  up-packet-just : (settings : Settings) (m : Moment) (packet : Packet) (b : Bridge) → PacketDone Done May Asked settings packet b → J b → J (whole.up_packet settings m packet b)
   up-packet-just settings m (packets.PubAck id) b good h = answered-just (acknowledged id b.flight) settings id b good good h
   up-packet-just settings m (packets.Publish delivery retain topic body) b good h =
-      begins-just m (command.commanded settings.downs (whole.id_in delivery) retain topic body b) (commanded-just settings.downs (whole.id_in delivery) retain topic body b good h)
+      begins-just m (command.commanded settings.downs (whole.id_in delivery) retain topic body b) (commanded-just settings.downs (whole.id_in delivery) retain topic body b good.0 good.1 h)
   up-packet-just settings m packet b good h = h
 
   named-just : (granted : Bool) (settings : Settings) (next : ℕ) (m : Moment) (b : Bridge) → J b → J (whole.named_at granted settings next m b)
   named-just true settings next m b h = subscribe-just settings (next + 1) m b h
   named-just false settings next m b h = hangs-up-just settings m.minute b h
 
-  naming-packet-just : (settings : Settings) (next : ℕ) (m : Moment) (packet : Packet) (b : Bridge) → PacketDone Done May packet b → J b → J (whole.naming_packet settings next m packet b)
+  naming-packet-just : (settings : Settings) (next : ℕ) (m : Moment) (packet : Packet) (b : Bridge) → PacketDone Done May Asked settings packet b → J b → J (whole.naming_packet settings next m packet b)
   naming-packet-just settings next m (packets.SubAck id granted) b good h =
       choose ((next_id id == b.packet_id) && nat_lt next LAST_NUMBER) (whole.named_at (whole.is_granted granted) settings next m b) b (named-just (whole.is_granted granted) settings next m b h) h
   naming-packet-just settings next m packet b good h = up-packet-just settings m packet b good h
@@ -771,22 +815,22 @@ module _ (Good : ℕ → Type 0) (Done : ℕ → Type 0) (lift : (n : ℕ) → D
   new-packet-just settings m packet b h = hangs-up-just settings m.retry b h
 
   -- being heard changes neither what is in flight nor the lanes
-  heard-packet : (c : Bool) (packet : Packet) (x y : Bridge) → PacketDone Done May packet x → PacketDone Done May packet y → PacketDone Done May packet (if c then x else y)
-  heard-packet true packet x y p q = p
-  heard-packet false packet x y p q = q
+  heard-packet : (settings : Settings) (c : Bool) (packet : Packet) (x y : Bridge) → PacketDone Done May Asked settings packet x → PacketDone Done May Asked settings packet y → PacketDone Done May Asked settings packet (if c then x else y)
+  heard-packet settings true packet x y p q = p
+  heard-packet settings false packet x y p q = q
 
-  same-packet : (packet : Packet) (b : Bridge) (m : Moment) → PacketDone Done May packet b → PacketDone Done May packet (record b { tries = 0; due = m.ping })
-  same-packet (packets.PubAck id) b m good = good
-  same-packet (packets.Publish delivery retain topic body) b m good = good
-  same-packet packet b m good = tt
+  same-packet : (settings : Settings) (packet : Packet) (b : Bridge) (m : Moment) → PacketDone Done May Asked settings packet b → PacketDone Done May Asked settings packet (record b { tries = 0; due = m.ping })
+  same-packet settings (packets.PubAck id) b m good = good
+  same-packet settings (packets.Publish delivery retain topic body) b m good = good
+  same-packet settings packet b m good = tt
 
-  packet-in-just : (side : Side) (settings : Settings) (m : Moment) (packet : Packet) (b : Bridge) → PacketDone Done May packet b → J b → J (whole.packet_in side settings m packet b)
+  packet-in-just : (side : Side) (settings : Settings) (m : Moment) (packet : Packet) (b : Bridge) → PacketDone Done May Asked settings packet b → J b → J (whole.packet_in side settings m packet b)
   packet-in-just sides.Closed settings m packet b good h = h
   packet-in-just sides.Connecting settings m packet b good h = new-packet-just settings m packet b h
   packet-in-just (sides.Subscribing next) settings m packet b good h = naming-packet-just settings next m packet b good h
   packet-in-just sides.Up settings m packet b good h =
       up-packet-just settings m packet (whole.heard m b)
-      (heard-packet (b.tries == 0) packet b (record b { tries = 0; due = m.ping }) good (same-packet packet b m good))
+      (heard-packet settings (b.tries == 0) packet b (record b { tries = 0; due = m.ping }) good (same-packet settings packet b m good))
       (choose (b.tries == 0) b (record b { tries = 0; due = m.ping }) h (h))
 
   side-due-just : (side : Side) (settings : Settings) (m : Moment) (b : Bridge) → J b → J (whole.side_due side settings m b)
@@ -813,7 +857,7 @@ module _ (Good : ℕ → Type 0) (Done : ℕ → Type 0) (lift : (n : ℕ) → D
   counts-on-just : (number : ℕ) (b : Bridge) → J b → J (whole.counts_on number b)
   counts-on-just number b h =
       choose-by (nat_le b.number number) (record b { number = number }) b
-      (λ e. walked.counts number b.lanes b.out b.waiting b.flight b.number (leb-true b.number number e) h) h
+      (λ e. walked.counts number b.lanes b.out b.waiting b.flight b.number b.down.queue (leb-true b.number number e) h) h
 
   found-just : (settings : Settings) (item : Item) (b : Bridge) → Came item → J b → J (whole.found settings item b)
   found-just settings item b came h =
@@ -826,7 +870,7 @@ module _ (Good : ℕ → Type 0) (Done : ℕ → Type 0) (lift : (n : ℕ) → D
       choose-by (whole.may_keep settings below b) (whole.each_lane settings (λ place. lane.keeps below place) storing) b
       (λ e. each-lane-just settings (λ place. lane.keeps below place) storing (λ place own x b p h. keeps-held-just x.last below place x b p (good e) h) h) h
 
-  pub event-walked : (settings : Settings) (event : Event) (m : Moment) (b : Bridge) → Reasons Good Done Own May Came settings event b → J b → J (whole.event_step settings event m b)
+  pub event-walked : (settings : Settings) (event : Event) (m : Moment) (b : Bridge) → Reasons Good Done Own May Came Asked settings event b → J b → J (whole.event_step settings event m b)
   event-walked settings (events.Field place frame) m b why h =
       at-lane-just settings place (lane.lane_frame settings place m frame) b
       (λ own x mine there p. frame-in-just x.phase settings own place m frame x b why.0 (why.1 own x mine there) p h) h

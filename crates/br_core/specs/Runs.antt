@@ -1,6 +1,7 @@
 -- Runs of a bridge, and what must hold of each.
-use Rattle.std.specs.Prelude.{◌≡◌, ◌≤◌, ℕ, ◌+◌, ◌⊎◌, Bool, true, false, nat_lt, nat_le, List, [], ◌∷◌, ◌++◌, Some, slice_get}
+use Rattle.std.specs.Prelude.{◌≡◌, ◌≤◌, ℕ, ◌+◌, ◌⊎◌, Bool, true, false, nat_lt, nat_le, List, [], ◌∷◌, ◌++◌, Option, Some, None, slice_get}
 use Rattle.std.specs.List.{AllByRecursion}
+use Rattle.mq_packet.specs.declared.packet.Delivery.{Delivery}
 use Rattle.mq_packet.specs.declared.packet.Delivery.TheVariants as deliveries
 use Rattle.mq_packet.specs.declared.packet.Packet.{Packet}
 use Rattle.mq_packet.specs.declared.packet.Packet.TheVariants as packets
@@ -18,6 +19,7 @@ use Rattle.br_core.specs.declared.event.Event.TheVariants as events
 use Rattle.br_core.specs.declared.item.Command.{Command}
 use Rattle.br_core.specs.declared.item.Flight.{Flight}
 use Rattle.br_core.specs.declared.item.Item.{Item}
+use Rattle.br_core.specs.declared.settings.DownFilter.{DownFilter}
 use Rattle.br_core.specs.declared.settings.LaneSettings.{LaneSettings}
 use Rattle.br_core.specs.declared.settings.Settings.{Settings}
 use Rattle.br_core.specs.declared.settings.UpName.{UpName}
@@ -25,9 +27,10 @@ use Rattle.br_core.specs.declared.state.Bridge.{Bridge}
 use Rattle.br_core.specs.declared.state.Doing.TheVariants as doings
 use Rattle.br_core.specs.declared.state.Lane.{Lane}
 use Rattle.br_core.specs.Begins.{begun, moment_of}
+use Rattle.br_core.specs.Commands.{filter_for, stripped}
 use Rattle.br_core.specs.Lanes.{name_of}
 use Rattle.br_core.specs.Sides.{acknowledged, in_flight}
-use Rattle.br_core.specs.Steps.{step}
+use Rattle.br_core.specs.Steps.{id_in, step}
 
 -- what came, and the second of it
 abbrev pub Come : Type 0
@@ -88,6 +91,28 @@ pub record WasFound (run : List Come) (item : Item) : Type 0 where
 
 abbrev pub Came : Settings → List Come → Item → Type 0
 Came settings run item = CameOver settings run item ⊎ WasFound run item
+
+-- the field's topic of a command: what its filter leaves of the broker's, or nothing
+abbrev pub topic_by : Option DownFilter → List ℕ → List ℕ
+topic_by None from = []
+topic_by (Some entry) from = stripped entry.strip from
+
+abbrev pub field_topic : Settings → List ℕ → List ℕ
+field_topic settings from = topic_by (filter_for from settings.downs) from
+
+-- The command came from the broker, in a publication of its packet id, with its octets, under its
+-- topic there; and its topic in the field is that which the filter leaves.
+pub record CameDown (settings : Settings) (run : List Come) (command : Command) : Type 0 where
+  pub earlier : List Come
+  pub later : List Come
+  pub delivery : Delivery
+  pub retain : Bool
+  pub moment : ℕ
+  pub comes : run
+      ≡ earlier
+      ++ (events.Broker (packets.Publish delivery retain command.from command.body), moment) ∷ later
+  pub has_id : command.id ≡ id_in delivery
+  pub goes_to : command.topic ≡ field_topic settings command.from
 
 -- The reading of this number came from the gateway of this lane, in a PUBLISH of this message id.
 pub record Brought (settings : Settings) (run : List Come) (place number msg_id : ℕ) : Type 0 where
@@ -162,10 +187,11 @@ IsIn number bridge = Waits number bridge.waiting ⊎ Flies number bridge.flight
 
 -- ---- commands
 
--- the first command of the queue has this packet id of the broker
-abbrev pub IsFirst : ℕ → List Command → Type 0
-IsFirst id queue =
+-- the first command of the queue has this packet id of the broker, and came from it
+abbrev pub IsFirst : (Command → Type 0) → ℕ → List Command → Type 0
+IsFirst Asked id queue =
     (command : Command) × (more : List Command) × (queue ≡ command ∷ more) × (command.id ≡ id)
+    × Asked command
 
 -- The gateway has accepted the first command, which was published under this message id.
 pub record Accepted (settings : Settings) (run : List Come) (id : ℕ) : Type 0 where
@@ -176,7 +202,7 @@ pub record Accepted (settings : Settings) (run : List Come) (id : ℕ) : Type 0 
   pub comes : run ≡ earlier ++ (events.Commands (frames.PubAck topic_id msg_id 0), moment) ∷ []
   pub doing : (after settings earlier).down.doing ≡ doings.Publishing
   pub asked : msg_id ≡ (after settings earlier).down.msg_id
-  pub first : IsFirst id (after settings earlier).down.queue
+  pub first : IsFirst (CameDown settings earlier) id (after settings earlier).down.queue
 
 -- The line of the first command, which no side will have, is on the disk.
 pub record LineKept (settings : Settings) (run : List Come) (id : ℕ) : Type 0 where
@@ -185,7 +211,7 @@ pub record LineKept (settings : Settings) (run : List Come) (id : ℕ) : Type 0 
   pub moment : ℕ
   pub comes : run ≡ earlier ++ (events.Kept line, moment) ∷ []
   pub doing : (after settings earlier).down.doing ≡ doings.Refusing line
-  pub first : IsFirst id (after settings earlier).down.queue
+  pub first : IsFirst (CameDown settings earlier) id (after settings earlier).down.queue
 
 -- The publication is one that the broker had kept, and that came because of a SUBSCRIBE.
 pub record IsOld (run : List Come) (id : ℕ) : Type 0 where
@@ -226,24 +252,34 @@ IsPacket May Came (packets.Publish (deliveries.Acknowledged id dup) retain topic
     × Carries item (packets.Publish (deliveries.Acknowledged id dup) retain topic body)
 IsPacket May Came packet = Unit {0}
 
+-- A gateway is given the octets and the name of a command that came.
+abbrev pub IsCommand : (Command → Type 0) → Frame → Type 0
+IsCommand Asked (frames.Publish flags topic msg_id body) =
+    (command : Command) × Asked command × (body ≡ command.body)
+IsCommand Asked (frames.Register topic_id msg_id name) =
+    (command : Command) × Asked command × (name ≡ command.topic)
+IsCommand Asked frame = Unit {0}
+
 abbrev pub IsJust : (ℕ → Type 0) → (ℕ → Type 0) → (ℕ → ℕ → ℕ → Type 0) → (ℕ → Type 0)
-    → (Item → Type 0) → Action → Type 0
-IsJust Good Done Own May Came (actions.ToField place frame) = IsFrame Good Own place frame
-IsJust Good Done Own May Came (actions.ToBroker packet) = IsPacket May Came packet
-IsJust Good Done Own May Came (actions.Reading number packet) =
+    → (Item → Type 0) → (Command → Type 0) → Action → Type 0
+IsJust Good Done Own May Came Asked (actions.ToField place frame) = IsFrame Good Own place frame
+IsJust Good Done Own May Came Asked (actions.ToCommands frame) = IsCommand Asked frame
+IsJust Good Done Own May Came Asked (actions.ToBroker packet) = IsPacket May Came packet
+IsJust Good Done Own May Came Asked (actions.Reading number packet) =
     (item : Item) × Came item × (item.number ≡ number) × Carries item packet
-IsJust Good Done Own May Came (actions.Store item) = Came item
-IsJust Good Done Own May Came (actions.Forget number) = Done number
-IsJust Good Done Own May Came action = Unit {0}
+IsJust Good Done Own May Came Asked (actions.Refuse line command why) = Asked command
+IsJust Good Done Own May Came Asked (actions.Store item) = Came item
+IsJust Good Done Own May Came Asked (actions.Forget number) = Done number
+IsJust Good Done Own May Came Asked action = Unit {0}
 
 -- What is to be done after a run acknowledges nothing without a reason: to a gateway what the
 -- broker or the spool has, to the broker what a gateway has accepted, what stands in a line on the
--- disk, and what is old. What goes to the broker and into the spool came. The spool forgets what
--- the broker has.
+-- disk, and what is old. What goes to the broker and into the spool came, and so did what goes to
+-- the gateway of the lane for commands and into a line. The spool forgets what the broker has.
 abbrev pub IsAllowed : Settings → List Come → Action → Type 0
 IsAllowed settings run action =
     IsJust (Answered settings run) (Handed settings run) (Brought settings run)
-      (MayTell settings run) (Came settings run) action
+      (MayTell settings run) (Came settings run) (CameDown settings run) action
 
 abbrev pub AreAllowed : Settings → List Come → List Action → Type 0
 AreAllowed settings run actions = AllByRecursion (IsAllowed settings run) actions
