@@ -34,7 +34,7 @@ pub(crate) struct Replicas<R: Replica> {
 
 impl<R: Replica> Made for Replicas<R> {
     fn make(said: &mut Said, call: &str, _is_second: bool) -> Option<Replicas<R>> {
-        let replica: R = replica_with(said, call != "prepare")?;
+        let replica: R = replica_with(said, call != "prepare" && call != "save")?;
         Some(Replicas {
             next: delta(said, &NEXT),
             stood: kept(said, &replica),
@@ -48,6 +48,8 @@ impl<R: Replica> Calls for Replicas<R> {
         match call {
             "empty" => show_empty::<R>(said),
             "prepare" => self.take(said),
+            "aside" => self.set_aside(said),
+            "save" => self.go_back(said),
             "ClientView::copy" => copy_view(said, &self.replica),
             call => self.read(said, call),
         }
@@ -71,6 +73,29 @@ impl<R: Replica> Replicas<R> {
         }
     }
 
+    /// Makes a place for what deltas replace, and puts back what lies there: nothing.
+    fn set_aside(&mut self, said: &mut Said) {
+        match self.replica.aside(said.alloc) {
+            Ok(aside) => {
+                self.replica.put_back(aside);
+                show(said, &self.replica);
+                said.answer();
+            }
+            Err(fault) => said.refuse(fault == TakeFault::Memory),
+        }
+    }
+
+    /// Takes the delta, and goes back. What is kept is then as it was; so it is after a refusal.
+    fn go_back(&mut self, said: &mut Said) {
+        let gone = save(said, &mut self.replica, &self.next);
+        said.stop_if_short(gone.is_err());
+        let stands = kept(said, &self.replica);
+        said.keep(stands.as_slice() == self.stood.as_slice());
+        if said.is_answered() {
+            said.octets(stands.as_slice());
+        }
+    }
+
     /// Asks for the clients, for what is kept, or for what is retained of all topics.
     fn read(&self, said: &mut Said, call: &str) {
         match call {
@@ -85,6 +110,25 @@ impl<R: Replica> Replicas<R> {
             _ => match_all(said, &self.replica),
         }
     }
+}
+
+/// Puts aside what a delta replaces, takes the delta, and goes back. A fault is of what is beside.
+fn save<R: Replica>(said: &mut Said, replica: &mut R, delta: &Delta) -> Result<(), TakeFault> {
+    let staged = replica.prepare(said.alloc, delta)?;
+    let mut aside = replica.aside(said.alloc)?;
+    match replica.save(said.alloc, &mut aside, &staged) {
+        Ok(()) => {
+            replica.commit(staged);
+            replica.put_back(aside);
+            said.answer();
+        }
+        Err(fault) => {
+            drop(staged);
+            drop(aside);
+            said.refuse(fault == TakeFault::Memory);
+        }
+    }
+    Ok(())
 }
 
 /// Makes an empty replica.
