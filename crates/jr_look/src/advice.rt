@@ -1,12 +1,11 @@
 //! Faults, and what to do.
 
 use crate::looking::Fault;
-use crate::shown::Name;
+use crate::page::Page;
 use jr_journal::{JournalFault, Slot};
 use jr_read::Misfit;
 use rep_model::{Limit, TakeFault};
 use rep_ops::Subject;
-use std::alloc::AllocError;
 
 /// What a record is told as that is none, at whatever place.
 const NO_RECORD: JournalFault = JournalFault::BadRecord {
@@ -53,50 +52,47 @@ pub(crate) fn slot_number(slot: Slot) -> u8 {
 }
 
 /// What is wrong, in words.
-pub(crate) fn words(text: &mut String, fault: &Fault) -> Result<(), AllocError> {
+pub(crate) fn words(page: &mut Page, fault: &Fault) {
     match fault {
-        Fault::Journal(JournalFault::Foreign) => text.push_str(
-            "no journal of this gateway: another header, no seal, or two slots of one generation",
-        ),
-        Fault::Journal(JournalFault::BadRecord { slot, at }) => bad_octets(text, *slot, *at),
-        Fault::Journal(fault) => write!(text, "{fault}"),
-        Fault::Record(misfit) => misfit_words(text, misfit),
+        Fault::Journal(fault) => journal_words(page, *fault),
+        Fault::Record(misfit) => misfit_words(page, misfit),
     }
 }
 
-/// Where octets are bad.
-fn bad_octets(text: &mut String, slot: Slot, at: usize) -> Result<(), AllocError> {
-    let number = slot_number(slot);
-    write!(
-        text,
-        "neither a record nor a seal at octet {at} of slot {number}"
-    )
+/// What is wrong with the journal.
+fn journal_words(page: &mut Page, fault: JournalFault) {
+    match fault {
+        JournalFault::Foreign => page.text(
+            "no journal of this gateway: another header, no seal, or two slots of one generation",
+        ),
+        JournalFault::BadRecord { slot, at } => {
+            page.value("neither a record nor a seal at octet ", at);
+            page.value(" of slot ", slot_number(slot));
+        }
+        _ => page.value("", fault),
+    }
 }
 
 /// What is wrong with a record beside those before it.
-fn misfit_words(text: &mut String, misfit: &Misfit) -> Result<(), AllocError> {
-    let before = misfit.before;
+fn misfit_words(page: &mut Page, misfit: &Misfit) {
     match &misfit.fault {
-        TakeFault::Conflict { of } => contradiction(text, before, of),
+        TakeFault::Conflict { of } => contradiction(page, misfit.before, of),
         TakeFault::Full { limit } => {
-            let limit = limit_words(*limit);
-            write!(text, "with record {before} there are too many {limit}")
+            page.value("with record ", misfit.before);
+            page.word(" there are too many ", limit_words(*limit));
         }
-        TakeFault::Memory => text.push_str("out of memory"),
+        TakeFault::Memory => page.text("out of memory"),
     }
 }
 
 /// Of what a record contradicts one in front of it.
-fn contradiction(text: &mut String, before: usize, of: &Subject) -> Result<(), AllocError> {
-    let (kind, name) = match of {
-        Subject::Client(client) => ("client", client.bytes()),
-        Subject::Topic(topic) => ("topic", topic.bytes()),
-    };
-    let name = Name(name);
-    write!(
-        text,
-        "record {before} contradicts one in front of it, of {kind} {name}"
-    )
+fn contradiction(page: &mut Page, before: usize, of: &Subject) {
+    page.value("record ", before);
+    page.text(" contradicts one in front of it, of ");
+    match of {
+        Subject::Client(client) => page.name("client ", client.bytes()),
+        Subject::Topic(topic) => page.name("topic ", topic.bytes()),
+    }
 }
 
 /// What there is too much of.

@@ -1,23 +1,24 @@
 //! Operations in words.
 
 use crate::clients::{exchange, session, will};
-use crate::shown::{Body, Name};
+use crate::page::Page;
 use rep_ops::{Op, Put, Retained, Stamp};
-use sn_session::{Message, Outbound, Presence, SessionOp, WillTopic};
+use sn_session::{Outbound, Presence, Session, SessionOp, WillTopic};
 use sn_tables::QosLevel;
-use std::alloc::AllocError;
 
 /// The lines of an operation.
-pub(crate) fn operation(text: &mut String, op: &Op) -> Result<(), AllocError> {
+pub(crate) fn operation(page: &mut Page, op: &Op) {
     if op.is_of_client() {
-        let client = Name(op.client().bytes());
-        write!(text, "  client {client} ")?;
+        page.name("  client ", op.client().bytes());
+        page.text(" ");
+    } else {
+        page.text("  ");
     }
-    operation_of(text, op)
+    operation_of(page, op);
 }
 
 /// The lines of an operation after its client, if it has one.
-fn operation_of(text: &mut String, op: &Op) -> Result<(), AllocError> {
+fn operation_of(page: &mut Page, op: &Op) {
     match op {
         Op::Session {
             stamp,
@@ -25,114 +26,83 @@ fn operation_of(text: &mut String, op: &Op) -> Result<(), AllocError> {
             change,
             ..
         } => {
-            stamped(text, stamp, *counter)?;
-            session_change(text, change)
+            stamped(page, stamp, *counter);
+            session_change(page, change);
         }
-        Op::Put { put, .. } => waiting(text, put),
+        Op::Put { put, .. } => waiting(page, put),
         Op::Ack {
             origin,
             first,
             last,
             ..
-        } => acknowledged(text, *origin, *first, *last),
-        Op::Retain { topic, retained } => {
-            text.push_str("  ")?;
-            retains(text, topic.bytes(), retained)
-        }
+        } => acknowledged(page, *origin, *first, *last),
+        Op::Retain { topic, retained } => retains(page, topic.bytes(), retained),
     }
 }
 
 /// The stamp of a session's change, and which change it is.
-fn stamped(text: &mut String, stamp: &Stamp, counter: u8) -> Result<(), AllocError> {
-    let epoch = stamp.epoch;
-    let gateway = stamp.gateway;
-    write!(text, "stamp {epoch}.{gateway} change {counter}: ")
+fn stamped(page: &mut Page, stamp: &Stamp, counter: u8) {
+    page.value("stamp ", stamp.epoch);
+    page.value(".", stamp.gateway);
+    page.value(" change ", counter);
+    page.text(": ");
 }
 
 /// The rest of the line of an acknowledgement.
-fn acknowledged(text: &mut String, origin: u8, first: u64, last: u64) -> Result<(), AllocError> {
-    writeln!(text, "has messages {first} to {last} of gateway {origin}")
+fn acknowledged(page: &mut Page, origin: u8, first: u64, last: u64) {
+    page.value("has messages ", first);
+    page.value(" to ", last);
+    page.value(" of gateway ", origin);
+    page.text("\n");
 }
 
 /// The line of what is retained of a topic.
-pub(crate) fn retains(
-    text: &mut String,
-    topic: &[u8],
-    retained: &Retained,
-) -> Result<(), AllocError> {
-    let topic = Name(topic);
-    let clock = retained.clock;
-    let gateway = retained.gateway;
-    write!(
-        text,
-        "topic {topic} retained under clock {clock}.{gateway}: "
-    )?;
-    arrives(text, retained.qos, retained.body.as_slice())?;
-    text.push_str("\n")
-}
-
-/// The quality of service of a message, and its body.
-fn arrives(text: &mut String, qos: QosLevel, body: &[u8]) -> Result<(), AllocError> {
-    let qos = qos.number();
-    let body = Body(body);
-    write!(text, "qos {qos}, {body}")
+pub(crate) fn retains(page: &mut Page, topic: &[u8], retained: &Retained) {
+    page.name("topic ", topic);
+    page.value(" retained under clock ", retained.clock);
+    page.value(".", retained.gateway);
+    page.value(": qos ", retained.qos.number());
+    page.body(", ", retained.body.as_slice());
+    page.text("\n");
 }
 
 /// The rest of the line of a message that waits.
-pub(crate) fn waiting(text: &mut String, put: &Put) -> Result<(), AllocError> {
-    let seq = put.seq;
-    let origin = put.origin;
-    let topic = Name(put.topic.bytes());
-    write!(
-        text,
-        "waits for message {seq} of gateway {origin}: {topic} "
-    )?;
-    arrives(text, put.qos, put.body.as_slice())?;
-    text.push_str(later_words(put.retain))
-}
-
-/// What stands after the body of a message.
-fn later_words(retain: bool) -> &'static str {
-    if retain { ", retained\n" } else { "\n" }
+pub(crate) fn waiting(page: &mut Page, put: &Put) {
+    page.value("waits for message ", put.seq);
+    page.value(" of gateway ", put.origin);
+    page.name(": ", put.topic.bytes());
+    page.value(" qos ", put.qos.number());
+    page.body(", ", put.body.as_slice());
+    page.text(if put.retain { ", retained\n" } else { "\n" });
 }
 
 /// The rest of the line of a session's change.
-fn session_change(text: &mut String, change: &SessionOp) -> Result<(), AllocError> {
+fn session_change(page: &mut Page, change: &SessionOp) {
     match change {
-        SessionOp::Take(taken) => {
-            text.push_str("taken over as ")?;
-            session(text, taken)
-        }
-        SessionOp::Presence { presence, duration } => presence_line(text, *presence, *duration),
-        SessionOp::WillTopic(topic) => will_topic(text, topic),
-        SessionOp::WillMsg(message) => will_message(text, message),
-        other => topics_change(text, other),
+        SessionOp::Take(taken) => taken_over(page, taken),
+        SessionOp::Presence { presence, duration } => moved(page, *presence, *duration),
+        SessionOp::Register { id, name, known } => registered(page, *id, name.bytes(), *known),
+        SessionOp::Subscribe { filter, qos } => subscribed(page, filter.bytes(), *qos),
+        SessionOp::Unsubscribe { filter } => unsubscribed(page, filter.bytes()),
+        SessionOp::WillTopic(topic) => will_topic(page, topic),
+        SessionOp::WillMsg(message) => will_message(page, message.as_slice()),
+        SessionOp::Received { id } => message_id(page, *id, "received"),
+        SessionOp::Released { id } => message_id(page, *id, "released"),
+        SessionOp::Outbound { exchange, next_id } => exchange_line(page, exchange, *next_id),
     }
 }
 
-/// The rest of the line of a change of a session's topic ids and subscriptions.
-fn topics_change(text: &mut String, change: &SessionOp) -> Result<(), AllocError> {
-    match change {
-        SessionOp::Register { id, name, known } => registered(text, *id, name.bytes(), *known),
-        SessionOp::Subscribe { filter, qos } => subscribed(text, filter.bytes(), *qos),
-        SessionOp::Unsubscribe { filter } => unsubscribed(text, filter.bytes()),
-        other => delivery_change(text, other),
-    }
+/// The client has a gateway that gives it this session.
+fn taken_over(page: &mut Page, taken: &Session) {
+    page.text("taken over as ");
+    session(page, taken);
 }
 
-/// The rest of the line of a change of what comes from a client and goes to it; nothing of another.
-fn delivery_change(text: &mut String, change: &SessionOp) -> Result<(), AllocError> {
-    match change {
-        SessionOp::Received { id } => message_id(text, *id, "received"),
-        SessionOp::Released { id } => message_id(text, *id, "released"),
-        SessionOp::Outbound { exchange, next_id } => exchange_line(text, exchange, *next_id),
-        _ => Ok(()),
-    }
-}
-
-/// What was done with a message id.
-fn message_id(text: &mut String, id: u16, done: &str) -> Result<(), AllocError> {
-    writeln!(text, "message id {id} was {done}")
+/// The client is elsewhere.
+fn moved(page: &mut Page, presence: Presence, duration: u16) {
+    page.text(presence_word(presence));
+    page.value(", ", duration);
+    page.text(" seconds\n");
 }
 
 /// Where the client is.
@@ -146,63 +116,57 @@ pub(crate) fn presence_word(presence: Presence) -> &'static str {
     }
 }
 
-/// The client is elsewhere.
-fn presence_line(text: &mut String, presence: Presence, duration: u16) -> Result<(), AllocError> {
-    let word = presence_word(presence);
-    writeln!(text, "{word}, {duration} seconds")
-}
-
 /// An id stands for a topic.
-pub(crate) fn registered(
-    text: &mut String,
-    id: u16,
-    topic: &[u8],
-    known: bool,
-) -> Result<(), AllocError> {
-    let topic = Name(topic);
-    let word = if known { "known" } else { "not known" };
-    writeln!(text, "topic id {id} is {topic}, {word} to the client")
+pub(crate) fn registered(page: &mut Page, id: u16, topic: &[u8], known: bool) {
+    page.value("topic id ", id);
+    page.name(" is ", topic);
+    page.text(if known {
+        ", known to the client\n"
+    } else {
+        ", not known to the client\n"
+    });
 }
 
 /// The client asks for topics.
-pub(crate) fn subscribed(
-    text: &mut String,
-    filter: &[u8],
-    qos: QosLevel,
-) -> Result<(), AllocError> {
-    let filter = Name(filter);
-    writeln!(text, "subscribed to {filter} qos {}", qos.number())
+pub(crate) fn subscribed(page: &mut Page, filter: &[u8], qos: QosLevel) {
+    page.name("subscribed to ", filter);
+    page.value(" qos ", qos.number());
+    page.text("\n");
 }
 
 /// The client no longer asks for topics.
-fn unsubscribed(text: &mut String, filter: &[u8]) -> Result<(), AllocError> {
-    let filter = Name(filter);
-    writeln!(text, "no longer subscribed to {filter}")
+fn unsubscribed(page: &mut Page, filter: &[u8]) {
+    page.name("no longer subscribed to ", filter);
+    page.text("\n");
 }
 
 /// The will has another topic.
-fn will_topic(text: &mut String, topic: &Option<WillTopic>) -> Result<(), AllocError> {
+fn will_topic(page: &mut Page, topic: &Option<WillTopic>) {
     match topic {
-        None => text.push_str("no will\n"),
-        Some(topic) => will(text, topic.topic.bytes(), topic.qos, topic.retain),
+        None => page.text("no will\n"),
+        Some(topic) => will(page, topic.topic.bytes(), topic.qos, topic.retain),
     }
 }
 
 /// The will has another message.
-fn will_message(text: &mut String, said: &Message) -> Result<(), AllocError> {
-    let body = Body(said.as_slice());
-    writeln!(text, "the will's message is {body}")
+pub(crate) fn will_message(page: &mut Page, message: &[u8]) {
+    page.body("the will's message is ", message);
+    page.text("\n");
+}
+
+/// What was done with a message id.
+fn message_id(page: &mut Page, id: u16, done: &str) {
+    page.value("message id ", id);
+    page.word(" was ", done);
+    page.text("\n");
 }
 
 /// The exchange goes on, or is over.
-fn exchange_line(
-    text: &mut String,
-    begun: &Option<Outbound>,
-    next_id: u16,
-) -> Result<(), AllocError> {
+fn exchange_line(page: &mut Page, begun: &Option<Outbound>, next_id: u16) {
     match begun {
-        None => text.push_str("no exchange")?,
-        Some(outbound) => exchange(text, *outbound)?,
+        None => page.text("no exchange"),
+        Some(outbound) => exchange(page, outbound),
     }
-    writeln!(text, ", the next message id is {next_id}")
+    page.value(", the next message id is ", next_id);
+    page.text("\n");
 }

@@ -7,6 +7,7 @@ use rep_model::{Replica, TakeFault};
 use rep_ops::Delta;
 use rep_state::Folded;
 use std::alloc::Global;
+use std::mem;
 
 /// Why an opening would refuse.
 #[derive(Drop)]
@@ -53,29 +54,37 @@ pub struct Findings {
     pub replica: Option<Folded>,
 }
 
-/// What there is to show of two slots. `asked` is the number of the gateway, where one was given.
+impl Findings {
+    /// Nothing yet. `asked` is the number of the gateway, where one was given.
+    pub(crate) fn none(asked: Option<u8>) -> Findings {
+        Findings {
+            gateway: asked,
+            told: None,
+            first: 0,
+            second: 0,
+            generations: [None, None],
+            is_fresh: false,
+            reading: None,
+            torn: None,
+            fault: None,
+            replica: None,
+        }
+    }
+}
+
+/// What there is to show of two slots.
 pub(crate) fn look_at(
     alloc: Global,
-    asked: Option<u8>,
+    seen: &mut Findings,
     first: &[u8],
     second: &[u8],
-) -> Result<Findings, Stop> {
-    let told = owner(first).or(owner(second));
-    let gateway = asked.or(told);
-    let mut seen = Findings {
-        gateway,
-        told,
-        first: first.len(),
-        second: second.len(),
-        generations: [generation(first), generation(second)],
-        is_fresh: false,
-        reading: None,
-        torn: None,
-        fault: None,
-        replica: None,
-    };
-    read_records(alloc, &mut seen, first, second)?;
-    Ok(seen)
+) -> Result<(), Stop> {
+    seen.told = owner(first).or(owner(second));
+    seen.gateway = seen.gateway.or(seen.told);
+    seen.first = first.len();
+    seen.second = second.len();
+    seen.generations = [generation(first), generation(second)];
+    read_records(alloc, seen, first, second)
 }
 
 /// Reads the records, or finds why an opening would refuse.
@@ -90,16 +99,24 @@ fn read_records(
         Ok(reading) => settle(alloc, seen, reading),
         Err(JournalFault::Memory) => Err(Stop::Memory),
         Err(fault) => {
-            seen.reading = front(alloc, gateway, first, second, fault);
-            seen.fault = Some(Fault::Journal(fault));
+            keep_reading(seen, front(alloc, gateway, first, second, fault));
+            keep_fault(seen, Fault::Journal(fault));
             Ok(())
         }
     }
 }
 
-/// What can be shown where a record is bad: the other slot where that is sound and newer, or where
-/// the bad record stands in front of its slot's seal, so that nothing there counts yet; else the
-/// records in front of it.
+/// The records that are shown.
+fn keep_reading(seen: &mut Findings, reading: Option<Reading>) {
+    drop(mem::replace(&mut seen.reading, reading));
+}
+
+/// Why an opening would refuse.
+fn keep_fault(seen: &mut Findings, fault: Fault) {
+    drop(mem::replace(&mut seen.fault, Some(fault)));
+}
+
+/// What can be shown where a record is bad; nothing where the fault is another.
 fn front(
     alloc: Global,
     gateway: u8,
@@ -107,57 +124,101 @@ fn front(
     second: &[u8],
     fault: JournalFault,
 ) -> Option<Reading> {
-    let JournalFault::BadRecord { slot, at } = fault else {
-        return None;
-    };
-    let (bad, other) = match slot {
-        Slot::First => (first, alone(alloc, gateway, Slot::Second, second)),
-        Slot::Second => (second, alone(alloc, gateway, Slot::First, first)),
-    };
-    let sound = other.filter(|it| !it.places.is_empty());
-    let octets = until(bad, at);
-    match better(sound, alone(alloc, gateway, slot, octets)) {
-        Some(found) => Some(found),
-        None => base(alloc, gateway, slot, octets),
+    match fault {
+        JournalFault::BadRecord {
+            slot: Slot::First,
+            at,
+        } => {
+            let other = sound(alloc, gateway, Slot::Second, second);
+            newest(alloc, gateway, Slot::First, until(first, at), other)
+        }
+        JournalFault::BadRecord {
+            slot: Slot::Second,
+            at,
+        } => {
+            let other = sound(alloc, gateway, Slot::First, first);
+            newest(alloc, gateway, Slot::Second, until(second, at), other)
+        }
+        _ => None,
     }
 }
 
-/// The sound slot if it is newer than what stands in front of a bad record, else that, if there is
-/// any.
-fn better(sound: Option<Reading>, own: Option<Reading>) -> Option<Reading> {
-    if is_newer(&sound, &own) {
-        return sound;
+/// What can be shown where a record is bad: the other slot where that is sound and newer, or where
+/// the bad record stands in front of its slot's seal, so that nothing there counts yet; else the
+/// records in front of it, which are in these octets.
+fn newest(
+    alloc: Global,
+    gateway: u8,
+    slot: Slot,
+    octets: &[u8],
+    other: Option<Reading>,
+) -> Option<Reading> {
+    let own = alone(alloc, gateway, slot, octets);
+    if is_newer(&other, &own) {
+        drop(own);
+        other
+    } else if own.is_some() {
+        drop(other);
+        own
+    } else {
+        drop(own);
+        drop(other);
+        base(alloc, gateway, slot, octets)
     }
-    own.or(sound)
 }
 
-/// Whether both are there and the first has the greater generation.
-fn is_newer(sound: &Option<Reading>, own: &Option<Reading>) -> bool {
-    match (sound, own) {
-        (Some(sound), Some(own)) => sound.generation > own.generation,
-        _ => false,
+/// Whether the first is there, and the second is not or has a smaller generation.
+fn is_newer(other: &Option<Reading>, own: &Option<Reading>) -> bool {
+    match (other, own) {
+        (Some(other), Some(own)) => other.generation > own.generation,
+        (Some(_), None) => true,
+        (None, _) => false,
+    }
+}
+
+/// What an opening reads of a slot, where the other one is empty and this one has records.
+fn sound(alloc: Global, gateway: u8, slot: Slot, octets: &[u8]) -> Option<Reading> {
+    let found = alone(alloc, gateway, slot, octets);
+    if has_records(&found) {
+        found
+    } else {
+        drop(found);
+        None
+    }
+}
+
+/// Whether something was read, and has records.
+fn has_records(found: &Option<Reading>) -> bool {
+    match found {
+        Some(reading) => !reading.places.is_empty(),
+        None => false,
     }
 }
 
 /// These octets as a base that ends with them, where there is nothing else to show.
 fn base(alloc: Global, gateway: u8, slot: Slot, octets: &[u8]) -> Option<Reading> {
-    let sealed = sealed(alloc, octets)?;
-    alone(alloc, gateway, slot, sealed.as_slice())
+    let mut sealed = Vec::new(alloc);
+    let found = if seal(&mut sealed, octets) {
+        alone(alloc, gateway, slot, sealed.as_slice())
+    } else {
+        None
+    };
+    drop(sealed);
+    found
 }
 
-/// These octets with a seal after them.
-fn sealed(alloc: Global, octets: &[u8]) -> Option<Vec<u8>> {
-    let mut sealed = Vec::from_slice(alloc, octets).ok()?;
-    sealed.push(SEAL).ok()?;
-    Some(sealed)
+/// Adds these octets and a seal, unless memory runs out.
+fn seal(sealed: &mut Vec<u8>, octets: &[u8]) -> bool {
+    sealed.extend_from_slice(octets).is_ok() && sealed.push(SEAL).is_ok()
 }
 
 /// What an opening reads of a slot, where the other one is empty.
 fn alone(alloc: Global, gateway: u8, slot: Slot, octets: &[u8]) -> Option<Reading> {
-    match slot {
-        Slot::First => read(alloc, gateway, octets, &[]).ok(),
-        Slot::Second => read(alloc, gateway, &[], octets).ok(),
-    }
+    let found = match slot {
+        Slot::First => read(alloc, gateway, octets, &[]),
+        Slot::Second => read(alloc, gateway, &[], octets),
+    };
+    found.ok()
 }
 
 /// The octets in front of a place, or all where there are fewer.
@@ -172,9 +233,9 @@ fn until(octets: &[u8], at: usize) -> &[u8] {
 /// The records are read, and are taken one after the other.
 fn settle(alloc: Global, seen: &mut Findings, reading: Reading) -> Result<(), Stop> {
     find_end(seen, &reading);
-    take_records(alloc, seen, reading.records.as_slice())?;
-    seen.reading = Some(reading);
-    Ok(())
+    let taken = take_records(alloc, seen, reading.records.as_slice());
+    keep_reading(seen, Some(reading));
+    taken
 }
 
 /// Whether there is no journal yet, and what the end cuts.
@@ -195,23 +256,36 @@ fn find_end(seen: &mut Findings, reading: &Reading) {
 
 /// The records are taken one after the other.
 fn take_records(alloc: Global, seen: &mut Findings, records: &[Delta]) -> Result<(), Stop> {
-    let Ok(mut replica) = Folded::empty(alloc) else {
-        return Err(Stop::Memory);
-    };
-    match take_all(alloc, &mut replica, records) {
+    match Folded::empty(alloc) {
+        Ok(mut replica) => {
+            let taken = take_all(alloc, &mut replica, records);
+            keep_replica(seen, replica, taken)
+        }
+        Err(_) => Err(Stop::Memory),
+    }
+}
+
+/// What the records come to; unless one does not fit, or memory ran out.
+fn keep_replica(
+    seen: &mut Findings,
+    replica: Folded,
+    taken: Result<(), Misfit>,
+) -> Result<(), Stop> {
+    match taken {
         Ok(()) => {
-            seen.replica = Some(replica);
+            drop(mem::replace(&mut seen.replica, Some(replica)));
             Ok(())
         }
-        Err(misfit) => refuse(seen, misfit),
+        Err(misfit) => {
+            drop(replica);
+            refuse(seen, misfit)
+        }
     }
 }
 
 /// A record does not fit, or memory ran out.
 fn refuse(seen: &mut Findings, misfit: Misfit) -> Result<(), Stop> {
-    if matches!(&misfit.fault, TakeFault::Memory) {
-        return Err(Stop::Memory);
-    }
-    seen.fault = Some(Fault::Record(misfit));
-    Ok(())
+    let is_memory = matches!(&misfit.fault, TakeFault::Memory);
+    keep_fault(seen, Fault::Record(misfit));
+    if is_memory { Err(Stop::Memory) } else { Ok(()) }
 }

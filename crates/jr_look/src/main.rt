@@ -3,7 +3,7 @@
 //! - `words`: the words of the command line.
 //! - `slots`: the two files.
 //! - `looking`: what there is to show (`Findings`).
-//! - `shown`: octets as text.
+//! - `page`: what is printed.
 //! - `plain`, `changes`, `clients`: a report in words.
 //! - `object`, `members`: a report as a JSON object.
 //! - `advice`: faults, and what to do.
@@ -15,17 +15,18 @@ mod clients;
 mod looking;
 mod members;
 mod object;
+mod page;
 mod plain;
-mod shown;
 mod slots;
 mod stop;
 mod words;
 
 use crate::looking::{Findings, look_at};
-use crate::slots::slot_at;
+use crate::page::Page;
+use crate::slots::read_slot;
 use crate::stop::Stop;
 use crate::words::{Options, read_words};
-use std::alloc::{AllocError, Global};
+use std::alloc::Global;
 use std::env::Env;
 use std::fs::{File, Files};
 use std::io::Write;
@@ -58,66 +59,112 @@ fn look<T: Env + Files<File = File>, O: Write>(
     alloc: Global,
     out: &mut O,
 ) -> Result<bool, Stop> {
-    let Some(asked) = asked(rt, alloc) else {
-        return Err(Stop::Arguments);
-    };
-    let is_json = asked.is_json;
-    let seen = findings(rt, alloc, &asked);
-    drop(asked);
-    show(alloc, out, seen?, is_json)
-}
-
-/// Prints what was found. Says whether an opening would take the journal.
-fn show<O: Write>(alloc: Global, out: &mut O, seen: Findings, is_json: bool) -> Result<bool, Stop> {
-    let is_sound = seen.fault.is_none();
-    let printed = print(alloc, out, &seen, is_json);
-    drop(seen);
-    printed?;
-    Ok(is_sound)
-}
-
-/// Reads both files, and finds what there is to show.
-fn findings<T: Files<File = File>>(
-    rt: &T,
-    alloc: Global,
-    asked: &Options,
-) -> Result<Findings, Stop> {
-    let first = slot_at(rt, alloc, asked.path.as_str(), "0")?;
-    let second = slot_at(rt, alloc, asked.path.as_str(), "1")?;
-    look_at(alloc, asked.gateway, first.as_slice(), second.as_slice())
-}
-
-/// Prints the report.
-fn print<O: Write>(alloc: Global, out: &mut O, seen: &Findings, is_json: bool) -> Result<(), Stop> {
-    let text = report(alloc, seen, is_json)?;
-    match out.write_all(text.as_bytes()) {
-        Ok(()) => Ok(()),
-        Err(_) => Err(Stop::Output),
+    match asked(rt, alloc) {
+        None => Err(Stop::Arguments),
+        Some(asked) => {
+            let looked = look_by(rt, alloc, out, &asked);
+            drop(asked);
+            looked
+        }
     }
-}
-
-/// The report.
-fn report(alloc: Global, seen: &Findings, is_json: bool) -> Result<String, AllocError> {
-    let mut text = String::new(alloc);
-    if is_json {
-        object::report(alloc, &mut text, seen)?;
-    } else {
-        plain::report(alloc, &mut text, seen)?;
-    }
-    Ok(text)
 }
 
 /// What the command line asks for.
 fn asked<T: Env>(rt: &T, alloc: Global) -> Option<Options> {
-    let mut words = Vec::new(alloc);
-    add_words(rt, alloc, &mut words)?;
-    read_words(alloc, words.as_slice())
+    match given(rt, alloc) {
+        None => None,
+        Some(words) => {
+            let options = read_words(alloc, words.as_slice());
+            drop(words);
+            options
+        }
+    }
 }
 
-/// Adds the words of the command line.
-fn add_words<T: Env>(rt: &T, alloc: Global, words: &mut Vec<String>) -> Option<()> {
-    for word in env::args(&(rt, alloc)).ok()? {
-        words.push(word).ok()?;
+/// The words of the command line, the program's name first.
+fn given<T: Env>(rt: &T, alloc: Global) -> Option<Vec<String>> {
+    match env::args(&(rt, alloc)) {
+        Ok(words) => words.collect(alloc).ok(),
+        Err(_) => None,
     }
-    Some(())
+}
+
+/// Reads both files, and prints what there is to show.
+fn look_by<T: Files<File = File>, O: Write>(
+    rt: &T,
+    alloc: Global,
+    out: &mut O,
+    asked: &Options,
+) -> Result<bool, Stop> {
+    let mut seen = Findings::none(asked.gateway);
+    let shown = match find(rt, alloc, asked.path.as_str(), &mut seen) {
+        Ok(()) => show(alloc, out, &seen, asked.is_json),
+        Err(stop) => Err(stop),
+    };
+    drop(seen);
+    shown
+}
+
+/// Reads both files, and finds what there is to show.
+fn find<T: Files<File = File>>(
+    rt: &T,
+    alloc: Global,
+    path: &str,
+    seen: &mut Findings,
+) -> Result<(), Stop> {
+    let mut first = Vec::new(alloc);
+    let mut second = Vec::new(alloc);
+    let found = match read_both(rt, alloc, path, &mut first, &mut second) {
+        Ok(()) => look_at(alloc, seen, first.as_slice(), second.as_slice()),
+        Err(stop) => Err(stop),
+    };
+    drop(second);
+    drop(first);
+    found
+}
+
+/// Adds all octets of both files.
+fn read_both<T: Files<File = File>>(
+    rt: &T,
+    alloc: Global,
+    path: &str,
+    first: &mut Vec<u8>,
+    second: &mut Vec<u8>,
+) -> Result<(), Stop> {
+    match read_slot(rt, alloc, first, path, "0") {
+        Ok(()) => read_slot(rt, alloc, second, path, "1"),
+        Err(stop) => Err(stop),
+    }
+}
+
+/// Prints what was found. Says whether an opening would take the journal.
+fn show<O: Write>(
+    alloc: Global,
+    out: &mut O,
+    seen: &Findings,
+    is_json: bool,
+) -> Result<bool, Stop> {
+    let mut page = Page::new(alloc);
+    if is_json {
+        object::report(&mut page, seen);
+    } else {
+        plain::report(&mut page, seen);
+    }
+    let written = write(out, &page);
+    drop(page);
+    match written {
+        Ok(()) => Ok(seen.fault.is_none()),
+        Err(stop) => Err(stop),
+    }
+}
+
+/// Writes a page.
+fn write<O: Write>(out: &mut O, page: &Page) -> Result<(), Stop> {
+    match page.whole() {
+        None => Err(Stop::Memory),
+        Some(text) => match out.write_all(text.as_bytes()) {
+            Ok(()) => Ok(()),
+            Err(_) => Err(Stop::Output),
+        },
+    }
 }

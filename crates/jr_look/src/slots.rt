@@ -8,17 +8,22 @@ use std::io::{self, Read};
 /// The most octets that are read of a file, 1 GiB.
 const MAX_SLOT: u64 = 1_073_741_824;
 
-/// All octets of a slot's file, which is opened for reading alone.
-pub(crate) fn slot_at<T: Files<File = File>>(
+/// Adds all octets of a slot's file, which is opened for reading alone.
+pub(crate) fn read_slot<T: Files<File = File>>(
     rt: &T,
     alloc: Global,
+    octets: &mut Vec<u8>,
     path: &str,
     ending: &'static str,
-) -> Result<Vec<u8>, Stop> {
-    let name = format!(in alloc; "{path}.{ending}")?;
-    let mut octets = Vec::new(alloc);
-    read_file(rt, &mut octets, name.as_str(), ending)?;
-    Ok(octets)
+) -> Result<(), Stop> {
+    match format!(in alloc; "{path}.{ending}") {
+        Ok(name) => {
+            let done = read_file(rt, octets, name.as_str(), ending);
+            drop(name);
+            done
+        }
+        Err(_) => Err(Stop::Memory),
+    }
 }
 
 /// Adds all octets of a file.
@@ -28,21 +33,24 @@ fn read_file<T: Files<File = File>>(
     name: &str,
     ending: &'static str,
 ) -> Result<(), Stop> {
-    let file = match File::open(rt, name) {
-        Ok(file) => file,
-        Err(error) => return Err(unreadable(ending, &error)),
-    };
-    if let Err(error) = file.take(MAX_SLOT + 1).read_to_end(octets) {
-        return Err(unreadable(ending, &error));
+    match File::open(rt, name) {
+        Ok(file) => read_all(file, octets, ending),
+        Err(error) => Err(unreadable(ending, error)),
     }
-    if octets.len() as u64 > MAX_SLOT {
-        return Err(Stop::Long { ending });
+}
+
+/// Adds all octets of an open file.
+fn read_all(file: File, octets: &mut Vec<u8>, ending: &'static str) -> Result<(), Stop> {
+    match file.take(MAX_SLOT + 1).read_to_end(octets) {
+        Ok(_) if octets.len() as u64 > MAX_SLOT => Err(Stop::Long { ending }),
+        Ok(_) => Ok(()),
+        Err(error) => Err(unreadable(ending, error)),
     }
-    Ok(())
 }
 
 /// What is said of a file that cannot be read.
-fn unreadable(ending: &'static str, error: &io::Error) -> Stop {
+fn unreadable(ending: &'static str, error: io::Error) -> Stop {
     let kind = error.kind();
+    drop(error);
     Stop::File { ending, kind }
 }

@@ -17,8 +17,14 @@ pub struct Options {
 /// Reads the words, the program's name first. Nothing where they do not parse, `--help` among them,
 /// or where memory ran out.
 pub(crate) fn read_words(alloc: Global, words: &[String]) -> Option<Options> {
-    let matches = matched(alloc, words)?;
-    found(alloc, &matches)
+    match matched(alloc, words) {
+        None => None,
+        Some(matches) => {
+            let options = found(alloc, &matches);
+            drop(matches);
+            options
+        }
+    }
 }
 
 /// The words, matched with the command line.
@@ -56,10 +62,20 @@ fn json<'a>(alloc: Global) -> Arg<'a> {
 
 /// What was found on the command line.
 fn found(alloc: Global, matches: &ArgMatches<'_>) -> Option<Options> {
-    let path = String::from_str(alloc, matches.get_str("path")?).ok()?;
-    Some(Options {
-        path,
-        gateway: matches.get_one::<u8>("gateway"),
-        is_json: matches.get_flag("json"),
-    })
+    match path_in(alloc, matches) {
+        None => None,
+        Some(path) => Some(Options {
+            path,
+            gateway: matches.get_one::<u8>("gateway"),
+            is_json: matches.get_flag("json"),
+        }),
+    }
+}
+
+/// The path that was found.
+fn path_in(alloc: Global, matches: &ArgMatches<'_>) -> Option<String> {
+    match matches.get_str("path") {
+        None => None,
+        Some(path) => String::from_str(alloc, path).ok(),
+    }
 }

@@ -7,7 +7,7 @@ use crate::retries::call_all;
 use crate::runs::Runs;
 use crate::values::{print_journal_fault, slot, slot_word};
 use crate::words::Words;
-use jr_journal::{JournalFault, MemoryDisk, OnceCall, OnceDisk, Slot};
+use jr_journal::{Journal, JournalFault, MemoryDisk, OnceCall, OnceDisk, Slot};
 use rep_ops::Delta;
 
 /// What is tried at each place.
@@ -29,20 +29,34 @@ fn disk_with(page: &mut Page, held: &Held) -> MemoryDisk {
     disk
 }
 
+/// The journal on a disk, and how many records it has; prints why there is none.
+fn opened(said: &mut Page, disk: MemoryDisk, gateway: u8) -> Option<(Journal<MemoryDisk>, usize)> {
+    match calls::open(said.alloc, disk, gateway) {
+        Ok((journal, deltas)) => {
+            let count = deltas.len();
+            drop(deltas);
+            Some((journal, count))
+        }
+        Err((disk, fault)) => {
+            print_refusal(said, fault, disk.starved());
+            drop(disk);
+            None
+        }
+    }
+}
+
 /// How many records an opening reads, and in which slot, or why none.
 pub(crate) fn opening(said: &mut Page, disk: MemoryDisk, gateway: u8) {
-    match calls::open(said.alloc, disk, gateway) {
-        Ok((journal, deltas)) => print_read(said, deltas.len(), journal.slot()),
-        Err((disk, fault)) => print_refusal(said, fault, disk.starved()),
+    if let Some((journal, count)) = opened(said, disk, gateway) {
+        print_read(said, count, journal.slot());
+        drop(journal);
     }
 }
 
 /// A number of records in a slot.
 fn print_read(said: &mut Page, count: usize, slot: Slot) {
-    said.word("records");
-    said.word(count);
-    said.word("in");
-    said.word(slot_word(slot));
+    said.labelled("records", count);
+    said.labelled("in", slot_word(slot));
 }
 
 /// A refusal.
@@ -53,21 +67,20 @@ fn print_refusal(said: &mut Page, fault: JournalFault, is_starved: bool) {
 
 /// How many records an opening reads, and what their slot holds after it.
 fn opening_whole(said: &mut Page, disk: MemoryDisk, gateway: u8) {
-    match calls::open(said.alloc, disk, gateway) {
-        Ok((journal, deltas)) => {
-            let slot = journal.slot();
-            print_read(said, deltas.len(), slot);
-            print_held(said, &mut journal.into_disk(), slot);
-        }
-        Err((disk, fault)) => print_refusal(said, fault, disk.starved()),
+    if let Some((journal, count)) = opened(said, disk, gateway) {
+        let slot = journal.slot();
+        print_read(said, count, slot);
+        print_held(said, journal.into_disk(), slot);
     }
 }
 
 /// What a slot holds.
-fn print_held(said: &mut Page, disk: &mut MemoryDisk, slot: Slot) {
-    let octets = octets_of(said, disk, slot);
+fn print_held(said: &mut Page, mut disk: MemoryDisk, slot: Slot) {
+    let octets = octets_of(said, &mut disk, slot);
     said.text(",");
     said.digits(&octets);
+    drop(octets);
+    drop(disk);
 }
 
 /// `openings GATEWAY SLOT`: an opening where each beginning of the octets stands after what the
@@ -78,6 +91,7 @@ pub(crate) fn openings(page: &mut Page, store: &mut Store, octets: &[u8], words:
     if words.end() {
         open_each(page, &held, gateway, slot, octets);
     }
+    drop(held);
 }
 
 /// The openings after each beginning of the octets.
@@ -88,6 +102,7 @@ fn open_each(page: &mut Page, held: &Held, gateway: u8, slot: Slot, octets: &[u8
         runs.add(page, end);
     }
     runs.finish(page);
+    drop(runs);
 }
 
 /// An opening where octets stand after what the slot has.
@@ -129,6 +144,7 @@ pub(crate) fn tried(
     if words.end() {
         try_each(page, &held, gateway, most, trial);
     }
+    drop(held);
 }
 
 /// What a trial gives at each place.
@@ -140,6 +156,7 @@ fn try_each(page: &mut Page, held: &Held, gateway: u8, most: usize, trial: &Tria
         runs.add(page, far);
     }
     runs.finish(page);
+    drop(runs);
 }
 
 /// What a trial gives at a place.
@@ -161,23 +178,17 @@ fn stopped(mut disk: MemoryDisk, far: usize) -> MemoryDisk {
 
 /// One such append.
 fn append_on(said: &mut Page, disk: MemoryDisk, gateway: u8, delta: &Delta) {
-    match calls::open(said.alloc, disk, gateway) {
-        Ok((mut journal, _deltas)) => {
-            let outcome = calls::append(said.alloc, &mut journal, delta);
-            behind_crash(said, journal.into_disk(), gateway, outcome);
-        }
-        Err((disk, fault)) => print_refusal(said, fault, disk.starved()),
+    if let Some((mut journal, _count)) = opened(said, disk, gateway) {
+        let outcome = calls::append(said.alloc, &mut journal, delta);
+        behind_crash(said, journal.into_disk(), gateway, outcome);
     }
 }
 
 /// One such compaction.
 fn compact_on(said: &mut Page, disk: MemoryDisk, gateway: u8, base: &[Delta]) {
-    match calls::open(said.alloc, disk, gateway) {
-        Ok((mut journal, _deltas)) => {
-            let outcome = calls::compact(said.alloc, &mut journal, base);
-            behind_crash(said, journal.into_disk(), gateway, outcome);
-        }
-        Err((disk, fault)) => print_refusal(said, fault, disk.starved()),
+    if let Some((mut journal, _count)) = opened(said, disk, gateway) {
+        let outcome = calls::compact(said.alloc, &mut journal, base);
+        behind_crash(said, journal.into_disk(), gateway, outcome);
     }
 }
 

@@ -5,12 +5,26 @@ use crate::values::{phase, presence};
 use crate::words::{Words, octets_of};
 use sn_session::{Outbound, Session, SessionOp, WillTopic};
 
-/// The change that the words say; `take` holds the session that was described. A change of words
-/// that are wrong is none: `Words::end` tells.
-pub(crate) fn change(words: &mut Words<'_>, session: &Session) -> Option<SessionOp> {
+/// The change that the words say, if all were right, and none is left; `take` holds the session that
+/// was described.
+pub(crate) fn last_change(words: &mut Words<'_>, session: &Session) -> Option<SessionOp> {
+    let change = change(words, session);
+    if words.end() {
+        change
+    } else {
+        drop(change);
+        None
+    }
+}
+
+/// The change that the words say.
+fn change(words: &mut Words<'_>, session: &Session) -> Option<SessionOp> {
     match words.word() {
         "take" => taken(words, session),
-        "presence" => Some(elsewhere(words)),
+        "presence" => Some(SessionOp::Presence {
+            presence: presence(words),
+            duration: words.small_number(),
+        }),
         "register" => registered(words),
         "subscribe" => subscribed(words),
         "unsubscribe" => unsubscribed(words),
@@ -23,8 +37,12 @@ fn later_change(words: &mut Words<'_>, first: &str) -> Option<SessionOp> {
     match first {
         "will" => will_topic(words),
         "message" => will_message(words),
-        "received" => Some(received(words)),
-        "released" => Some(released(words)),
+        "received" => Some(SessionOp::Received {
+            id: words.small_number(),
+        }),
+        "released" => Some(SessionOp::Released {
+            id: words.small_number(),
+        }),
         "exchange" => Some(exchange(words)),
         _ => {
             words.fail(Stop::Line);
@@ -34,21 +52,13 @@ fn later_change(words: &mut Words<'_>, first: &str) -> Option<SessionOp> {
 }
 
 /// A gateway takes the client over.
-fn taken(words: &mut Words<'_>, session: &Session) -> Option<SessionOp> {
+pub(crate) fn taken(words: &mut Words<'_>, session: &Session) -> Option<SessionOp> {
     match session.copied(words.alloc) {
         Ok(copy) => Some(SessionOp::Take(copy)),
         Err(_) => {
             words.fail(Stop::Memory);
             None
         }
-    }
-}
-
-/// `presence WHERE SECONDS`
-fn elsewhere(words: &mut Words<'_>) -> SessionOp {
-    SessionOp::Presence {
-        presence: presence(words),
-        duration: words.small_number(),
     }
 }
 
@@ -73,7 +83,8 @@ fn subscribed(words: &mut Words<'_>) -> Option<SessionOp> {
 
 /// `unsubscribe FILTER`
 fn unsubscribed(words: &mut Words<'_>) -> Option<SessionOp> {
-    match words.filter() {
+    let filter = words.octets();
+    match words.filter_of(filter) {
         Some(filter) => Some(SessionOp::Unsubscribe { filter }),
         None => None,
     }
@@ -103,23 +114,10 @@ fn will_on(words: &mut Words<'_>, name: &[u8]) -> Option<WillTopic> {
 
 /// `message BODY`
 fn will_message(words: &mut Words<'_>) -> Option<SessionOp> {
-    match words.message() {
+    let body = words.octets();
+    match words.message_of(body) {
         Some(message) => Some(SessionOp::WillMsg(message)),
         None => None,
-    }
-}
-
-/// `received ID`
-fn received(words: &mut Words<'_>) -> SessionOp {
-    SessionOp::Received {
-        id: words.small_number(),
-    }
-}
-
-/// `released ID`
-fn released(words: &mut Words<'_>) -> SessionOp {
-    SessionOp::Released {
-        id: words.small_number(),
     }
 }
 

@@ -49,7 +49,7 @@ use sn_topic::Predefined;
 /// What the lines of a row have brought about.
 #[derive(Drop)]
 pub(crate) struct Row {
-    /// The frame that the last `frame` has read.
+    /// The frame that the last `frame` has read, with the octets of the last `with` after it.
     frame: Option<Frame>,
     /// The predefined ids of the last `table` that was taken.
     table: Option<Predefined>,
@@ -67,7 +67,7 @@ pub(crate) fn begin() -> Row {
 pub(crate) fn play(page: &mut Page, row: &mut Row, words: &mut Words<'_>) {
     match words.first {
         "frame" => frames::frame(page, &mut row.frame, words),
-        "with" => frames::with(page, &row.frame, words),
+        "with" => frames::with(page, &mut row.frame, words),
         "types" => frames::types(page, words),
         "bodies" => frames::bodies(page, words),
         "beginnings" => frames::beginnings(page, words),
@@ -82,13 +82,6 @@ fn play_topic(page: &mut Page, table: &mut Option<Predefined>, words: &mut Words
         "filter" => topics::filter(page, words),
         "match" => topics::asked(page, words),
         "table" => topics::table(page, table, words),
-        _ => play_id(page, table, words),
-    }
-}
-
-/// Plays a line about predefined ids.
-fn play_id(page: &mut Page, table: &Option<Predefined>, words: &mut Words<'_>) {
-    match words.first {
         "id" => topics::id(page, table, words),
         "of" => topics::name_of(page, table, words),
         _ => words.fail(Stop::Line),

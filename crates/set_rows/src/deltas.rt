@@ -5,7 +5,7 @@ use crate::page::Page;
 use crate::printing::print_delta;
 use crate::runs::Runs;
 use crate::stop::Stop;
-use crate::values::{ops_word, print_ops_fault};
+use crate::values::{print_ops_fault, print_ops_refusal};
 use crate::words::Words;
 use rep_ops::{ClientId, Delta, Op, OpsFault};
 
@@ -23,7 +23,10 @@ pub(crate) fn made(page: &mut Page, ops: Vec<Op>) -> Option<Delta> {
 /// A delta, or why there is none.
 pub(crate) fn print_read(page: &mut Page, read: Result<Delta, OpsFault>) {
     match read {
-        Ok(delta) => print_delta(page, &delta),
+        Ok(delta) => {
+            print_delta(page, &delta);
+            drop(delta);
+        }
         Err(fault) => print_ops_fault(page, fault),
     }
 }
@@ -74,9 +77,16 @@ fn play_counting(page: &mut Page, octets: &[u8], words: &mut Words<'_>) {
     match words.first {
         "count" => counted(page, octets),
         "beginnings" => beginnings(page, octets),
-        "none" => print_delta(page, &Delta::empty(page.alloc)),
+        "none" => none(page),
         _ => named(page, words),
     }
+}
+
+/// `none`: the delta of no operations.
+fn none(page: &mut Page) {
+    let delta = Delta::empty(page.alloc);
+    print_delta(page, &delta);
+    drop(delta);
 }
 
 /// `client NAME`: whether a client may have this name.
@@ -84,7 +94,10 @@ fn named(page: &mut Page, words: &mut Words<'_>) {
     let name = words.octets();
     if words.end() {
         match ClientId::new(page.alloc, name) {
-            Ok(client) => page.named("client", client.bytes()),
+            Ok(client) => {
+                page.named("client", client.bytes());
+                drop(client);
+            }
             Err(fault) => print_ops_fault(page, fault),
         }
     }
@@ -99,8 +112,7 @@ fn print(page: &mut Page, octets: &[u8]) {
 /// `size`: how many octets there are.
 fn size(page: &mut Page, octets: &[u8]) {
     page.word(octets.len());
-    page.word("octets");
-    page.end();
+    page.line(" octets");
 }
 
 /// `count`: how many operations the delta has that the octets spell.
@@ -112,37 +124,29 @@ fn counted(page: &mut Page, octets: &[u8]) {
 /// How many operations octets spell, or why none.
 fn answer(page: &mut Page, octets: &[u8]) {
     match calls::read_delta(page.alloc, octets) {
-        Ok(delta) => print_answer(page, "operations", delta.ops().len()),
-        Err(fault) => print_refusal(page, fault),
+        Ok(delta) => {
+            page.labelled("operations", delta.ops().len());
+            drop(delta);
+        }
+        Err(fault) => print_ops_refusal(page, fault),
     }
-}
-
-/// A number after a word.
-fn print_answer(page: &mut Page, what: &str, count: usize) {
-    page.word(what);
-    page.word(count);
-}
-
-/// Why octets are refused.
-fn print_refusal(page: &mut Page, fault: OpsFault) {
-    if matches!(fault, OpsFault::Memory) {
-        page.run_out();
-    }
-    page.word("refused");
-    page.word(ops_word(fault));
 }
 
 /// `altered AT HEX`: what the octets are read as where one of them is another; they stay.
 fn altered(page: &mut Page, octets: &[u8], words: &mut Words<'_>) {
     match Vec::from_slice(page.alloc, octets) {
-        Ok(mut copy) => {
-            set(&mut copy, words);
-            if words.end() {
-                counted(page, &copy);
-            }
-        }
+        Ok(copy) => count_altered(page, copy, words),
         Err(_) => page.run_out(),
     }
+}
+
+/// What octets are read as where one of them is another.
+fn count_altered(page: &mut Page, mut octets: Vec<u8>, words: &mut Words<'_>) {
+    set(&mut octets, words);
+    if words.end() {
+        counted(page, &octets);
+    }
+    drop(octets);
 }
 
 /// `beginnings`: what each beginning of the octets is read as, but all of them.
@@ -153,26 +157,27 @@ fn beginnings(page: &mut Page, octets: &[u8]) {
         runs.add(page, end);
     }
     runs.finish(page);
+    drop(runs);
 }
 
 /// `set AT HEX`: one octet is another.
 fn set(octets: &mut Vec<u8>, words: &mut Words<'_>) {
     let at = words.count();
     let given = words.digits();
-    if let [octet] = given.as_slice() {
-        if words.end() {
-            put(octets, words, at, *octet);
-        }
-    } else {
-        words.fail(Stop::Line);
+    match given.as_slice() {
+        [octet] => put(octets, words, at, *octet),
+        _ => words.fail(Stop::Line),
     }
+    drop(given);
 }
 
-/// Puts an octet in the place of another.
+/// Puts an octet in the place of another, if the words of the line were right.
 fn put(octets: &mut [u8], words: &mut Words<'_>, at: usize, octet: u8) {
-    match octets.get_mut(at) {
-        Some(place) => *place = octet,
-        None => words.fail(Stop::Line),
+    if words.end() {
+        match octets.get_mut(at) {
+            Some(place) => *place = octet,
+            None => words.fail(Stop::Line),
+        }
     }
 }
 

@@ -29,6 +29,11 @@ pub(crate) fn empty(alloc: Global) -> Store {
     }
 }
 
+/// Another disk stands in the place of a store's.
+fn put_disk(store: &mut Store, disk: MemoryDisk) {
+    drop(mem::replace(&mut store.disk, disk));
+}
+
 /// Plays a line about a journal or its disk.
 pub(crate) fn play(page: &mut Page, store: &mut Store, octets: &[u8], words: &mut Words<'_>) {
     match words.first {
@@ -131,11 +136,16 @@ fn refused(page: &mut Page, fault: JournalFault, is_starved: bool) {
 /// `open GATEWAY`: the journal of a gateway is opened.
 fn open(page: &mut Page, store: &mut Store, words: &mut Words<'_>) {
     let gateway = words.octet();
-    if store.journal.is_some() {
-        words.fail(Stop::Line);
-    }
+    want_closed(store, words);
     if words.end() {
         open_closed(page, store, gateway);
+    }
+}
+
+/// The line is wrong where a journal is open.
+fn want_closed(store: &Store, words: &mut Words<'_>) {
+    if store.journal.is_some() {
+        words.fail(Stop::Line);
     }
 }
 
@@ -144,43 +154,40 @@ fn open_closed(page: &mut Page, store: &mut Store, gateway: u8) {
     let disk = mem::replace(&mut store.disk, MemoryDisk::new(page.alloc));
     match calls::open(page.alloc, disk, gateway) {
         Ok((journal, deltas)) => {
-            store.journal = Some(journal);
-            print_deltas(page, "records", &deltas);
+            drop(mem::replace(&mut store.journal, Some(journal)));
+            print_records(page, deltas);
         }
         Err((disk, fault)) => {
-            store.disk = disk;
-            refused(page, fault, store.disk.starved());
+            refused(page, fault, disk.starved());
+            put_disk(store, disk);
         }
     }
+}
+
+/// The records that an opening has read.
+fn print_records(page: &mut Page, deltas: Vec<Delta>) {
+    print_deltas(page, "records", &deltas);
+    drop(deltas);
 }
 
 /// `append`: the delta of the operations is a new record.
 pub(crate) fn append(page: &mut Page, store: &mut Store, words: &mut Words<'_>, delta: &Delta) {
     match &mut store.journal {
-        Some(journal) => append_to(page, journal, delta),
+        Some(journal) => match calls::append(page.alloc, journal, delta) {
+            Ok(()) => page.line("appended"),
+            Err(fault) => refused(page, fault, journal.starved()),
+        },
         None => words.fail(Stop::Line),
     }
 }
 
-/// The delta is a new record.
-fn append_to(page: &mut Page, journal: &mut Journal<MemoryDisk>, delta: &Delta) {
-    match calls::append(page.alloc, journal, delta) {
-        Ok(()) => page.line("appended"),
-        Err(fault) => refused(page, fault, journal.starved()),
-    }
-}
-
-/// A delta for each operation, if each makes one.
-pub(crate) fn base_of(page: &mut Page, ops: Vec<Op>) -> Option<Vec<Delta>> {
-    let mut base = Vec::new(page.alloc);
+/// Adds a delta for each operation: whether each makes one.
+pub(crate) fn add_records(page: &mut Page, base: &mut Vec<Delta>, ops: Vec<Op>) -> bool {
     let count = ops.len();
     for op in ops {
-        add_record(page, &mut base, op);
+        add_record(page, base, op);
     }
-    if base.len() < count {
-        return None;
-    }
-    Some(base)
+    base.len() == count
 }
 
 /// Adds the delta of an operation, if there is one.
@@ -194,40 +201,42 @@ fn add_record(page: &mut Page, base: &mut Vec<Delta>, op: Op) {
 /// Adds the delta of operations, if there is one.
 fn add_delta(page: &mut Page, base: &mut Vec<Delta>, ops: Vec<Op>) {
     if let Some(delta) = made(page, ops) {
-        if base.push(delta).is_err() {
-            page.run_out();
-        }
+        push(page, base, delta);
+    }
+}
+
+/// Adds a delta.
+fn push(page: &mut Page, base: &mut Vec<Delta>, delta: Delta) {
+    let pushed = base.push(delta);
+    let is_short = pushed.is_err();
+    drop(pushed);
+    if is_short {
+        page.run_out();
     }
 }
 
 /// `compact`: the operations, each a record, take the place of all records.
 pub(crate) fn compact(page: &mut Page, store: &mut Store, words: &mut Words<'_>, base: &[Delta]) {
     match &mut store.journal {
-        Some(journal) => compact_to(page, journal, base),
+        Some(journal) => match calls::compact(page.alloc, journal, base) {
+            Ok(()) => page.line("compacted"),
+            Err(fault) => refused(page, fault, journal.starved()),
+        },
         None => words.fail(Stop::Line),
-    }
-}
-
-/// These records take the place of all.
-fn compact_to(page: &mut Page, journal: &mut Journal<MemoryDisk>, base: &[Delta]) {
-    match calls::compact(page.alloc, journal, base) {
-        Ok(()) => page.line("compacted"),
-        Err(fault) => refused(page, fault, journal.starved()),
     }
 }
 
 /// `reopen`: the journal is opened once more as it stands.
 fn reopen(page: &mut Page, journal: &mut Journal<MemoryDisk>) {
     match calls::reopen(page.alloc, journal) {
-        Ok(deltas) => print_deltas(page, "records", &deltas),
+        Ok(deltas) => print_records(page, deltas),
         Err(fault) => refused(page, fault, journal.starved()),
     }
 }
 
 /// `place`: the slot that the journal writes.
 fn place(page: &mut Page, slot: Slot) {
-    page.word("goes on in");
-    page.word(slot_word(slot));
+    page.labelled("goes on in", slot_word(slot));
     page.end();
 }
 
@@ -250,7 +259,7 @@ fn print_starved(page: &mut Page, is_starved: bool) {
 fn close(store: &mut Store, words: &mut Words<'_>) {
     match store.journal.take() {
         None => words.fail(Stop::Line),
-        Some(journal) => store.disk = journal.into_disk(),
+        Some(journal) => put_disk(store, journal.into_disk()),
     }
 }
 
@@ -267,6 +276,7 @@ fn print_slot(page: &mut Page, disk: &mut MemoryDisk, slot: Slot) {
     page.word(slot_word(slot));
     page.digits(&octets);
     page.end();
+    drop(octets);
 }
 
 /// What both slots of a disk hold.
@@ -278,9 +288,7 @@ pub(crate) struct Held {
 
 /// What both slots of a disk hold, on which no journal is to be open.
 pub(crate) fn both(page: &mut Page, store: &mut Store, words: &mut Words<'_>) -> Held {
-    if store.journal.is_some() {
-        words.fail(Stop::Line);
-    }
+    want_closed(store, words);
     Held {
         first: octets_of(page, &mut store.disk, Slot::First),
         second: octets_of(page, &mut store.disk, Slot::Second),

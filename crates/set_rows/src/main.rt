@@ -168,6 +168,7 @@ use rep_plain::Plain;
 use rep_state::Folded;
 use std::alloc::Global;
 use std::io::{self, Write};
+use std::mem;
 use std::process::ExitCode;
 
 /// What stands in front of a row's name.
@@ -179,6 +180,12 @@ struct Play<R: Replica> {
     /// Whether rows are of datagrams and topics.
     is_of_datagrams: bool,
     names: Names,
+    begun: Begun<R>,
+}
+
+/// What the lines of a row have brought about.
+#[derive(Drop)]
+struct Begun<R: Replica> {
     datagrams: datagrams::Row,
     row: Row,
     replica: R,
@@ -201,26 +208,37 @@ fn play_input(rt: &HostRuntime) -> Result<(), Stop> {
     let read = read_lines(rt, &mut lines);
     let page = print_both(rt.alloc(), &lines);
     drop(lines);
-    write(rt, read, &page)
+    let written = write(rt, read, &page);
+    drop(page);
+    written
 }
 
 /// Reads the lines of standard input.
 fn read_lines(rt: &HostRuntime, lines: &mut Vec<String>) -> Result<(), Stop> {
+    let mut read = Ok(());
     for line in rt.lines(rt.alloc()) {
-        match line {
-            Ok(line) => push(lines, line)?,
-            Err(error) => return Err(Stop::from(error)),
+        read = add_line(lines, line);
+        if read.is_err() {
+            break;
         }
     }
-    Ok(())
+    read
+}
+
+/// Adds a line that was read.
+fn add_line(lines: &mut Vec<String>, line: io::Result<String>) -> Result<(), Stop> {
+    match line {
+        Ok(line) => push(lines, line),
+        Err(error) => Err(Stop::from(error)),
+    }
 }
 
 /// Adds a line.
 fn push(lines: &mut Vec<String>, line: String) -> Result<(), Stop> {
-    match lines.push(line) {
-        Ok(()) => Ok(()),
-        Err(_) => Err(Stop::Memory),
-    }
+    let pushed = lines.push(line);
+    let is_short = pushed.is_err();
+    drop(pushed);
+    if is_short { Err(Stop::Memory) } else { Ok(()) }
 }
 
 /// Writes a page, if the lines were read and memory did not run out.
@@ -241,6 +259,7 @@ fn print_both(alloc: Global, lines: &[String]) -> Page {
     let mut folded = played::<Folded>(alloc, lines);
     let plain = played::<Plain>(alloc, lines);
     compare(&mut folded, &plain);
+    drop(plain);
     folded
 }
 
@@ -259,10 +278,21 @@ fn compare(folded: &mut Page, plain: &Page) {
 /// What the lines print on a replica.
 fn played<R: Replica>(alloc: Global, lines: &[String]) -> Page {
     let mut page = Page::new(alloc);
-    if let Some(mut play) = blank::<R>(&mut page) {
-        play_lines(&mut page, &mut play, lines);
+    if let Some(begun) = blank::<R>(&mut page) {
+        play_from(&mut page, begun, lines);
     }
     page
+}
+
+/// Plays lines from a row on without a line.
+fn play_from<R: Replica>(page: &mut Page, begun: Begun<R>, lines: &[String]) {
+    let mut play = Play {
+        is_of_datagrams: false,
+        names: names::none(page.alloc),
+        begun,
+    };
+    play_lines(page, &mut play, lines);
+    drop(play);
 }
 
 /// Plays lines, one after the other, until memory runs out.
@@ -285,33 +315,26 @@ fn empty<R: Replica>(page: &mut Page) -> Option<R> {
     }
 }
 
-/// An empty row. If memory ran out, the page remembers that.
-fn empty_row(page: &mut Page) -> Option<Row> {
-    match empty::<Folded>(page) {
-        Some(folded) => Some(row::begin(page.alloc, folded)),
-        None => None,
-    }
-}
-
-/// No line has brought anything about.
-fn blank<R: Replica>(page: &mut Page) -> Option<Play<R>> {
-    match empty_row(page) {
-        Some(row) => blank_with(page, row),
-        None => None,
-    }
-}
-
-/// No line has brought anything about: beside an empty row.
-fn blank_with<R: Replica>(page: &mut Page, row: Row) -> Option<Play<R>> {
+/// A row without a line. If memory ran out, the page remembers that.
+fn blank<R: Replica>(page: &mut Page) -> Option<Begun<R>> {
     match empty::<R>(page) {
-        Some(replica) => Some(Play {
-            is_of_datagrams: false,
-            names: names::none(page.alloc),
+        Some(replica) => blank_with(page, replica),
+        None => None,
+    }
+}
+
+/// A row without a line, with an empty replica.
+fn blank_with<R: Replica>(page: &mut Page, replica: R) -> Option<Begun<R>> {
+    match empty::<Folded>(page) {
+        Some(folded) => Some(Begun {
             datagrams: datagrams::begin(),
-            row,
+            row: row::begin(page.alloc, folded),
             replica,
         }),
-        None => None,
+        None => {
+            drop(replica);
+            None
+        }
     }
 }
 
@@ -339,12 +362,8 @@ fn play_or_begin<R: Replica>(page: &mut Page, play: &mut Play<R>, line: &str) {
 
 /// Begins a row.
 fn begin_row<R: Replica>(page: &mut Page, play: &mut Play<R>) {
-    play.datagrams = datagrams::begin();
-    if let Some(row) = empty_row(page) {
-        play.row = row;
-    }
-    if let Some(replica) = empty::<R>(page) {
-        play.replica = replica;
+    if let Some(begun) = blank::<R>(page) {
+        drop(mem::replace(&mut play.begun, begun));
     }
 }
 
@@ -352,7 +371,7 @@ fn begin_row<R: Replica>(page: &mut Page, play: &mut Play<R>) {
 fn play_line<R: Replica>(page: &mut Page, play: &mut Play<R>, line: &str) {
     let mut words = words_of(page.alloc, line);
     if play.is_of_datagrams {
-        datagrams::play(page, &mut play.datagrams, &mut words);
+        datagrams::play(page, &mut play.begun.datagrams, &mut words);
     } else {
         play_words(page, play, &mut words);
     }
@@ -363,10 +382,11 @@ fn play_line<R: Replica>(page: &mut Page, play: &mut Play<R>, line: &str) {
 
 /// Plays a line that names octets or makes them, or another of a row.
 fn play_words<R: Replica>(page: &mut Page, play: &mut Play<R>, words: &mut Words<'_>) {
+    let row = &mut play.begun.row;
     match words.first {
         "name" => names::add(&mut play.names, words),
-        "octets" => names::set(&play.names, words, &mut play.row.octets),
-        "behind" => names::extend(&play.names, words, &mut play.row.octets),
-        _ => replicas::play(page, &mut play.row, &mut play.replica, words),
+        "octets" => names::set(&play.names, words, &mut row.octets),
+        "behind" => names::extend(&play.names, words, &mut row.octets),
+        _ => replicas::play(page, row, &mut play.begun.replica, words),
     }
 }

@@ -3,6 +3,7 @@
 use crate::stop::Stop;
 use crate::words::Words;
 use std::alloc::Global;
+use std::mem;
 
 /// Octets that have a name.
 #[derive(Drop)]
@@ -30,6 +31,8 @@ pub(crate) fn add(names: &mut Names, words: &mut Words<'_>) {
     let octets = octets(names, words);
     if words.end() {
         push(names, words, name, octets);
+    } else {
+        drop(octets);
     }
 }
 
@@ -37,23 +40,30 @@ pub(crate) fn add(names: &mut Names, words: &mut Words<'_>) {
 fn push(names: &mut Names, words: &mut Words<'_>, name: &str, octets: Vec<u8>) {
     match String::from_str(words.alloc, name) {
         Ok(name) => push_named(names, words, Named { name, octets }),
-        Err(_) => words.fail(Stop::Memory),
+        Err(_) => {
+            words.fail(Stop::Memory);
+            drop(octets);
+        }
     }
 }
 
 /// Adds a name.
 fn push_named(names: &mut Names, words: &mut Words<'_>, named: Named) {
-    if names.all.push(named).is_err() {
+    let pushed = names.all.push(named);
+    let is_short = pushed.is_err();
+    drop(pushed);
+    if is_short {
         words.fail(Stop::Memory);
     }
 }
 
 /// `octets OCTETS ..`: these octets.
 pub(crate) fn set(names: &Names, words: &mut Words<'_>, kept: &mut Vec<u8>) {
-    let octets = octets(names, words);
+    let mut octets = octets(names, words);
     if words.end() {
-        *kept = octets;
+        mem::swap(kept, &mut octets);
     }
+    drop(octets);
 }
 
 /// `behind OCTETS ..`: these octets stand behind those that are there.
@@ -62,6 +72,7 @@ pub(crate) fn extend(names: &Names, words: &mut Words<'_>, kept: &mut Vec<u8>) {
     if words.end() {
         words.extend(kept, &more);
     }
+    drop(more);
 }
 
 /// The octets of a name.
@@ -96,4 +107,5 @@ fn add_word(names: &Names, words: &mut Words<'_>, octets: &mut Vec<u8>, word: &s
 fn add_digits(words: &mut Words<'_>, octets: &mut Vec<u8>, word: &str) {
     let some = words.digits_of(word);
     words.extend(octets, &some);
+    drop(some);
 }

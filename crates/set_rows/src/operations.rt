@@ -1,12 +1,13 @@
 //! Lines that add operations. What these have in common is read first, borrowed from the line; each
 //! operation is made of it, and added at once.
 
-use crate::changes::change;
+use crate::changes::{last_change, taken};
 use crate::stop::Stop;
 use crate::words::Words;
 use rep_ops::{Op, Put, Retained, Stamp};
 use sn_session::{Session, SessionOp};
 use sn_tables::QosLevel;
+use sn_topic::TopicName;
 
 /// Messages for a client that are the same but for their numbers.
 #[derive(Clone, Copy)]
@@ -38,21 +39,13 @@ pub(crate) fn play(words: &mut Words<'_>, session: &Session, ops: &mut Vec<Op>) 
     }
 }
 
-/// Plays a line that adds messages, or that clients have them; leaves all others to the lines about
-/// what is retained.
+/// Plays a line that adds messages, or that clients have them, or what is retained of topics.
 fn play_messages(words: &mut Words<'_>, ops: &mut Vec<Op>) {
     match words.first {
         "put" => put(words, ops),
         "puts" => puts(words, ops),
         "ack" => ack(words, ops),
         "acks" => acks(words, ops),
-        _ => play_retained(words, ops),
-    }
-}
-
-/// Plays a line that adds what is retained of topics.
-fn play_retained(words: &mut Words<'_>, ops: &mut Vec<Op>) {
-    match words.first {
         "retain" => retain(words, ops),
         _ => retains(words, ops),
     }
@@ -60,7 +53,10 @@ fn play_retained(words: &mut Words<'_>, ops: &mut Vec<Op>) {
 
 /// Adds an operation.
 fn push(words: &mut Words<'_>, ops: &mut Vec<Op>, op: Op) {
-    if ops.push(op).is_err() {
+    let pushed = ops.push(op);
+    let is_short = pushed.is_err();
+    drop(pushed);
+    if is_short {
         words.fail(Stop::Memory);
     }
 }
@@ -89,10 +85,9 @@ fn add_read(
     stamp: Stamp,
     counters: (u8, u8),
 ) {
-    if let Some(change) = change(words, session) {
-        if words.end() {
-            add_changes(words, ops, name, stamp, counters, &change);
-        }
+    if let Some(change) = last_change(words, session) {
+        add_changes(words, ops, name, stamp, counters, &change);
+        drop(change);
     }
 }
 
@@ -134,14 +129,17 @@ pub(crate) fn add_session_op(
     counter: u8,
     change: SessionOp,
 ) {
-    if let Some(client) = words.client_of(name) {
-        let op = Op::Session {
-            client,
-            stamp,
-            counter,
-            change,
-        };
-        push(words, ops, op);
+    match words.client_of(name) {
+        Some(client) => {
+            let op = Op::Session {
+                client,
+                stamp,
+                counter,
+                change,
+            };
+            push(words, ops, op);
+        }
+        None => drop(change),
     }
 }
 
@@ -175,12 +173,11 @@ fn puts(words: &mut Words<'_>, ops: &mut Vec<Op>) {
         body: letters.as_slice(),
         retain: false,
     };
-    if words.end() {
-        add_puts(words, ops, &messages, first, last);
-    }
+    add_puts(words, ops, &messages, first, last);
+    drop(letters);
 }
 
-/// Adds messages from a first number to a last.
+/// Adds messages from a first number to a last, if the words of the line were right.
 fn add_puts(
     words: &mut Words<'_>,
     ops: &mut Vec<Op>,
@@ -188,37 +185,51 @@ fn add_puts(
     first: u64,
     last: u64,
 ) {
-    for seq in first..=last {
-        add_put(words, ops, messages, seq);
+    if words.end() {
+        for seq in first..=last {
+            add_put(words, ops, messages, seq);
+        }
     }
 }
 
 /// Adds a message of this number.
 pub(crate) fn add_put(words: &mut Words<'_>, ops: &mut Vec<Op>, messages: &Messages<'_>, seq: u64) {
-    if let Some(put) = put_of(words, messages, seq) {
-        if let Some(client) = words.client_of(messages.client) {
-            push(words, ops, Op::Put { client, put });
-        }
+    if let Some(topic) = words.topic_of(messages.topic) {
+        add_put_on(words, ops, messages, seq, topic);
     }
 }
 
-/// A message of this number.
-fn put_of(words: &mut Words<'_>, messages: &Messages<'_>, seq: u64) -> Option<Put> {
-    let Some(topic) = words.topic_of(messages.topic) else {
-        return None;
-    };
-    let Some(body) = words.message_of(messages.body) else {
-        return None;
-    };
-    Some(Put {
-        origin: messages.origin,
-        seq,
-        topic,
-        qos: messages.qos,
-        retain: messages.retain,
-        expires: 0,
-        body,
-    })
+/// Adds a message of this number on a topic.
+fn add_put_on(
+    words: &mut Words<'_>,
+    ops: &mut Vec<Op>,
+    messages: &Messages<'_>,
+    seq: u64,
+    topic: TopicName,
+) {
+    match words.message_of(messages.body) {
+        Some(body) => {
+            let put = Put {
+                origin: messages.origin,
+                seq,
+                topic,
+                qos: messages.qos,
+                retain: messages.retain,
+                expires: 0,
+                body,
+            };
+            add_put_for(words, ops, messages.client, put);
+        }
+        None => drop(topic),
+    }
+}
+
+/// Adds a message for a client.
+fn add_put_for(words: &mut Words<'_>, ops: &mut Vec<Op>, name: &[u8], put: Put) {
+    match words.client_of(name) {
+        Some(client) => push(words, ops, Op::Put { client, put }),
+        None => drop(put),
+    }
 }
 
 /// `ack CLIENT ORIGIN FIRST LAST`: messages that a client has.
@@ -277,41 +288,49 @@ fn retains(words: &mut Words<'_>, ops: &mut Vec<Op>) {
         qos,
         body: letters.as_slice(),
     };
+    add_retains(words, ops, first, last, &said);
+    drop(letters);
+}
+
+/// Adds what is retained of the topics from a first number to a last, if the words of the line were
+/// right.
+fn add_retains(words: &mut Words<'_>, ops: &mut Vec<Op>, first: u16, last: u16, said: &Said<'_>) {
     if words.end() {
-        add_retains(words, ops, first, last, &said);
+        for number in first..=last {
+            add_numbered(words, ops, number, said);
+        }
     }
 }
 
-/// Adds what is retained of the topics from a first number to a last.
-fn add_retains(words: &mut Words<'_>, ops: &mut Vec<Op>, first: u16, last: u16, said: &Said<'_>) {
-    for number in first..=last {
-        let name = hex::encode(words.alloc, number.to_be_bytes().as_slice());
-        match name {
-            Ok(name) => add_retain(words, ops, name.as_bytes(), said),
-            Err(_) => words.fail(Stop::Memory),
+/// Adds what is retained of the topic of a number.
+fn add_numbered(words: &mut Words<'_>, ops: &mut Vec<Op>, number: u16, said: &Said<'_>) {
+    match hex::encode(words.alloc, number.to_be_bytes().as_slice()) {
+        Ok(name) => {
+            add_retain(words, ops, name.as_bytes(), said);
+            drop(name);
         }
+        Err(_) => words.fail(Stop::Memory),
     }
 }
 
 /// Adds what is retained of a topic.
 pub(crate) fn add_retain(words: &mut Words<'_>, ops: &mut Vec<Op>, topic: &[u8], said: &Said<'_>) {
-    if let Some(retained) = retained_of(words, said) {
-        if let Some(topic) = words.topic_of(topic) {
-            push(words, ops, Op::Retain { topic, retained });
-        }
-    }
-}
-
-/// What is retained of a topic.
-fn retained_of(words: &mut Words<'_>, said: &Said<'_>) -> Option<Retained> {
-    match words.message_of(said.body) {
-        Some(body) => Some(Retained {
+    if let Some(body) = words.message_of(said.body) {
+        let retained = Retained {
             clock: said.clock,
             gateway: said.gateway,
             qos: said.qos,
             body,
-        }),
-        None => None,
+        };
+        add_retained(words, ops, topic, retained);
+    }
+}
+
+/// Adds what is retained of a topic.
+fn add_retained(words: &mut Words<'_>, ops: &mut Vec<Op>, topic: &[u8], retained: Retained) {
+    match words.topic_of(topic) {
+        Some(topic) => push(words, ops, Op::Retain { topic, retained }),
+        None => drop(retained),
     }
 }
 
@@ -343,17 +362,8 @@ fn add_take(words: &mut Words<'_>, session: &Session, ops: &mut Vec<Op>, number:
         epoch: 1,
         gateway: 1,
     };
-    if let Ok(session) = session.copied(words.alloc) {
-        let change = SessionOp::Take(session);
-        add_session_op(
-            words,
-            ops,
-            number.to_be_bytes().as_slice(),
-            stamp,
-            0,
-            change,
-        );
-    } else {
-        words.fail(Stop::Memory);
+    if let Some(change) = taken(words, session) {
+        let name = number.to_be_bytes();
+        add_session_op(words, ops, &name, stamp, 0, change);
     }
 }

@@ -30,6 +30,13 @@ impl Page {
         }
     }
 
+    /// The page is empty, and has forgotten whether memory ran out.
+    pub(crate) fn clear(&mut self) {
+        self.text.clear();
+        self.is_begun = false;
+        self.is_short = false;
+    }
+
     /// Remembers that memory ran out.
     pub(crate) fn run_out(&mut self) {
         self.is_short = true;
@@ -122,7 +129,10 @@ impl Page {
     /// Prints octets in hexadecimal digits, with no space in front.
     pub(crate) fn hexadecimal(&mut self, octets: &[u8]) {
         match hex::encode(self.alloc, octets) {
-            Ok(digits) => self.text(digits.as_str()),
+            Ok(digits) => {
+                self.text(digits.as_str());
+                drop(digits);
+            }
             Err(_) => self.is_short = true,
         }
     }
@@ -139,10 +149,15 @@ impl Page {
         self.end();
     }
 
-    /// Prints a line of some words and a number.
-    pub(crate) fn counted(&mut self, what: &str, count: usize) {
+    /// Prints some words, and a word or a number.
+    pub(crate) fn labelled<D: Display + Drop>(&mut self, what: &str, value: D) {
         self.word(what);
-        self.word(count);
+        self.word(value);
+    }
+
+    /// Prints a line of some words and a number.
+    pub(crate) fn counted<D: Display + Drop>(&mut self, what: &str, number: D) {
+        self.labelled(what, number);
         self.end();
     }
 
@@ -155,8 +170,7 @@ impl Page {
 
     /// Prints that something is refused, and why.
     pub(crate) fn refused(&mut self, why: &str) {
-        self.word("refused");
-        self.word(why);
+        self.labelled("refused", why);
         self.end();
     }
 

@@ -40,26 +40,20 @@ fn print_counts(page: &mut Page, counts: Counts, least: u64) {
     if counts.same == counts.deltas && counts.deltas >= least {
         page.line("the same after each delta");
     } else {
-        print_difference(page, counts);
+        page.labelled("the same after", counts.same);
+        page.labelled("of", counts.deltas);
+        page.line(" deltas");
     }
-}
-
-/// After how many deltas the replicas said the same.
-fn print_difference(page: &mut Page, counts: Counts) {
-    page.word("the same after");
-    page.word(counts.same);
-    page.word("of");
-    page.word(counts.deltas);
-    page.word("deltas");
-    page.end();
 }
 
 /// Both replicas take made-up deltas.
 fn run(words: &mut Words<'_>, seed: u64, times: u64, size: u64) -> Counts {
-    match empty_pair(words) {
-        Some(mut pair) => count_all(words, &mut pair, seed, times, size),
-        None => Counts { deltas: 0, same: 0 },
+    let mut counts = Counts { deltas: 0, same: 0 };
+    if let Some(mut pair) = empty_pair(words) {
+        count_each(words, &mut pair, &mut counts, (seed, times, size));
+        drop(pair);
     }
+    counts
 }
 
 /// Two empty replicas.
@@ -79,69 +73,64 @@ fn pair_with(words: &mut Words<'_>, plain: Plain) -> Option<Pair> {
         Ok(folded) => Some(Pair { plain, folded }),
         Err(_) => {
             words.fail(Stop::Memory);
+            drop(plain);
             None
         }
     }
 }
 
-/// Both replicas take one made-up delta after the other.
-fn count_all(words: &mut Words<'_>, pair: &mut Pair, seed: u64, times: u64, size: u64) -> Counts {
-    let mut counts = Counts { deltas: 0, same: 0 };
+/// Both replicas take one made-up delta after the other: from this seed on, so many, of so many
+/// operations.
+fn count_each(
+    words: &mut Words<'_>,
+    pair: &mut Pair,
+    counts: &mut Counts,
+    (seed, times, size): (u64, u64, u64),
+) {
     let mut number = seed;
     for _ in 0..times {
         number = next(number);
         if let Some(delta) = delta(words, number, size) {
-            count(words, pair, &delta, &mut counts);
+            count(words, pair, counts, delta);
         }
     }
-    counts
 }
 
 /// Both replicas take a delta, which is counted.
-fn count(words: &mut Words<'_>, pair: &mut Pair, delta: &Delta, counts: &mut Counts) {
+fn count(words: &mut Words<'_>, pair: &mut Pair, counts: &mut Counts, delta: Delta) {
     counts.deltas = counts.deltas.saturating_add(1);
-    if take(words, pair, delta) && are_same(words, pair) {
+    if take(words, pair, &delta) && are_same(words, pair) {
         counts.same = counts.same.saturating_add(1);
     }
+    drop(delta);
 }
 
-/// Takes the delta in both: whether they are of one mind whether it can be taken.
+/// Takes the delta in both: whether both took it, or refused it alike.
 fn take(words: &mut Words<'_>, pair: &mut Pair, delta: &Delta) -> bool {
-    let plain = pair.plain.prepare(words.alloc, delta);
-    let folded = pair.folded.prepare(words.alloc, delta);
-    let agreed = agree(words, &plain, &folded);
-    match (plain, folded) {
-        (Ok(plain), Ok(folded)) => {
-            pair.plain.commit(plain);
-            pair.folded.commit(folded);
-        }
-        (plain, folded) => {
-            drop(plain);
-            drop(folded);
-        }
-    }
+    let plain = calls::take(words.alloc, &mut pair.plain, delta);
+    let folded = calls::take(words.alloc, &mut pair.folded, delta);
+    keep_fault(words, &plain);
+    keep_fault(words, &folded);
+    let agreed = agree(&plain, &folded);
+    drop(plain);
+    drop(folded);
     agreed
 }
 
-/// Whether both can take a delta, or refuse it alike.
-fn agree<P, F>(
-    words: &mut Words<'_>,
-    plain: &Result<P, TakeFault>,
-    folded: &Result<F, TakeFault>,
-) -> bool {
-    if is_short(plain) || is_short(folded) {
+/// Keeps the fault, if memory ran out before a replica could say whether it can take a delta.
+fn keep_fault(words: &mut Words<'_>, taken: &Result<(), TakeFault>) {
+    if matches!(taken, Err(TakeFault::Memory)) {
         words.fail(Stop::Memory);
     }
+}
+
+/// Whether both took a delta, or refused it alike.
+fn agree(plain: &Result<(), TakeFault>, folded: &Result<(), TakeFault>) -> bool {
     match (plain, folded) {
         (Ok(_), Ok(_)) => true,
         (Err(plain), Err(folded)) => plain == folded,
         _ => false,
     }
-}
-
-/// Whether memory ran out before a replica could say whether it can take a delta.
-fn is_short<S>(prepared: &Result<S, TakeFault>) -> bool {
-    matches!(prepared, Err(TakeFault::Memory))
 }
 
 /// Whether both say the same of all clients, and hold the same.
@@ -157,7 +146,11 @@ fn are_same(words: &mut Words<'_>, pair: &Pair) -> bool {
 /// Whether both say the same of the client of a number.
 fn same_of(words: &mut Words<'_>, pair: &Pair, number: u64) -> bool {
     match words.client_of(&client(number)) {
-        Some(client) => same_views(pair, &client) && same_numbers(pair, &client),
+        Some(client) => {
+            let same = same_views(pair, &client) && same_numbers(pair, &client);
+            drop(client);
+            same
+        }
         None => false,
     }
 }
@@ -196,7 +189,10 @@ fn same_numbers(pair: &Pair, client: &ClientId) -> bool {
 fn same_clients(words: &mut Words<'_>, pair: &Pair) -> bool {
     let plain = clients(words, &pair.plain);
     let folded = clients(words, &pair.folded);
-    plain.as_slice() == folded.as_slice()
+    let same = plain.as_slice() == folded.as_slice();
+    drop(plain);
+    drop(folded);
+    same
 }
 
 /// The clients that a replica knows.
@@ -214,14 +210,20 @@ fn clients<R: Replica>(words: &mut Words<'_>, replica: &R) -> Vec<ClientId> {
 fn same_held(words: &mut Words<'_>, pair: &Pair) -> bool {
     let plain = held(words, &pair.plain);
     let folded = held(words, &pair.folded);
-    plain.as_slice() == folded.as_slice()
+    let same = plain.as_slice() == folded.as_slice();
+    drop(plain);
+    drop(folded);
+    same
 }
 
 /// The octets of what a replica holds.
 fn held<R: Replica>(words: &mut Words<'_>, replica: &R) -> Vec<u8> {
     let mut octets = Vec::new(words.alloc);
     match replica.held(words.alloc) {
-        Ok(deltas) => add_deltas(words, &mut octets, &deltas),
+        Ok(deltas) => {
+            add_deltas(words, &mut octets, &deltas);
+            drop(deltas);
+        }
         Err(_) => words.fail(Stop::Memory),
     }
     octets

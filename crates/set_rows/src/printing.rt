@@ -10,16 +10,12 @@ use sn_topic::TopicName;
 
 /// The operations of a delta, after a line with their number.
 pub(crate) fn print_delta(page: &mut Page, delta: &Delta) {
+    let ops = delta.ops();
     if delta.is_empty() {
         page.line("empty delta");
     } else {
-        print_ops(page, delta.ops());
+        page.counted("delta of", ops.len());
     }
-}
-
-/// Operations, after a line with their number.
-fn print_ops(page: &mut Page, ops: &[Op]) {
-    page.counted("delta of", ops.len());
     for op in ops {
         print_op(page, op);
     }
@@ -110,7 +106,10 @@ pub(crate) fn print_retained(page: &mut Page, topic: &TopicName, retained: &Reta
 /// The rest of the line of a change; the lines of a session after `take`.
 fn print_change(page: &mut Page, change: &SessionOp) {
     match change {
-        SessionOp::Take(session) => print_taken(page, session),
+        SessionOp::Take(session) => {
+            page.line(" take");
+            print_session(page, session);
+        }
         SessionOp::Register { id, name, known } => {
             print_topic(page, "register", *id, name, *known);
         }
@@ -127,42 +126,20 @@ fn print_change(page: &mut Page, change: &SessionOp) {
 fn print_small_change(page: &mut Page, change: &SessionOp) {
     match change {
         SessionOp::Presence { presence, duration } => {
-            print_presence(page, presence_word(*presence), *duration);
+            page.word("presence");
+            page.counted(presence_word(*presence), *duration);
         }
         SessionOp::WillTopic(asked) => print_will_topic(page, asked),
-        SessionOp::Received { id } => print_id(page, "received", *id),
-        SessionOp::Released { id } => print_id(page, "released", *id),
+        SessionOp::Received { id } => page.counted("received", *id),
+        SessionOp::Released { id } => page.counted("released", *id),
         SessionOp::Outbound { exchange, next_id } => print_exchange(page, exchange, *next_id),
         _ => page.end(),
     }
 }
 
-/// The lines of a session, after `take`.
-fn print_taken(page: &mut Page, session: &Session) {
-    page.word("take");
-    page.end();
-    print_session(page, session);
-}
-
-/// Where a client is, and for how long.
-fn print_presence(page: &mut Page, place: &str, duration: u16) {
-    page.word("presence");
-    page.word(place);
-    page.word(duration);
-    page.end();
-}
-
-/// A message id after a word.
-fn print_id(page: &mut Page, what: &str, id: u16) {
-    page.word(what);
-    page.word(id);
-    page.end();
-}
-
 /// A topic id after a word.
 fn print_topic(page: &mut Page, what: &str, id: u16, name: &TopicName, known: bool) {
-    page.word(what);
-    page.word(id);
+    page.labelled(what, id);
     page.octets(name.bytes());
     page.either(known, "known", "new");
     page.end();
@@ -198,17 +175,14 @@ fn print_exchange(page: &mut Page, exchange: &Option<Outbound>, next_id: u16) {
     page.word("exchange");
     match exchange {
         None => page.word("none"),
-        Some(begun) => print_begun(page, begun),
+        Some(begun) => {
+            page.dotted(u64::from(begun.origin), begun.seq);
+            page.word(begun.msg_id);
+            page.word(phase_word(begun.phase));
+        }
     }
     page.word(next_id);
     page.end();
-}
-
-/// An exchange that was begun.
-fn print_begun(page: &mut Page, begun: &Outbound) {
-    page.dotted(u64::from(begun.origin), begun.seq);
-    page.word(begun.msg_id);
-    page.word(phase_word(begun.phase));
 }
 
 /// The lines of a session.
@@ -258,16 +232,14 @@ fn print_will(page: &mut Page, will: &Option<Will>) {
 /// The message ids that a session has received.
 fn print_received(page: &mut Page, ids: &[u16]) {
     for id in ids {
-        print_id(page, "  received", *id);
+        page.counted("  received", *id);
     }
 }
 
 /// The lines of a view.
 pub(crate) fn print_view(page: &mut Page, view: &ClientView) {
     print_stamp(page, view.stamp);
-    page.word("prefix");
-    page.word(view.prefix);
-    page.end();
+    page.counted("prefix", view.prefix);
     if let Some(session) = &view.session {
         print_session(page, session);
     }

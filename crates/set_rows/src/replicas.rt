@@ -31,6 +31,7 @@ pub(crate) fn play<R: Replica>(
 fn join<R: Replica>(page: &mut Page, replica: &mut R, ops: Vec<Op>) {
     if let Some(delta) = made(page, ops) {
         join_delta(page, replica, &delta);
+        drop(delta);
     }
 }
 
@@ -38,16 +39,19 @@ fn join<R: Replica>(page: &mut Page, replica: &mut R, ops: Vec<Op>) {
 pub(crate) fn join_delta<R: Replica>(page: &mut Page, replica: &mut R, delta: &Delta) {
     match calls::take(page.alloc, replica, delta) {
         Ok(()) => page.line("joined"),
-        Err(fault) => print_take_fault(page, &fault),
+        Err(fault) => {
+            print_take_fault(page, &fault);
+            drop(fault);
+        }
     }
 }
 
 /// Lines that ask what the replica knows of a client.
 fn ask<R: Replica>(page: &mut Page, replica: &R, words: &mut Words<'_>) {
-    if let Some(client) = words.client() {
-        if words.end() {
-            print_known(page, words.first, replica.view_of(&client));
-        }
+    let name = words.octets();
+    if let Some(client) = words.last_client(name) {
+        print_known(page, words.first, replica.view_of(&client));
+        drop(client);
     }
 }
 
@@ -72,7 +76,10 @@ fn print_asked(page: &mut Page, what: &str, view: &ClientView) {
 /// A copy of a view, and a copy of the copy's messages.
 fn print_copy(page: &mut Page, view: &ClientView) {
     match view.copied(page.alloc) {
-        Ok(copy) => print_copied(page, &copy),
+        Ok(copy) => {
+            print_copied(page, &copy);
+            drop(copy);
+        }
         Err(_) => page.run_out(),
     }
 }
@@ -81,15 +88,17 @@ fn print_copy(page: &mut Page, view: &ClientView) {
 fn print_copied(page: &mut Page, view: &ClientView) {
     print_view(page, view);
     match view.pending.copied(page.alloc) {
-        Ok(messages) => print_messages(page, &messages),
+        Ok(messages) => {
+            print_messages(page, &messages);
+            drop(messages);
+        }
         Err(_) => page.run_out(),
     }
 }
 
 /// Messages, after a line with their number.
 fn print_messages(page: &mut Page, messages: &Puts) {
-    page.word("messages");
-    page.word(messages.len());
+    page.labelled("messages", messages.len());
     page.text(", none: ");
     page.value(messages.is_empty());
     page.end();
@@ -100,11 +109,10 @@ fn print_messages(page: &mut Page, messages: &Puts) {
 /// message for it.
 pub(crate) fn next<R: Replica>(page: &mut Page, replica: &R, words: &mut Words<'_>) {
     let (name, gateway) = (words.octets(), words.octet());
-    if let Some(client) = words.client_of(name) {
-        if words.end() {
-            print_next(page, "epoch", replica.next_epoch(&client));
-            print_next(page, "message", replica.next_seq(&client, gateway));
-        }
+    if let Some(client) = words.last_client(name) {
+        print_next(page, "epoch", replica.next_epoch(&client));
+        print_next(page, "message", replica.next_seq(&client, gateway));
+        drop(client);
     }
 }
 
@@ -121,7 +129,10 @@ pub(crate) fn print_next(page: &mut Page, what: &str, number: Option<u64>) {
 /// `clients`: how many clients the replica knows.
 fn clients<R: Replica>(page: &mut Page, replica: &R) {
     match replica.clients(page.alloc) {
-        Ok(clients) => page.counted("clients", clients.len()),
+        Ok(clients) => {
+            page.counted("clients", clients.len());
+            drop(clients);
+        }
         Err(_) => page.run_out(),
     }
 }
@@ -130,7 +141,10 @@ fn clients<R: Replica>(page: &mut Page, replica: &R) {
 /// has, and its version.
 fn held<R: Replica>(page: &mut Page, replica: &R, what: &str) {
     match replica.held(page.alloc) {
-        Ok(deltas) => print_held(page, what, &deltas),
+        Ok(deltas) => {
+            print_held(page, what, &deltas);
+            drop(deltas);
+        }
         Err(_) => page.run_out(),
     }
 }
@@ -140,14 +154,9 @@ fn print_held(page: &mut Page, what: &str, deltas: &[Delta]) {
     if what == "held" {
         print_deltas(page, "held in", deltas);
     } else {
-        print_parts(page, deltas);
-    }
-}
-
-/// How many operations and octets each of these deltas has, and its version.
-fn print_parts(page: &mut Page, deltas: &[Delta]) {
-    for delta in deltas {
-        print_part(page, delta);
+        for delta in deltas {
+            print_part(page, delta);
+        }
     }
 }
 
@@ -157,9 +166,9 @@ fn print_part(page: &mut Page, delta: &Delta) {
     if calls::write_delta(page.alloc, delta, &mut octets).is_err() {
         page.run_out();
     }
-    page.word("part of");
-    page.word(delta.ops().len());
+    page.labelled("part of", delta.ops().len());
     print_measure(page, &octets);
+    drop(octets);
 }
 
 /// How many octets a delta has, and its version, which they begin with.

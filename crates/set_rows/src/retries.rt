@@ -1,4 +1,5 @@
-//! A line that tries a journal on disks of which one call fails.
+//! A line that tries a journal on disks of which one call fails. Whether memory was refused in a
+//! disk is looked at in the end.
 
 use crate::attempts::{Trial, opening, tried};
 use crate::calls;
@@ -6,7 +7,7 @@ use crate::journals::Store;
 use crate::page::Page;
 use crate::values::print_journal_fault;
 use crate::words::Words;
-use jr_journal::{Journal, JournalFault, MemoryDisk, OnceCall, OnceDisk};
+use jr_journal::{Journal, MemoryDisk, OnceCall, OnceDisk};
 use rep_ops::Delta;
 
 /// The kind of the call that fails.
@@ -66,34 +67,37 @@ fn compact(said: &mut Page, journal: &mut Journal<OnceDisk>, base: &[Delta]) {
     }
 }
 
-/// Why a call was refused. Whether its disk was refused memory is looked at in the end.
-fn refused(said: &mut Page, fault: JournalFault) {
-    print_journal_fault(said, fault, false);
-}
-
 /// An opening, and another where it is refused.
 fn open(said: &mut Page, disk: OnceDisk, gateway: u8) -> Option<Journal<OnceDisk>> {
     match calls::open(said.alloc, disk, gateway) {
         Ok((journal, deltas)) => {
-            said.word(deltas.len());
+            print_count(said, deltas);
             Some(journal)
         }
         Err((disk, fault)) => {
-            refused(said, fault);
+            print_journal_fault(said, fault, false);
             open_again(said, disk, gateway)
         }
     }
+}
+
+/// How many records an opening has read.
+fn print_count(said: &mut Page, deltas: Vec<Delta>) {
+    said.word(deltas.len());
+    drop(deltas);
 }
 
 /// The opening after one that was refused.
 fn open_again(said: &mut Page, disk: OnceDisk, gateway: u8) -> Option<Journal<OnceDisk>> {
     match calls::open(said.alloc, disk, gateway) {
         Ok((journal, deltas)) => {
-            said.word(deltas.len());
+            print_count(said, deltas);
             Some(journal)
         }
         Err((disk, fault)) => {
-            print_journal_fault(said, fault, disk.into_inner().starved());
+            let disk = disk.into_inner();
+            print_journal_fault(said, fault, disk.starved());
+            drop(disk);
             None
         }
     }
@@ -104,11 +108,11 @@ fn reopens(said: &mut Page, journal: &mut Journal<OnceDisk>) -> bool {
     said.text("; reopen");
     match calls::reopen(said.alloc, journal) {
         Ok(deltas) => {
-            said.word(deltas.len());
+            print_count(said, deltas);
             true
         }
         Err(fault) => {
-            refused(said, fault);
+            print_journal_fault(said, fault, false);
             false
         }
     }
@@ -120,7 +124,7 @@ fn compacts(said: &mut Page, journal: &mut Journal<OnceDisk>, base: &[Delta]) ->
     match calls::compact(said.alloc, journal, base) {
         Ok(()) => true,
         Err(fault) => {
-            refused(said, fault);
+            print_journal_fault(said, fault, false);
             false
         }
     }

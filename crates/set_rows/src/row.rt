@@ -2,7 +2,7 @@
 
 use crate::attempts::{appends, compactions};
 use crate::deltas::{self, made, print_read, spell, written};
-use crate::journals::{self, Store, append, base_of, compact};
+use crate::journals::{self, Store, add_records, append, compact};
 use crate::page::Page;
 use crate::pairs::play_pair;
 use crate::printing::print_delta;
@@ -106,6 +106,7 @@ fn play_delta(page: &mut Page, row: &mut Row, words: &mut Words<'_>) {
     let ops = row.used(page.alloc);
     if let Some(delta) = made(page, ops) {
         use_delta(page, row, words, &delta);
+        drop(delta);
     }
 }
 
@@ -132,9 +133,11 @@ fn keep_delta(page: &mut Page, row: &mut Row, words: &mut Words<'_>, delta: &Del
 /// Uses the operations as a delta each, if each is one.
 fn play_base(page: &mut Page, row: &mut Row, words: &mut Words<'_>) {
     let ops = row.used(page.alloc);
-    if let Some(base) = base_of(page, ops) {
+    let mut base = Vec::new(page.alloc);
+    if add_records(page, &mut base, ops) {
         use_base(page, row, words, &base);
     }
+    drop(base);
 }
 
 /// Puts the deltas into a journal in the place of all its records.

@@ -21,14 +21,18 @@ impl Answers {
     }
 
     /// Whether the answer is another than the one before it.
-    pub(crate) fn is_other(&self) -> bool {
+    fn is_other(&self) -> bool {
         self.said.as_str() != self.before.as_str()
     }
 
-    /// The answer is written, and the next begins. If memory ran out, the page remembers that.
-    pub(crate) fn turn(&mut self, page: &mut Page) {
+    /// The answer is written, and the next begins: whether it is another than the one before it. If
+    /// memory ran out, the page remembers that.
+    pub(crate) fn turn(&mut self, page: &mut Page) -> bool {
+        let is_other = self.is_other();
         page.keep_fault(&self.said);
-        self.before = mem::replace(&mut self.said, Page::new(page.alloc));
+        mem::swap(&mut self.said, &mut self.before);
+        self.said.clear();
+        is_other
     }
 
     /// Prints the end of a line: the answer before.
@@ -80,8 +84,10 @@ impl Runs {
     /// The last place of the run, if it has more than one.
     fn print_last(&self, page: &mut Page) {
         if self.count > 1 {
-            page.word("to");
-            page.word(self.first.saturating_add(self.count).saturating_sub(1));
+            page.labelled(
+                "to",
+                self.first.saturating_add(self.count).saturating_sub(1),
+            );
         }
     }
 }

@@ -1,6 +1,6 @@
 //! Lines that describe a session, change it and ask it.
 
-use crate::changes::change;
+use crate::changes::last_change;
 use crate::page::Page;
 use crate::printing::print_session;
 use crate::stop::Stop;
@@ -8,6 +8,7 @@ use crate::values::presence;
 use crate::words::{Words, octets_of, words_of};
 use sn_session::{Session, SessionOp};
 use sn_tables::{QosLevel, SessionFault, TopicEntry};
+use std::mem;
 
 /// Where the number of a change stands that is made under each of several.
 const NUMBER: char = '%';
@@ -45,7 +46,7 @@ fn describe(session: &mut Session, words: &mut Words<'_>) {
     let clean = words.one_of("kept clean") == 1;
     let duration = words.small_number();
     if words.end() {
-        *session = Session::empty(words.alloc);
+        drop(mem::replace(session, Session::empty(words.alloc)));
         session.presence = place;
         session.clean = clean;
         session.duration = duration;
@@ -54,10 +55,9 @@ fn describe(session: &mut Session, words: &mut Words<'_>) {
 
 /// `apply CHANGE`: the session changes.
 fn apply(page: &mut Page, session: &mut Session, words: &mut Words<'_>) {
-    if let Some(made) = change(words, session) {
-        if words.end() {
-            apply_change(page, session, &made);
-        }
+    if let Some(change) = last_change(words, session) {
+        apply_change(page, session, &change);
+        drop(change);
     }
 }
 
@@ -84,6 +84,12 @@ fn applies(page: &mut Page, session: &mut Session, words: &mut Words<'_>) {
 /// The session changes under a number.
 fn apply_numbered(page: &mut Page, session: &mut Session, words: &mut Words<'_>, number: u16) {
     let line = numbered(words, number);
+    apply_line(page, session, words, &line);
+    drop(line);
+}
+
+/// The session changes as another line says.
+fn apply_line(page: &mut Page, session: &mut Session, words: &mut Words<'_>, line: &Page) {
     let mut change = words_of(words.alloc, line.as_str());
     apply(page, session, &mut change);
     if let Some(stop) = change.stop {
@@ -121,7 +127,7 @@ fn sizes(page: &mut Page, session: &Session) {
     print_size(page, "filters", session.subscriptions.len());
     print_size(page, "received", session.received.len());
     match session.free_id() {
-        Some(id) => print_number(page, "free id", id),
+        Some(id) => page.labelled("free id", id),
         None => page.word("no free id"),
     }
     page.end();
@@ -129,32 +135,24 @@ fn sizes(page: &mut Page, session: &Session) {
 
 /// How many entries a table has.
 fn print_size(page: &mut Page, table: &str, size: usize) {
-    page.word(table);
-    page.word(size);
+    page.labelled(table, size);
     page.text(",");
-}
-
-/// A number after some words.
-fn print_number(page: &mut Page, what: &str, number: u16) {
-    page.word(what);
-    page.word(number);
 }
 
 /// `id NAME`: the least topic id of a name, and whether the client knows it.
 fn id(page: &mut Page, session: &Session, words: &mut Words<'_>) {
     let asked = words.word();
-    if let Some(name) = words.topic_of(octets_of(asked)) {
-        if words.end() {
-            page.word(asked);
-            print_id(page, session.topic_id(&name), session.topic_named(&name));
-        }
+    if let Some(name) = words.last_topic(octets_of(asked)) {
+        page.word(asked);
+        print_id(page, session.topic_id(&name), session.topic_named(&name));
+        drop(name);
     }
 }
 
 /// The least topic id of a name.
 fn print_id(page: &mut Page, id: Option<u16>, entry: Option<&TopicEntry>) {
     match id {
-        Some(id) => print_number(page, "has id", id),
+        Some(id) => page.labelled("has id", id),
         None => page.word("has no id"),
     }
     if let Some(entry) = entry {
@@ -188,10 +186,9 @@ fn print_name(page: &mut Page, entry: Option<&TopicEntry>) {
 /// `filter FILTER`: the quality of service of a filter.
 fn qos_of(page: &mut Page, session: &Session, words: &mut Words<'_>) {
     let asked = words.word();
-    if let Some(filter) = words.filter_of(octets_of(asked)) {
-        if words.end() {
-            print_filter(page, asked, session.subscription(&filter));
-        }
+    if let Some(filter) = words.last_filter(octets_of(asked)) {
+        print_filter(page, asked, session.subscription(&filter));
+        drop(filter);
     }
 }
 
@@ -205,8 +202,7 @@ fn print_filter(page: &mut Page, asked: &str, found: Option<QosLevel>) {
 /// The rest of a line, with a quality of service if there is one.
 fn print_level(page: &mut Page, found: Option<QosLevel>) {
     if let Some(qos) = found {
-        page.word("at");
-        page.word(qos.number());
+        page.labelled("at", qos.number());
     }
     page.end();
 }
@@ -214,10 +210,9 @@ fn print_level(page: &mut Page, found: Option<QosLevel>) {
 /// `asked NAME`: the greatest quality of service that is asked for a topic.
 fn asked_qos(page: &mut Page, session: &Session, words: &mut Words<'_>) {
     let asked = words.word();
-    if let Some(name) = words.topic_of(octets_of(asked)) {
-        if words.end() {
-            print_asked(page, asked, session.subscribed_qos(&name));
-        }
+    if let Some(name) = words.last_topic(octets_of(asked)) {
+        print_asked(page, asked, session.subscribed_qos(&name));
+        drop(name);
     }
 }
 

@@ -8,7 +8,7 @@ use crate::row::{self, Row};
 use crate::words::Words;
 use rep_model::{MOST_RETAINED, Replica};
 use rep_ops::Retained;
-use sn_topic::TopicName;
+use sn_topic::{Filter, TopicName};
 
 /// Plays a line about what is retained; leaves all others to the lines that want no replica.
 pub(crate) fn play<R: Replica>(page: &mut Page, row: &mut Row, replica: &R, words: &mut Words<'_>) {
@@ -23,10 +23,10 @@ pub(crate) fn play<R: Replica>(page: &mut Page, row: &mut Row, replica: &R, word
 
 /// `retained TOPIC`: what is retained of a topic.
 fn retained<R: Replica>(page: &mut Page, replica: &R, words: &mut Words<'_>) {
-    if let Some(topic) = words.topic() {
-        if words.end() {
-            print_known(page, &topic, replica.retained(&topic));
-        }
+    let name = words.octets();
+    if let Some(topic) = words.last_topic(name) {
+        print_known(page, &topic, replica.retained(&topic));
+        drop(topic);
     }
 }
 
@@ -40,22 +40,30 @@ fn print_known(page: &mut Page, topic: &TopicName, known: Option<&Retained>) {
 
 /// `clock TOPIC`: the clock of what is retained next of a topic.
 fn next_clock<R: Replica>(page: &mut Page, replica: &R, words: &mut Words<'_>) {
-    if let Some(topic) = words.topic() {
-        if words.end() {
-            print_next(page, "clock", replica.next_clock(&topic));
-        }
+    let name = words.octets();
+    if let Some(topic) = words.last_topic(name) {
+        print_next(page, "clock", replica.next_clock(&topic));
+        drop(topic);
     }
 }
 
 /// `matching FILTER`: what is retained of the topics that a filter asks for.
 fn matching<R: Replica>(page: &mut Page, replica: &R, words: &mut Words<'_>) {
-    if let Some(asked) = words.filter() {
-        if words.end() {
-            match calls::matching(page.alloc, replica, &asked) {
-                Ok(found) => print_found(page, &found),
-                Err(_) => page.run_out(),
-            }
+    let asked = words.octets();
+    if let Some(asked) = words.last_filter(asked) {
+        print_matching(page, replica, &asked);
+        drop(asked);
+    }
+}
+
+/// What is retained of the topics that this filter asks for.
+fn print_matching<R: Replica>(page: &mut Page, replica: &R, asked: &Filter) {
+    match calls::matching(page.alloc, replica, asked) {
+        Ok(found) => {
+            print_found(page, &found);
+            drop(found);
         }
+        Err(_) => page.run_out(),
     }
 }
 

@@ -73,7 +73,7 @@ pub(crate) fn slot_word(slot: Slot) -> &'static str {
 }
 
 /// Why operations or octets are refused.
-pub(crate) fn ops_word(fault: OpsFault) -> &'static str {
+fn ops_word(fault: OpsFault) -> &'static str {
     match fault {
         OpsFault::Twice => "twice",
         OpsFault::Limit => "limit",
@@ -86,19 +86,28 @@ pub(crate) fn ops_word(fault: OpsFault) -> &'static str {
     }
 }
 
-/// Prints why operations or octets are refused; remembers if memory ran out.
+/// Prints a line that says why operations or octets are refused; remembers if memory ran out.
 pub(crate) fn print_ops_fault(page: &mut Page, fault: OpsFault) {
+    print_ops_refusal(page, fault);
+    page.end();
+}
+
+/// Prints why operations or octets are refused; remembers if memory ran out.
+pub(crate) fn print_ops_refusal(page: &mut Page, fault: OpsFault) {
     if matches!(fault, OpsFault::Memory) {
         page.run_out();
     }
-    page.refused(ops_word(fault));
+    page.labelled("refused", ops_word(fault));
 }
 
 /// Prints why a replica refuses; remembers if memory ran out.
 pub(crate) fn print_take_fault(page: &mut Page, fault: &TakeFault) {
     match fault {
         TakeFault::Conflict { of } => print_conflict(page, of),
-        TakeFault::Full { limit } => print_full(page, *limit),
+        TakeFault::Full { limit } => {
+            page.labelled("refused full", limit_word(*limit));
+            page.end();
+        }
         TakeFault::Memory => page.run_out(),
     }
 }
@@ -109,13 +118,6 @@ fn print_conflict(page: &mut Page, subject: &Subject) {
         Subject::Client(client) => page.named("refused conflict", client.bytes()),
         Subject::Topic(topic) => page.named("refused conflict topic", topic.bytes()),
     }
-}
-
-/// Prints what there would be too much of.
-fn print_full(page: &mut Page, limit: Limit) {
-    page.word("refused full");
-    page.word(limit_word(limit));
-    page.end();
 }
 
 /// What there would be too much of.
@@ -135,17 +137,13 @@ pub(crate) fn print_journal_fault(page: &mut Page, fault: JournalFault, is_starv
         page.run_out();
     }
     match fault {
-        JournalFault::BadRecord { slot, at } => print_bad_record(page, slot, at),
+        JournalFault::BadRecord { slot, at } => {
+            page.word("bad record");
+            page.labelled(slot_word(slot), at);
+        }
         JournalFault::Disk => page.word("disk"),
         JournalFault::Foreign => page.word("foreign"),
         JournalFault::Halted => page.word("halted"),
         JournalFault::Memory => page.run_out(),
     }
-}
-
-/// Prints where a record is bad.
-fn print_bad_record(page: &mut Page, slot: Slot, at: usize) {
-    page.word("bad record");
-    page.word(slot_word(slot));
-    page.word(at);
 }

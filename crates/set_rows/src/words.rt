@@ -266,10 +266,13 @@ impl<'a> Words<'a> {
         }
     }
 
-    /// A client.
-    pub(crate) fn client(&mut self) -> Option<ClientId> {
-        let name = self.octets();
-        self.client_of(name)
+    /// The client of this name, if all words were right, and none is left.
+    pub(crate) fn last_client(&mut self, name: &[u8]) -> Option<ClientId> {
+        if self.end() {
+            self.client_of(name)
+        } else {
+            None
+        }
     }
 
     /// The client of this name.
@@ -283,10 +286,13 @@ impl<'a> Words<'a> {
         }
     }
 
-    /// The name of a topic.
-    pub(crate) fn topic(&mut self) -> Option<TopicName> {
-        let name = self.octets();
-        self.topic_of(name)
+    /// The topic of this name, if all words were right, and none is left.
+    pub(crate) fn last_topic(&mut self, name: &[u8]) -> Option<TopicName> {
+        if self.end() {
+            self.topic_of(name)
+        } else {
+            None
+        }
     }
 
     /// The topic of this name.
@@ -300,10 +306,13 @@ impl<'a> Words<'a> {
         }
     }
 
-    /// A filter.
-    pub(crate) fn filter(&mut self) -> Option<Filter> {
-        let filter = self.octets();
-        self.filter_of(filter)
+    /// The filter of these octets, if all words were right, and none is left.
+    pub(crate) fn last_filter(&mut self, octets: &[u8]) -> Option<Filter> {
+        if self.end() {
+            self.filter_of(octets)
+        } else {
+            None
+        }
     }
 
     /// The filter of these octets.
@@ -315,12 +324,6 @@ impl<'a> Words<'a> {
                 None
             }
         }
-    }
-
-    /// What a message says.
-    pub(crate) fn message(&mut self) -> Option<Message> {
-        let body = self.octets();
-        self.message_of(body)
     }
 
     /// The message of these octets.

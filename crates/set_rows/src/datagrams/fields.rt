@@ -48,4 +48,5 @@ fn add_times(words: &mut Words<'_>, octets: &mut Vec<u8>, times: u64, digits: &s
     for _ in 0..times {
         words.extend(octets, &some);
     }
+    drop(some);
 }

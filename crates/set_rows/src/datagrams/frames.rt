@@ -11,26 +11,36 @@ use crate::stop::Stop;
 use crate::words::Words;
 use octets::Octets;
 use sn_frame::{Frame, FrameFault, Will};
+use std::mem;
 
 /// The most octets of a body after a Length of one octet (MQTT-SN 1.2 section 5.2.1).
 const SHORT_BODY: usize = 253;
 
-/// `frame OCTETS ..`: the frame that a datagram spells.
+/// `frame OCTETS ..`: the frame that a datagram spells, which is kept.
 pub(crate) fn frame(page: &mut Page, kept: &mut Option<Frame>, words: &mut Words<'_>) {
     let datagram = octets(words);
-    *kept = None;
-    if words.end() {
-        match read_frame(page.alloc, &datagram) {
-            Ok(frame) => keep(page, kept, frame),
-            Err(fault) => refused_frame(page, fault),
-        }
-    }
+    let mut frame = if words.end() {
+        read(page, &datagram)
+    } else {
+        None
+    };
+    drop(datagram);
+    mem::swap(kept, &mut frame);
+    drop(frame);
 }
 
-/// Prints the frame that was read, and keeps it.
-fn keep(page: &mut Page, kept: &mut Option<Frame>, frame: Frame) {
-    print_frame(page, &frame);
-    *kept = Some(frame);
+/// The frame that a datagram spells, which is printed; prints why there is none.
+fn read(page: &mut Page, datagram: &[u8]) -> Option<Frame> {
+    match read_frame(page.alloc, datagram) {
+        Ok(frame) => {
+            print_frame(page, &frame);
+            Some(frame)
+        }
+        Err(fault) => {
+            refused_frame(page, fault);
+            None
+        }
+    }
 }
 
 /// A frame in words, and what it is written as.
@@ -41,6 +51,7 @@ fn print_frame(page: &mut Page, frame: &Frame) {
         Ok(()) => print_written(page, &out),
         Err(fault) => not_written(page, fault),
     }
+    drop(out);
 }
 
 /// What a frame is written as.
@@ -51,135 +62,77 @@ fn print_written(page: &mut Page, octets: &[u8]) {
 }
 
 /// `with OCTETS ..`: the frame that was read, with this octet string in place of its own.
-pub(crate) fn with(page: &mut Page, kept: &Option<Frame>, words: &mut Words<'_>) {
-    let octets = octets(words);
-    match Octets::new(octets) {
-        Ok(other) => print_replaced(page, words, kept, other),
+pub(crate) fn with(page: &mut Page, kept: &mut Option<Frame>, words: &mut Words<'_>) {
+    match Octets::new(octets(words)) {
+        Ok(other) => print_with(page, kept, words, other),
         Err(_) => page.run_out(),
     }
 }
 
 /// Prints the frame that was read, with another octet string.
-fn print_replaced(page: &mut Page, words: &mut Words<'_>, kept: &Option<Frame>, other: Octets) {
-    match with_other(kept, other) {
-        Some(frame) => print_if_right(page, words, &frame),
-        None => words.fail(Stop::Line),
+fn print_with(page: &mut Page, kept: &mut Option<Frame>, words: &mut Words<'_>, other: Octets) {
+    match kept {
+        Some(frame) => print_changed(page, words, frame, other),
+        None => {
+            words.fail(Stop::Line);
+            drop(other);
+        }
     }
 }
 
-/// Prints a frame, if the words of the line were right.
-fn print_if_right(page: &mut Page, words: &mut Words<'_>, frame: &Frame) {
+/// Prints a frame with another octet string, if it has one, and the words of the line were right.
+fn print_changed(page: &mut Page, words: &mut Words<'_>, frame: &mut Frame, mut other: Octets) {
+    match string_of(frame) {
+        Some(own) => mem::swap(own, &mut other),
+        None => words.fail(Stop::Line),
+    }
+    drop(other);
     if words.end() {
         print_frame(page, frame);
     }
 }
 
-/// The frame that was read, if any, with another octet string, if it has one.
-fn with_other(kept: &Option<Frame>, other: Octets) -> Option<Frame> {
-    match kept {
-        Some(frame) => replaced(frame, other),
-        None => None,
-    }
-}
-
-/// A frame with another octet string: its client, address, will or message.
-fn replaced(frame: &Frame, other: Octets) -> Option<Frame> {
+/// The octet string of a frame: its client, address, will's topic or message, topic or data.
+fn string_of(frame: &mut Frame) -> Option<&mut Octets> {
     match frame {
-        Frame::GwInfo { gateway, .. } => Some(Frame::GwInfo {
-            gateway: *gateway,
-            address: other,
-        }),
-        Frame::Connect {
-            flags,
-            protocol,
-            duration,
-            ..
-        } => Some(Frame::Connect {
-            flags: *flags,
-            protocol: *protocol,
-            duration: *duration,
-            client: other,
-        }),
-        Frame::PingReq { .. } => Some(Frame::PingReq { client: other }),
-        Frame::WillMsg { .. } => Some(Frame::WillMsg { message: other }),
-        Frame::WillMsgUpd { .. } => Some(Frame::WillMsgUpd { message: other }),
-        _ => replaced_topic(frame, other),
-    }
-}
-
-/// A frame with another topic of its will, where it has a will.
-fn replaced_will(frame: &Frame, other: Octets) -> Option<Frame> {
-    match frame {
-        Frame::WillTopic { will: Some(will) } => Some(Frame::WillTopic {
-            will: Some(other_will(will, other)),
-        }),
-        Frame::WillTopicUpd { will: Some(will) } => Some(Frame::WillTopicUpd {
-            will: Some(other_will(will, other)),
-        }),
+        Frame::GwInfo { address, .. } => Some(address),
+        Frame::Connect { client, .. } | Frame::PingReq { client } => Some(client),
+        Frame::WillTopic { will } | Frame::WillTopicUpd { will } => topic_of(will),
+        Frame::WillMsg { message } | Frame::WillMsgUpd { message } => Some(message),
+        Frame::Register { name, .. } => Some(name),
+        Frame::Publish { body, .. } => Some(body),
+        Frame::Subscribe { topic, .. } | Frame::Unsubscribe { topic, .. } => Some(topic),
         _ => None,
     }
 }
 
-/// A will's flags with another topic.
-fn other_will(will: &Will, topic: Octets) -> Will {
-    Will {
-        flags: will.flags,
-        topic,
-    }
-}
-
-/// A frame with another topic name or filter, or other data.
-fn replaced_topic(frame: &Frame, other: Octets) -> Option<Frame> {
-    match frame {
-        Frame::Register {
-            topic_id,
-            msg_id,
-            ..
-        } => Some(Frame::Register {
-            topic_id: *topic_id,
-            msg_id: *msg_id,
-            name: other,
-        }),
-        Frame::Publish {
-            flags,
-            topic,
-            msg_id,
-            ..
-        } => Some(Frame::Publish {
-            flags: *flags,
-            topic: *topic,
-            msg_id: *msg_id,
-            body: other,
-        }),
-        Frame::Subscribe { flags, msg_id, .. } => Some(Frame::Subscribe {
-            flags: *flags,
-            msg_id: *msg_id,
-            topic: other,
-        }),
-        Frame::Unsubscribe { flags, msg_id, .. } => Some(Frame::Unsubscribe {
-            flags: *flags,
-            msg_id: *msg_id,
-            topic: other,
-        }),
-        _ => replaced_will(frame, other),
+/// The topic of a will, where there is a will.
+fn topic_of(will: &mut Option<Will>) -> Option<&mut Octets> {
+    match will {
+        Some(will) => Some(&mut will.topic),
+        None => None,
     }
 }
 
 /// What a datagram is, in a word: the name of its message, or the number of its fault.
 fn brief(said: &mut Page, datagram: &[u8]) {
     match read_frame(said.alloc, datagram) {
-        Ok(frame) => said.text(message_name(&frame)),
+        Ok(frame) => {
+            said.text(message_name(&frame));
+            drop(frame);
+        }
         Err(fault) => brief_fault(said, fault),
     }
 }
 
 /// The number of a fault.
 fn brief_fault(said: &mut Page, fault: FrameFault) {
-    if fault == FrameFault::Memory {
+    if matches!(fault, FrameFault::Memory) {
         said.run_out();
     }
     said.text("refused ");
     said.value(fault.number());
+    drop(fault);
 }
 
 /// What an octet in the place of MsgType and a body are; after it what they are with a Length of
@@ -191,6 +144,7 @@ fn both_forms(said: &mut Page, kind: u8, body: &[u8]) {
     let mut long = Page::new(said.alloc);
     behind(&mut long, &[1, high, low, kind], body);
     add_long(said, &long);
+    drop(long);
 }
 
 /// Adds what is said of the datagram with a Length of three octets, where that is something else.
@@ -206,21 +160,23 @@ fn add_long(said: &mut Page, long: &Page) {
 /// What a datagram of this head and this body is, in a word.
 fn behind(said: &mut Page, head: &[u8], body: &[u8]) {
     let mut datagram = Vec::new(said.alloc);
-    let is_short = datagram.extend_from_slice(head).is_err()
-        || datagram.extend_from_slice(body).is_err();
-    if is_short {
+    add(said, &mut datagram, head);
+    add(said, &mut datagram, body);
+    brief(said, &datagram);
+    drop(datagram);
+}
+
+/// Puts octets after others.
+fn add(said: &mut Page, octets: &mut Vec<u8>, more: &[u8]) {
+    if octets.extend_from_slice(more).is_err() {
         said.run_out();
     }
-    brief(said, &datagram);
 }
 
 /// Prints from which number of octets on an answer stands, if it is another than the one before it.
 fn tell(page: &mut Page, answers: &mut Answers, end: usize) {
-    let is_other = answers.is_other();
-    answers.turn(page);
-    if is_other {
-        page.word("from");
-        page.word(end);
+    if answers.turn(page) {
+        page.labelled("from", end);
         answers.print(page);
     }
 }
@@ -228,9 +184,7 @@ fn tell(page: &mut Page, answers: &mut Answers, end: usize) {
 /// Prints from which octet in the place of MsgType on an answer stands, if it is another than the
 /// one before it.
 fn tell_type(page: &mut Page, answers: &mut Answers, kind: u8) {
-    let is_other = answers.is_other();
-    answers.turn(page);
-    if is_other {
+    if answers.turn(page) {
         page.text("from ");
         page.hexadecimal(&[kind]);
         answers.print(page);
@@ -252,6 +206,7 @@ pub(crate) fn types(page: &mut Page, words: &mut Words<'_>) {
     if words.end() {
         each_type(page, &body);
     }
+    drop(body);
 }
 
 /// What a body is after each octet in the place of MsgType.
@@ -261,6 +216,7 @@ fn each_type(page: &mut Page, body: &[u8]) {
         both_forms(&mut answers.said, kind, body);
         tell_type(page, &mut answers, kind);
     }
+    drop(answers);
 }
 
 /// `bodies KIND OCTETS ..`: what each beginning of this body is after an octet in the place of
@@ -269,20 +225,25 @@ pub(crate) fn bodies(page: &mut Page, words: &mut Words<'_>) {
     let kind = field(words);
     let body = short_body(words);
     match kind.as_slice() {
-        [kind] => each_body(page, words, *kind, &body),
+        [kind] => {
+            if words.end() {
+                each_body(page, *kind, &body);
+            }
+        }
         _ => words.fail(Stop::Line),
     }
+    drop(kind);
+    drop(body);
 }
 
-/// What each beginning of a body is, if the words of the line were right.
-fn each_body(page: &mut Page, words: &mut Words<'_>, kind: u8, body: &[u8]) {
-    if words.end() {
-        let mut answers = Answers::new(page.alloc);
-        for end in 0..=body.len() {
-            both_forms(&mut answers.said, kind, &body[..end]);
-            tell(page, &mut answers, end);
-        }
+/// What each beginning of a body is.
+fn each_body(page: &mut Page, kind: u8, body: &[u8]) {
+    let mut answers = Answers::new(page.alloc);
+    for end in 0..=body.len() {
+        both_forms(&mut answers.said, kind, &body[..end]);
+        tell(page, &mut answers, end);
     }
+    drop(answers);
 }
 
 /// `beginnings OCTETS ..`: what each beginning of a datagram is, and the whole.
@@ -291,6 +252,7 @@ pub(crate) fn beginnings(page: &mut Page, words: &mut Words<'_>) {
     if words.end() {
         each_beginning(page, &datagram);
     }
+    drop(datagram);
 }
 
 /// What each beginning of a datagram is, and the whole.
@@ -300,4 +262,5 @@ fn each_beginning(page: &mut Page, datagram: &[u8]) {
         brief(&mut answers.said, &datagram[..end]);
         tell(page, &mut answers, end);
     }
+    drop(answers);
 }

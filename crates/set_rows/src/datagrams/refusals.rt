@@ -7,7 +7,7 @@ use std::fmt::Display;
 
 /// A refused datagram's line.
 pub(crate) fn refused_frame(page: &mut Page, fault: FrameFault) {
-    if fault == FrameFault::Memory {
+    if matches!(fault, FrameFault::Memory) {
         page.run_out();
     }
     refused(page, fault.number(), fault);
@@ -15,7 +15,7 @@ pub(crate) fn refused_frame(page: &mut Page, fault: FrameFault) {
 
 /// The same of a frame that is not written.
 pub(crate) fn not_written(page: &mut Page, fault: EncodeFault) {
-    if fault == EncodeFault::Memory {
+    if matches!(fault, EncodeFault::Memory) {
         page.run_out();
     }
     page.text("  not written: ");
@@ -25,7 +25,7 @@ pub(crate) fn not_written(page: &mut Page, fault: EncodeFault) {
 
 /// The same of a name, a filter or a table.
 pub(crate) fn refused_topic(page: &mut Page, fault: TopicFault) {
-    if fault == TopicFault::Memory {
+    if matches!(fault, TopicFault::Memory) {
         page.run_out();
     }
     refused(page, fault.number(), fault);

@@ -62,20 +62,20 @@ fn print_few(page: &mut Page, run: Run) {
 /// Prints octets as a text after an apostrophe where that shows them, else in hexadecimal digits.
 pub(crate) fn print_text(page: &mut Page, octets: &[u8]) {
     match str::from_utf8(octets) {
-        Ok(text) if is_text(octets) => quote(page, text),
+        Ok(text) if is_text(octets) => {
+            page.text("'");
+            page.text(text);
+        }
         _ => print_digits(page, octets),
     }
 }
 
-/// Prints a text after an apostrophe.
-fn quote(page: &mut Page, text: &str) {
-    page.text("'");
-    page.text(text);
-}
-
 /// Whether there are a few octets, each a letter, a digit or a sign of ASCII.
 fn is_text(octets: &[u8]) -> bool {
-    !octets.is_empty()
-        && octets.len() <= LONGEST_TEXT
-        && octets.iter().all(|octet| *octet > b' ' && *octet < 0x7f)
+    for octet in octets {
+        if !octet.is_ascii_graphic() {
+            return false;
+        }
+    }
+    !octets.is_empty() && octets.len() <= LONGEST_TEXT
 }

@@ -7,15 +7,25 @@ use crate::page::Page;
 use crate::stop::Stop;
 use crate::words::Words;
 use sn_topic::{Filter, Predefined, TopicFault, TopicName, matches};
+use std::mem;
 
 /// `name OCTETS ..`: a topic name, as a copy of it tells it.
 pub(crate) fn name(page: &mut Page, words: &mut Words<'_>) {
     let octets = octets(words);
     if words.end() {
-        match TopicName::new(page.alloc, &octets) {
-            Ok(name) => print_name(page, name.copy(page.alloc)),
-            Err(fault) => refused_topic(page, fault),
+        name_of_octets(page, &octets);
+    }
+    drop(octets);
+}
+
+/// The topic name of these octets.
+fn name_of_octets(page: &mut Page, octets: &[u8]) {
+    match TopicName::new(page.alloc, octets) {
+        Ok(name) => {
+            print_name(page, name.copy(page.alloc));
+            drop(name);
         }
+        Err(fault) => refused_topic(page, fault),
     }
 }
 
@@ -26,6 +36,7 @@ fn print_name(page: &mut Page, copy: Result<TopicName, TopicFault>) {
             page.text("name ");
             print_text(page, name.bytes());
             page.end();
+            drop(name);
         }
         Err(_) => page.run_out(),
     }
@@ -35,10 +46,19 @@ fn print_name(page: &mut Page, copy: Result<TopicName, TopicFault>) {
 pub(crate) fn filter(page: &mut Page, words: &mut Words<'_>) {
     let octets = octets(words);
     if words.end() {
-        match Filter::new(page.alloc, &octets) {
-            Ok(filter) => print_filter(page, filter.copy(page.alloc)),
-            Err(fault) => refused_topic(page, fault),
+        filter_of_octets(page, &octets);
+    }
+    drop(octets);
+}
+
+/// The filter of these octets.
+fn filter_of_octets(page: &mut Page, octets: &[u8]) {
+    match Filter::new(page.alloc, octets) {
+        Ok(filter) => {
+            print_filter(page, filter.copy(page.alloc));
+            drop(filter);
         }
+        Err(fault) => refused_topic(page, fault),
     }
 }
 
@@ -49,6 +69,7 @@ fn print_filter(page: &mut Page, copy: Result<Filter, TopicFault>) {
             page.text("filter ");
             print_text(page, filter.bytes());
             print_wildcards(page, filter.has_wildcard(), filter.begins_with_wildcard());
+            drop(filter);
         }
         Err(_) => page.run_out(),
     }
@@ -66,24 +87,32 @@ fn print_wildcards(page: &mut Page, has_one: bool, begins_with_one: bool) {
 
 /// `match FILTER NAME`: whether a filter asks for a name.
 pub(crate) fn asked(page: &mut Page, words: &mut Words<'_>) {
-    let (asked, given) = (field(words), field(words));
-    if let Some(filter) = words.filter_of(&asked) {
-        if let Some(name) = words.topic_of(&given) {
-            print_asked(page, words, &filter, &name);
-        }
+    let asked = field(words);
+    let given = field(words);
+    if let Some(filter) = words.last_filter(&asked) {
+        ask(page, words, filter, &given);
     }
+    drop(asked);
+    drop(given);
+}
+
+/// Whether a filter asks for a name.
+fn ask(page: &mut Page, words: &mut Words<'_>, filter: Filter, given: &[u8]) {
+    if let Some(name) = words.topic_of(given) {
+        print_asked(page, &filter, &name);
+        drop(name);
+    }
+    drop(filter);
 }
 
 /// A filter, a name, and whether the one asks for the other.
-fn print_asked(page: &mut Page, words: &mut Words<'_>, filter: &Filter, name: &TopicName) {
-    if words.end() {
-        print_text(page, filter.bytes());
-        page.text(" ");
-        page.either(matches(filter, name), "asks for", "does not ask for");
-        page.text(" ");
-        print_text(page, name.bytes());
-        page.end();
-    }
+fn print_asked(page: &mut Page, filter: &Filter, name: &TopicName) {
+    print_text(page, filter.bytes());
+    page.text(" ");
+    page.either(matches(filter, name), "asks for", "does not ask for");
+    page.text(" ");
+    print_text(page, name.bytes());
+    page.end();
 }
 
 /// `table ID NAME ..`: these are the predefined ids from here on, if they may be.
@@ -93,20 +122,40 @@ pub(crate) fn table(page: &mut Page, kept: &mut Option<Predefined>, words: &mut 
         add_entry(words, &mut entries);
     }
     if words.end() {
-        match Predefined::new(page.alloc, entries) {
-            Ok(table) => keep(page, kept, table.copy(page.alloc)),
-            Err(fault) => refused_topic(page, fault),
+        take_table(page, kept, entries);
+    } else {
+        drop(entries);
+    }
+}
+
+/// These entries are the predefined ids from here on, if they may be.
+fn take_table(page: &mut Page, kept: &mut Option<Predefined>, entries: Vec<(u16, TopicName)>) {
+    match Predefined::new(page.alloc, entries) {
+        Ok(table) => {
+            keep(page, kept, table.copy(page.alloc));
+            drop(table);
         }
+        Err(fault) => refused_topic(page, fault),
     }
 }
 
 /// Adds an id and its name.
 fn add_entry(words: &mut Words<'_>, entries: &mut Vec<(u16, TopicName)>) {
-    let (id, name) = (words.small_number(), field(words));
-    if let Some(name) = words.topic_of(&name) {
-        if entries.push((id, name)).is_err() {
-            words.fail(Stop::Memory);
-        }
+    let id = words.small_number();
+    let octets = field(words);
+    if let Some(name) = words.topic_of(&octets) {
+        push(words, entries, (id, name));
+    }
+    drop(octets);
+}
+
+/// Adds an entry.
+fn push(words: &mut Words<'_>, entries: &mut Vec<(u16, TopicName)>, entry: (u16, TopicName)) {
+    let pushed = entries.push(entry);
+    let is_short = pushed.is_err();
+    drop(pushed);
+    if is_short {
+        words.fail(Stop::Memory);
     }
 }
 
@@ -115,7 +164,7 @@ fn keep(page: &mut Page, kept: &mut Option<Predefined>, copy: Result<Predefined,
     match copy {
         Ok(table) => {
             print_table(page, table.entries());
-            *kept = Some(table);
+            drop(mem::replace(kept, Some(table)));
         }
         Err(_) => page.run_out(),
     }
@@ -141,12 +190,12 @@ fn print_entry(page: &mut Page, id: u16, name: &TopicName) {
 /// `id NAME`: the least predefined id of a name.
 pub(crate) fn id(page: &mut Page, kept: &Option<Predefined>, words: &mut Words<'_>) {
     let octets = octets(words);
-    if let Some(name) = words.topic_of(&octets) {
-        if words.end() {
-            print_text(page, name.bytes());
-            print_id(page, id_of(kept, &name));
-        }
+    if let Some(name) = words.last_topic(&octets) {
+        print_text(page, name.bytes());
+        print_id(page, id_of(kept, &name));
+        drop(name);
     }
+    drop(octets);
 }
 
 /// The least predefined id of a name.

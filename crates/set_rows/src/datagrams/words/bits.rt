@@ -51,11 +51,7 @@ pub(crate) fn print_flags(page: &mut Page, flags: Flags) {
 /// Prints the name of a bit, and the bit as a digit.
 fn print_bit(page: &mut Page, name: &str, is_set: bool) {
     page.text(name);
-    if is_set {
-        page.text("1");
-    } else {
-        page.text("0");
-    }
+    page.value(u8::from(is_set));
 }
 
 /// Prints the name of some bits, and what they say.
