@@ -1,6 +1,7 @@
 //! Calls of the libraries. These functions say nothing of them: what a library promises would stay
 //! in view of who makes the call, and no row needs it.
 
+use gw_net::{Fed, LinkFault, LinkIn};
 use gw_node::{Answer, Node, NodeFault, Step};
 use gw_shift::{CallFault, CloseFault, Closed, Ended, Pass, Shift};
 use jr_journal::{Disk, Journal, JournalFault, MemoryDisk, Slot};
@@ -17,8 +18,17 @@ use std::sync::{Arc, Wait};
 
 /// The client of this name: a copy of it, so that a row that names a client runs that call too.
 pub(crate) fn read_client(alloc: Global, name: &[u8]) -> Result<ClientId, OpsFault> {
-    let client = ClientId::new(alloc, name)?;
-    client.copy(alloc)
+    match ClientId::new(alloc, name) {
+        Ok(client) => copied(alloc, client),
+        Err(fault) => Err(fault),
+    }
+}
+
+/// A copy of a client in its place.
+fn copied(alloc: Global, client: ClientId) -> Result<ClientId, OpsFault> {
+    let copy = client.copy(alloc);
+    drop(client);
+    copy
 }
 
 /// The delta that octets spell.
@@ -63,29 +73,57 @@ pub(crate) fn told(
     advertise: u16,
     field: Sequence<Addr>,
 ) -> Option<Config> {
-    let predefined = no_predefined(alloc)?;
-    let config = Config {
-        gateway,
-        advertise,
-        field,
-        predefined,
-    };
-    config.copy(alloc).ok()
+    match no_predefined(alloc) {
+        Some(predefined) => {
+            let config = Config {
+                gateway,
+                advertise,
+                field,
+                predefined,
+            };
+            told_again(alloc, config)
+        }
+        None => {
+            drop(field);
+            None
+        }
+    }
+}
+
+/// A copy of what a gateway is told in its place; nothing if memory ran out.
+fn told_again(alloc: Global, config: Config) -> Option<Config> {
+    let copy = config.copy(alloc).ok();
+    drop(config);
+    copy
 }
 
 /// The octets that stand in a slot; nothing if memory ran out.
 pub(crate) fn slot_octets(alloc: Global, disk: &mut MemoryDisk, slot: Slot) -> Option<Vec<u8>> {
     let size = disk.len(slot).ok()?;
-    let mut octets = vec![in alloc; 0u8; size].ok()?;
+    let octets = vec![in alloc; 0u8; size].ok()?;
+    filled(disk, slot, octets)
+}
+
+/// The octets from the beginning of a slot on, in place of these.
+fn filled(disk: &mut MemoryDisk, slot: Slot, octets: Vec<u8>) -> Option<Vec<u8>> {
+    let mut octets = octets;
     match disk.read_at(slot, 0, &mut octets) {
         Ok(()) => Some(octets),
-        Err(_) => None,
+        Err(_) => {
+            drop(octets);
+            None
+        }
     }
 }
 
 /// No topic id is known beforehand; nothing if memory ran out.
 pub(crate) fn no_predefined(alloc: Global) -> Option<Predefined> {
     Predefined::new(alloc, Vec::new(alloc)).ok()
+}
+
+/// Octets come in over a link.
+pub(crate) fn feed_link(alloc: Global, link: &mut LinkIn, octets: &[u8]) -> Result<Fed, LinkFault> {
+    link.feed(alloc, octets)
 }
 
 /// A gateway is opened.
@@ -168,6 +206,17 @@ pub(crate) fn after<W: Wait, R: Replica>(
     shift.after(rt, alloc, pass, number, most)
 }
 
+/// A call to be shared; nothing if memory ran out.
+pub(crate) fn shared(alloc: Global, step: Step) -> Option<Arc<Step>> {
+    match Arc::new(alloc, step) {
+        Ok(shared) => Some(shared),
+        Err(refused) => {
+            drop(refused);
+            None
+        }
+    }
+}
+
 /// A shift is over.
 pub(crate) fn over<R: Replica>(shift: Shift<R, MemoryDisk>) -> Ended<R, MemoryDisk> {
     shift.end()
@@ -205,9 +254,13 @@ pub(crate) fn take_delta(
     replica: &mut Plain,
     delta: &Delta,
 ) -> Result<(), TakeFault> {
-    let staged = replica.prepare(alloc, delta)?;
-    replica.commit(staged);
-    Ok(())
+    match replica.prepare(alloc, delta) {
+        Ok(staged) => {
+            replica.commit(staged);
+            Ok(())
+        }
+        Err(fault) => Err(fault),
+    }
 }
 
 /// The digest of what a replica has.

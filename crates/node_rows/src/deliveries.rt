@@ -50,12 +50,14 @@ pub(crate) fn play<R: Replica>(
 
 /// The client, at port 7 of host 0 and moment 3.
 fn peer(words: &mut Words) -> Option<Peer> {
-    let client = words.client()?;
-    Some(Peer {
-        address: Addr { host: 0, port: 7 },
-        client,
-        moment: 3,
-    })
+    match words.client() {
+        Some(client) => Some(Peer {
+            address: Addr { host: 0, port: 7 },
+            client,
+            moment: 3,
+        }),
+        None => None,
+    }
 }
 
 /// Plays a line about this client, of which the gateway has a view.
@@ -114,16 +116,15 @@ fn play_visit(page: &mut Page, visit: &Visit, first: &str, octets: &[u8]) {
 /// `deliver CLIENT`: what waits goes out.
 fn deliver(page: &mut Page, visit: &Visit) {
     let mut draft = Draft::new(page.alloc());
-    let (predefined, peer) = (visit.predefined, visit.peer);
-    let (session, pending) = (visit.session, visit.pending);
     let is_short = then_deliver(
         page.alloc(),
-        predefined,
-        peer,
-        session,
-        pending,
+        visit.predefined,
+        visit.peer,
+        visit.session,
+        visit.pending,
         &mut draft,
-    ).is_err();
+    )
+    .is_err();
     page.stop_if_short(is_short);
     print_draft(page, draft);
 }
@@ -131,16 +132,15 @@ fn deliver(page: &mut Page, visit: &Visit) {
 /// `resend CLIENT`: what was sent goes out again.
 fn resend(page: &mut Page, visit: &Visit) {
     let mut draft = Draft::new(page.alloc());
-    let (predefined, peer) = (visit.predefined, visit.peer);
-    let (session, pending) = (visit.session, visit.pending);
     let is_short = then_resend(
         page.alloc(),
-        predefined,
-        peer,
-        session,
-        pending,
+        visit.predefined,
+        visit.peer,
+        visit.session,
+        visit.pending,
         &mut draft,
-    ).is_err();
+    )
+    .is_err();
     page.stop_if_short(is_short);
     print_draft(page, draft);
 }
@@ -167,11 +167,16 @@ fn hear_frame(page: &mut Page, visit: &Visit, frame: &Frame) {
 
 /// The draft of a client that releases its own message by this frame, or acknowledges one.
 fn heard(alloc: Global, visit: &Visit, frame: &Frame) -> Result<Draft, NoMemory> {
-    let (predefined, peer) = (visit.predefined, visit.peer);
-    let (session, pending) = (visit.session, visit.pending);
     match frame {
-        Frame::PubRel { msg_id } => pubrel(alloc, peer.address, session, *msg_id),
-        frame => acknowledge(alloc, predefined, peer, session, pending, frame),
+        Frame::PubRel { msg_id } => pubrel(alloc, visit.peer.address, visit.session, *msg_id),
+        frame => acknowledge(
+            alloc,
+            visit.predefined,
+            visit.peer,
+            visit.session,
+            visit.pending,
+            frame,
+        ),
     }
 }
 

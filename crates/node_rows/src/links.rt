@@ -1,6 +1,6 @@
 //! Lines about digests, and about a link.
 
-use crate::calls::read_digest;
+use crate::calls::{feed_link, read_digest};
 use crate::page::Page;
 use crate::printing::{print_delta, print_digest, print_known, print_length, print_octets};
 use crate::stop::Stop;
@@ -78,13 +78,20 @@ fn print_refused<F: Display>(page: &mut Page, fault: &F) {
 /// The message that words say; a hello of gateway 0, which nobody may say, where they say none.
 fn message(words: &mut Words) -> LinkMessage {
     match words.word() {
-        "hello" => LinkMessage::Hello(words.gateway()),
+        "hello" => hello(words),
         "delta" => LinkMessage::Delta(words.delta()),
         kind => {
             words.require(kind == "digest");
             digest_message(words)
         }
     }
+}
+
+/// The hello that words say, of a gateway.
+fn hello(words: &mut Words) -> LinkMessage {
+    let gateway = words.gateway();
+    words.require(gateway > 0);
+    LinkMessage::Hello(gateway)
 }
 
 /// The digest that words say.
@@ -95,17 +102,17 @@ fn digest_message(words: &mut Words) -> LinkMessage {
     }
 }
 
-/// A message goes out; nothing for a hello of gateway 0.
+/// A message goes out; a hello of gateway 0 does not.
 fn go_out<W: Write>(
     alloc: Global,
     writer: &mut W,
     message: &LinkMessage,
-) -> Option<Result<(), LinkOutFault>> {
+) -> Result<(), LinkOutFault> {
     match message {
-        LinkMessage::Hello(0) => None,
-        LinkMessage::Hello(_) => Some(link_out(alloc, writer, message)),
-        LinkMessage::Digest(_) => Some(link_out(alloc, writer, message)),
-        LinkMessage::Delta(_) => Some(link_out(alloc, writer, message)),
+        LinkMessage::Hello(0) => Ok(()),
+        LinkMessage::Hello(_) => link_out(alloc, writer, message),
+        LinkMessage::Digest(_) => link_out(alloc, writer, message),
+        LinkMessage::Delta(_) => link_out(alloc, writer, message),
     }
 }
 
@@ -113,11 +120,9 @@ fn go_out<W: Write>(
 pub(crate) fn say(page: &mut Page, said: &mut Vec<u8>, words: &mut Words) {
     let message = message(words);
     if words.end(page) {
-        match go_out(page.alloc(), said, &message) {
-            None => page.stop(Stop::Line),
-            Some(Ok(())) => print_octets(page, "went out ", said),
-            Some(Err(_)) => page.stop(Stop::Memory),
-        }
+        let is_short = go_out(page.alloc(), said, &message).is_err();
+        page.stop_if_short(is_short);
+        print_octets(page, "went out ", said);
     }
     drop(message);
 }
@@ -127,19 +132,19 @@ pub(crate) fn within(page: &mut Page, words: &mut Words) {
     let room = words.count();
     let message = message(words);
     if words.end(page) {
-        let gone = go_out(page.alloc(), &mut Full { room }, &message);
+        let mut writer = Full { room };
+        let gone = go_out(page.alloc(), &mut writer, &message);
         print_gone(page, gone);
     }
     drop(message);
 }
 
 /// Whether a message went out.
-fn print_gone(page: &mut Page, gone: Option<Result<(), LinkOutFault>>) {
+fn print_gone(page: &mut Page, gone: Result<(), LinkOutFault>) {
     match gone {
-        None => page.stop(Stop::Line),
-        Some(Ok(())) => page.text("went out\n"),
-        Some(Err(LinkOutFault::Memory)) => page.stop(Stop::Memory),
-        Some(Err(fault)) => print_refused(page, &fault),
+        Ok(()) => page.text("went out\n"),
+        Err(LinkOutFault::Memory) => page.stop(Stop::Memory),
+        Err(fault) => print_refused(page, &fault),
     }
 }
 
@@ -153,7 +158,7 @@ pub(crate) fn feed(page: &mut Page, link: &mut LinkIn, words: &mut Words) {
 
 /// What these octets give where they come in.
 fn print_piece(page: &mut Page, link: &mut LinkIn, octets: &[u8]) {
-    match link.feed(page.alloc(), octets) {
+    match feed_link(page.alloc(), link, octets) {
         Ok(fed) => {
             print_fed(page, &fed);
             drop(fed);

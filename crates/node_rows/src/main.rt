@@ -130,7 +130,7 @@ mod works;
 use crate::names::{Names, add, repeat};
 use crate::page::Page;
 use crate::row::Row;
-use crate::shifts::{Shifts, leave};
+use crate::shifts::leave;
 use crate::stop::{Stop, broken};
 use crate::words::Words;
 use rep_model::Replica;
@@ -138,6 +138,7 @@ use rep_plain::Plain;
 use rep_state::Folded;
 use std::alloc::{AllocError, Global};
 use std::io::{self, Input, Write};
+use std::mem;
 use std::process::ExitCode;
 use std::sync::Wait;
 use std::thread::Threads;
@@ -160,17 +161,23 @@ struct Play<R: Replica> {
     part: Part,
     names: Names,
     row: Row<R>,
-    shifts: Shifts<R>,
 }
 
 fn main(rt: HostRuntime) -> ExitCode {
     let mut page = Page::new(rt.alloc());
     play_input(&rt, &mut page);
     write(&rt, &mut page);
-    match page.reason() {
+    let reason = page.reason();
+    drop(page);
+    end(&rt, reason)
+}
+
+/// The status to end with; tells the reason, if there is one.
+fn end<T: Eprint>(rt: &T, reason: Option<Stop>) -> ExitCode {
+    match reason {
         None => ExitCode::SUCCESS,
         Some(stop) => {
-            let _ = eprintln!(&rt; "node_rows: {stop}");
+            let _ = eprintln!(rt; "node_rows: {stop}");
             ExitCode::FAILURE
         }
     }
@@ -179,28 +186,33 @@ fn main(rt: HostRuntime) -> ExitCode {
 /// Plays all lines of standard input.
 fn play_input<T>(rt: &T, page: &mut Page)
 where
-    T: Threads + Wait + Sync + Clock + Input + Eprint + AllocGlobal,
+    T: Threads + Wait + Sync + Clock + Input + Eprint,
 {
-    let mut lines = Vec::new(rt.alloc());
-    match read_lines(rt, &mut lines) {
-        Ok(()) => play_parts(rt, page, lines.as_slice()),
-        Err(stop) => page.stop(stop),
+    let mut lines = Vec::new(page.alloc());
+    read_lines(rt, page, &mut lines);
+    if page.reason().is_none() {
+        play_parts(rt, page, lines.as_slice());
     }
 }
 
 /// The lines of standard input.
-fn read_lines<T: Input + AllocGlobal>(rt: &T, lines: &mut Vec<String>) -> Result<(), Stop> {
-    for line in rt.lines(rt.alloc()) {
-        read_line(lines, line)?;
+fn read_lines<T: Input>(rt: &T, page: &mut Page, lines: &mut Vec<String>) {
+    for line in rt.lines(page.alloc()) {
+        read_line(page, lines, line);
+        if page.reason().is_some() {
+            break;
+        }
     }
-    Ok(())
 }
 
 /// A line after those that are there.
-fn read_line(lines: &mut Vec<String>, line: io::Result<String>) -> Result<(), Stop> {
+fn read_line(page: &mut Page, lines: &mut Vec<String>, line: io::Result<String>) {
     match line {
-        Ok(line) => lines.push(line).map_err(|_| Stop::Memory),
-        Err(error) => Err(broken(&error)),
+        Ok(line) => page.push(lines, line),
+        Err(error) => {
+            page.stop(broken(&error));
+            drop(error);
+        }
     }
 }
 
@@ -211,6 +223,7 @@ fn write<T: Print>(rt: &T, page: &mut Page) {
         if let Err(error) = &written {
             page.stop(broken(error));
         }
+        drop(written);
     }
 }
 
@@ -218,7 +231,7 @@ fn write<T: Print>(rt: &T, page: &mut Page) {
 /// it on once.
 fn play_parts<T>(rt: &T, page: &mut Page, lines: &[String])
 where
-    T: Threads + Wait + Sync + Clock + Eprint + AllocGlobal,
+    T: Threads + Wait + Sync + Clock + Eprint,
 {
     let (rows, others) = lines.split_at(front(lines).min(lines.len()));
     if !rows.is_empty() {
@@ -241,15 +254,16 @@ fn front(lines: &[String]) -> usize {
 /// so; where it is not, what each prints.
 fn play_both<T>(rt: &T, page: &mut Page, lines: &[String])
 where
-    T: Threads + Wait + Sync + Clock + Eprint + AllocGlobal,
+    T: Threads + Wait + Sync + Clock + Eprint,
 {
-    let mut plain = Page::new(rt.alloc());
+    let mut plain = Page::new(page.alloc());
     play_lines::<T, Folded>(rt, page, lines);
     play_lines::<T, Plain>(rt, &mut plain, lines);
     if let Some(reason) = plain.reason() {
         page.stop(reason);
     }
     print_difference(page, plain.printed());
+    drop(plain);
 }
 
 /// Whether the plain replica prints otherwise, and what.
@@ -265,17 +279,18 @@ fn print_difference(page: &mut Page, plain: &str) {
 /// Plays lines on a replica, one after the other, until something else than a line ends the play.
 fn play_lines<T, R>(rt: &T, page: &mut Page, lines: &[String])
 where
-    T: Threads + Wait + Sync + Clock + Eprint + AllocGlobal,
+    T: Threads + Wait + Sync + Clock + Eprint,
     R: Replica + Send,
     R::Staged: Send,
 {
-    let mut play: Play<R> = begin(rt.alloc());
+    let mut play: Play<R> = begin(page.alloc());
     for line in lines {
         if page.reason().is_none() {
             answer(rt, page, &mut play, line.as_str());
         }
     }
-    leave(page, &mut play.shifts);
+    leave(page, &mut play.row.shifts);
+    drop(play);
 }
 
 /// No line has brought anything about.
@@ -284,18 +299,17 @@ fn begin<R: Replica>(alloc: Global) -> Play<R> {
         part: Part::Rows,
         names: Names::new(alloc),
         row: Row::new(alloc),
-        shifts: Shifts::new(alloc),
     }
 }
 
 /// Plays a line; empty ones and explanations say nothing.
 fn answer<T, R>(rt: &T, page: &mut Page, play: &mut Play<R>, line: &str)
 where
-    T: Threads + Wait + Sync + Clock + Eprint + AllocGlobal,
+    T: Threads + Wait + Sync + Clock + Eprint,
     R: Replica + Send,
     R::Staged: Send,
 {
-    if !line.is_empty() && !line.starts_with('#') {
+    if !is_silent(line) {
         match line.strip_prefix("== ") {
             Some(name) => begin_row(page, play, name),
             None => answer_words(rt, page, play, line),
@@ -303,11 +317,15 @@ where
     }
 }
 
+/// Whether a line says nothing.
+fn is_silent(line: &str) -> bool {
+    line.is_empty() || line.starts_with("#")
+}
+
 /// A row of this name begins.
 fn begin_row<R: Replica>(page: &mut Page, play: &mut Play<R>, name: &str) {
-    leave(page, &mut play.shifts);
-    play.row = Row::new(page.alloc());
-    play.shifts = Shifts::new(page.alloc());
+    leave(page, &mut play.row.shifts);
+    drop(mem::replace(&mut play.row, Row::new(page.alloc())));
     page.text("== ");
     page.text(name);
     page.end();
@@ -316,7 +334,7 @@ fn begin_row<R: Replica>(page: &mut Page, play: &mut Play<R>, name: &str) {
 /// Plays a heading or a line of words; tells a line that is none of the language.
 fn answer_words<T, R>(rt: &T, page: &mut Page, play: &mut Play<R>, line: &str)
 where
-    T: Threads + Wait + Sync + Clock + Eprint + AllocGlobal,
+    T: Threads + Wait + Sync + Clock + Eprint,
     R: Replica + Send,
     R::Staged: Send,
 {
@@ -335,7 +353,7 @@ where
 /// Plays a line of words.
 fn play_words<T, R>(rt: &T, page: &mut Page, play: &mut Play<R>, line: &str)
 where
-    T: Threads + Wait + Sync + Clock + Eprint + AllocGlobal,
+    T: Threads + Wait + Sync + Clock + Eprint,
     R: Replica + Send,
     R::Staged: Send,
 {
@@ -344,33 +362,35 @@ where
         Ok(words) => play_line(rt, page, play, words.as_slice()),
         Err(_) => page.stop(Stop::Memory),
     }
+    drop(words);
 }
 
 /// Plays a line that is about names, or one of the part.
 fn play_line<T, R>(rt: &T, page: &mut Page, play: &mut Play<R>, words: &[&str])
 where
-    T: Threads + Wait + Sync + Clock + Eprint + AllocGlobal,
+    T: Threads + Wait + Sync + Clock + Eprint,
     R: Replica + Send,
     R::Staged: Send,
 {
     match words {
         ["name", fields @ ..] => add(page, &mut play.names, fields),
         ["repeat", fields @ ..] => repeat(page, &mut play.names, fields),
-        words => {
-            let mut words = Words::new(rt.alloc(), &play.names, words);
-            let first = words.word();
-            match play.part {
-                Part::Rows => row::play(page, &mut play.row, first, &mut words),
-                Part::Shifts => shifts::play(
-                    rt,
-                    page,
-                    &mut play.row,
-                    &mut play.shifts,
-                    first,
-                    &mut words,
-                ),
-                Part::Works => works::play(rt, page, first, &mut words),
-            }
-        }
+        words => play_part(rt, page, play, words),
+    }
+}
+
+/// Plays a line of the part.
+fn play_part<T, R>(rt: &T, page: &mut Page, play: &mut Play<R>, words: &[&str])
+where
+    T: Threads + Wait + Sync + Clock + Eprint,
+    R: Replica + Send,
+    R::Staged: Send,
+{
+    let mut words = Words::new(page.alloc(), &play.names, words);
+    let first = words.word();
+    match play.part {
+        Part::Rows => row::play(page, &mut play.row, first, &mut words),
+        Part::Shifts => shifts::play(rt, page, &mut play.row, first, &mut words),
+        Part::Works => works::play(rt, page, first, &mut words),
     }
 }

@@ -44,17 +44,19 @@ pub(crate) fn add(page: &mut Page, names: &mut Names, fields: &[&str]) {
     let octets = words.octets();
     if words.end(page) {
         keep(page, names, name, octets);
+    } else {
+        drop(octets);
     }
 }
 
 /// From here on the name is these octets.
 fn keep(page: &mut Page, names: &mut Names, name: &str, octets: Vec<u8>) {
     match String::from_str(page.alloc(), name) {
-        Ok(name) => {
-            let is_short = names.all.push(Named { name, octets }).is_err();
-            page.stop_if_short(is_short);
+        Ok(name) => page.push(&mut names.all, Named { name, octets }),
+        Err(_) => {
+            drop(octets);
+            page.stop(Stop::Memory);
         }
-        Err(_) => page.stop(Stop::Memory),
     }
 }
 

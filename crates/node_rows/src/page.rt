@@ -85,7 +85,7 @@ impl Page {
 
     /// The same with a length.
     pub(crate) fn length(&mut self, text: &str, length: usize) {
-        self.shown(text, &length);
+        self.number(text, length as u64);
     }
 
     /// Prints a text, and octets after it, each in two hexadecimal digits; `-` for none.
@@ -107,9 +107,7 @@ impl Page {
 
     /// Prints a text, and a checksum after it in sixteen hexadecimal digits.
     pub(crate) fn checksum(&mut self, text: &str, sum: u64) {
-        self.text(text);
-        let is_short = write!(self.printed, "{sum:016x}").is_err();
-        self.stop_if_short(is_short);
+        self.octets(text, &sum.to_be_bytes());
     }
 
     /// Ends the line.
@@ -117,7 +115,15 @@ impl Page {
         self.text("\n");
     }
 
-    /// Puts octets after those of a list.
+    /// Puts an item behind those of a list.
+    pub(crate) fn push<I: Drop>(&mut self, items: &mut Vec<I>, item: I) {
+        let pushed = items.push(item);
+        let is_short = pushed.is_err();
+        drop(pushed);
+        self.stop_if_short(is_short);
+    }
+
+    /// Puts octets behind those of a list.
     pub(crate) fn add(&mut self, octets: &mut Vec<u8>, more: &[u8]) {
         let is_short = octets.extend_from_slice(more).is_err();
         self.stop_if_short(is_short);

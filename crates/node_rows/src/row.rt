@@ -5,6 +5,7 @@ use crate::deliveries;
 use crate::gateways::{Store, fail, open, slots, state};
 use crate::links::{beginnings, digest, feed, say, within};
 use crate::page::Page;
+use crate::shifts::Shifts;
 use crate::steps::{call_as_value, call_once};
 use crate::stop::Stop;
 use crate::words::Words;
@@ -18,6 +19,7 @@ use std::alloc::Global;
 #[derive(Drop)]
 pub(crate) struct Row<R: Replica> {
     pub(crate) store: Store<R>,
+    pub(crate) shifts: Shifts<R>,
     /// The end of the link at which pieces come in.
     link: LinkIn,
     /// What went out.
@@ -29,6 +31,7 @@ impl<R: Replica> Row<R> {
     pub(crate) fn new(alloc: Global) -> Row<R> {
         Row {
             store: Store::new(alloc),
+            shifts: Shifts::new(alloc),
             link: LinkIn::new(),
             said: Vec::new(alloc),
         }

@@ -103,13 +103,9 @@ impl<'a, 'n> Words<'a, 'n> {
 
     /// A number below 65,536.
     pub(crate) fn number(&mut self) -> u16 {
-        match self.word().parse::<u16>() {
-            Ok(number) => number,
-            Err(_) => {
-                self.fail(Stop::Line);
-                0
-            }
-        }
+        let number = self.large();
+        self.require(number < 65_536);
+        (number % 65_536) as u16
     }
 
     /// A number below 4,294,967,296.
@@ -249,7 +245,9 @@ impl<'a, 'n> Words<'a, 'n> {
     /// The delta that the words that are left spell; an empty one if they spell none.
     pub(crate) fn delta(&mut self) -> Delta {
         let octets = self.octets();
-        match read_delta(self.alloc, &octets) {
+        let read = read_delta(self.alloc, &octets);
+        drop(octets);
+        match read {
             Ok(delta) => delta,
             Err(fault) => {
                 self.fail(misread(&fault));
@@ -261,7 +259,9 @@ impl<'a, 'n> Words<'a, 'n> {
     /// The digest that the words that are left spell.
     pub(crate) fn digest(&mut self) -> Option<Digest> {
         let octets = self.octets();
-        match read_digest(self.alloc, &octets) {
+        let read = read_digest(self.alloc, &octets);
+        drop(octets);
+        match read {
             Ok(digest) => Some(digest),
             Err(fault) => {
                 self.fail(misread(&fault));

@@ -46,7 +46,7 @@ use std::time::Clock;
 /// Plays a line whose first word this is.
 pub(crate) fn play<T>(rt: &T, page: &mut Page, name: &str, words: &mut Words)
 where
-    T: Threads + Wait + Sync + Clock + Eprint + AllocGlobal,
+    T: Threads + Wait + Sync + Clock + Eprint,
 {
     let count = words.large();
     if words.has_more() {
@@ -71,13 +71,10 @@ fn work(page: &mut Page, name: &str, rounds: u32) {
     }
 }
 
-/// What a call of a work gave; nothing if it was refused.
-fn worked<T>(page: &mut Page, given: Result<T, OpsFault>) -> Option<T> {
+/// Notes a call of a work that was refused.
+fn check(page: &mut Page, given: Result<(), OpsFault>) {
     match given {
-        Ok(given) => Some(given),
-        Err(fault) => {
-            page.stop(unworked(&fault));
-            None
-        }
+        Ok(()) => {}
+        Err(fault) => page.stop(unworked(&fault)),
     }
 }

@@ -18,6 +18,9 @@ const TWICE: &str = "
     settings
 ";
 
+/// What stands in front of what is appended.
+const FRONT: &[u8] = b"\x01\x02";
+
 /// The calls of some rows, with what they need.
 pub(crate) trait Calls: Drop {
     /// Calls, and prints what that gives. If the call is refused memory, looks at what must not
@@ -49,17 +52,28 @@ pub(crate) fn play<C: Made>(said: &mut Said, call: &str) {
 /// Whether a word is one of these.
 pub(crate) fn is_one_of(word: &str, words: &str) -> bool {
     for other in words.split_whitespace() {
-        if word == other {
+        if is_word(word, other) {
             return true;
         }
     }
     false
 }
 
+/// Whether a word is this one.
+pub(crate) fn is_word(word: &str, other: &str) -> bool {
+    word == other
+}
+
+/// Whether octets are these.
+pub(crate) fn is_same(octets: &[u8], others: &[u8]) -> bool {
+    octets == others
+}
+
 /// Makes what a call of a row needs, and plays it.
 fn play_made<C: Made>(said: &mut Said, call: &str, is_second: bool) {
     if let Some(mut calls) = C::make(said, call, is_second) {
         play_call(said, &mut calls, call);
+        drop(calls);
     }
 }
 
@@ -80,7 +94,8 @@ pub(crate) fn play_call<C: Calls>(said: &mut Said, calls: &mut C, call: &str) {
 pub(crate) fn beside<T, F: Drop>(said: &mut Said, answer: Result<T, F>) -> Option<T> {
     match answer {
         Ok(given) => Some(given),
-        Err(_fault) => {
+        Err(fault) => {
+            drop(fault);
             said.stop(Stop::Memory);
             None
         }
@@ -100,6 +115,16 @@ pub(crate) fn given<T: Shown, F: PartialEq + Drop>(
         }
         Err(fault) => said.refuse(*fault == memory),
     }
+    drop(answer);
+    drop(memory);
+}
+
+/// An item comes after the others of a list that is made beside the call.
+pub(crate) fn add<T: Drop>(said: &mut Said, list: &mut Vec<T>, item: T) {
+    let pushed = list.push(item);
+    let is_short = pushed.is_err();
+    drop(pushed);
+    said.stop_if_short(is_short);
 }
 
 /// Octets that are made beside the call; none if that is refused.
@@ -115,7 +140,7 @@ pub(crate) fn octets_or_none(said: &mut Said, made: Result<Vec<u8>, AllocError>)
 
 /// Octets to which something is appended.
 pub(crate) fn front(said: &mut Said) -> Vec<u8> {
-    let made = Vec::from_slice(said.alloc, b"\x01\x02");
+    let made = Vec::from_slice(said.alloc, FRONT);
     octets_or_none(said, made)
 }
 
@@ -129,9 +154,11 @@ pub(crate) fn written<F: PartialEq + Drop>(
     match &done {
         Ok(()) => said.answer(),
         Err(fault) => {
-            said.keep(out == b"\x01\x02".as_slice());
+            said.keep(is_same(out, FRONT));
             said.refuse(*fault == memory);
         }
     }
-    done.is_ok()
+    drop(done);
+    drop(memory);
+    said.is_answered()
 }

@@ -1,6 +1,6 @@
 //! Settings, the start of a daemon, and its files.
 
-use crate::calls::{Calls, Made, Shown, given, play_call};
+use crate::calls::{Calls, Made, Shown, given, is_same, is_word, play_call};
 use crate::page::Page;
 use crate::said::{Said, Stop};
 use file_disk::{FileDisk, FileDiskFault};
@@ -33,16 +33,23 @@ impl Made for Starts {
 
 impl Calls for Starts {
     fn call_once(&mut self, said: &mut Said, call: &str) {
-        if call == "settings" {
+        if is_word(call, "settings") {
             let read = settings(said.alloc, self.text);
             given(said, read, SettingsFault::Memory);
         } else {
-            match &settings(said.alloc, LONG) {
-                Ok(read) => begin_once(said, read),
-                Err(_) => said.stop(Stop::Memory),
-            }
+            begin_read(said);
         }
     }
+}
+
+/// Starts a gateway of all settings, which are read beside the call.
+fn begin_read(said: &mut Said) {
+    let read = settings(said.alloc, LONG);
+    match &read {
+        Ok(read) => begin_once(said, read),
+        Err(_) => said.stop(Stop::Memory),
+    }
+    drop(read);
 }
 
 impl Shown for Settings {
@@ -71,20 +78,28 @@ fn begin_once(said: &mut Said, read: &Settings) {
             look(said, err.as_slice());
         }
     }
+    drop(out);
+    drop(err);
 }
 
 /// The status of a start that is refused.
 fn begun(said: &mut Said, read: &Settings, out: &mut Page, err: &mut Page) -> Option<u8> {
     let disk = MemoryDisk::new(said.alloc);
-    begin::<Folded, _, Page, Page>(said.alloc, read, disk, out, err).err()
+    match begin::<Folded, _, Page, Page>(said.alloc, read, disk, out, err) {
+        Ok(node) => {
+            drop(node);
+            None
+        }
+        Err(status) => Some(status),
+    }
 }
 
 /// Looks at what a refused start prints. The disk, which begins empty, is gone then.
 fn look(said: &mut Said, line: &[u8]) {
-    if line == b"sngw: journal J4\n".as_slice() {
+    if is_same(line, b"sngw: journal J4\n") {
         said.refuse(true);
     } else {
-        said.keep(line == b"sngw: journal J1\n".as_slice());
+        said.keep(is_same(line, b"sngw: journal J1\n"));
         said.starve();
     }
 }
@@ -102,12 +117,13 @@ pub(crate) fn play_files<T: Files<File = File>>(rt: &T, said: &mut Said, call: &
 
 impl<'a, T: Files<File = File>> Calls for Opens<'a, T> {
     fn call_once(&mut self, said: &mut Said, _call: &str) {
-        match &FileDisk::at(self.rt, said.alloc, "j") {
-            Ok(_disk) => {
+        match FileDisk::at(self.rt, said.alloc, "j") {
+            Ok(disk) => {
+                drop(disk);
                 said.page.append(b"two files\n");
                 said.answer();
             }
-            Err(fault) => said.refuse(*fault == FileDiskFault::Memory),
+            Err(fault) => said.refuse(fault == FileDiskFault::Memory),
         }
     }
 }

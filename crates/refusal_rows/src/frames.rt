@@ -1,6 +1,6 @@
 //! Frames.
 
-use crate::calls::{Calls, Made, Shown, beside, front, given, octets_or_none, written};
+use crate::calls::{Calls, Made, Shown, beside, front, given, is_word, octets_or_none, written};
 use crate::deltas::octets_of;
 use crate::said::{Said, Stop};
 use octets::Octets;
@@ -11,47 +11,62 @@ const SHORT: [&str; 2] = ["0a16", "6162636465666768"];
 
 const LONG: [&str; 2] = ["01000c16", "6162636465666768"];
 
-/// A datagram that is read; and a PUBLISH with so many octets of message, of which the first one
-/// needs three octets of Length and the second one does not. It is written after two octets.
+/// Whether the second one of two datagrams is read; and of two PUBLISH, of which the first one needs
+/// three octets of Length and the second one does not. It is written after two octets.
 #[derive(Drop)]
 pub(crate) struct Frames {
-    datagram: Vec<u8>,
-    frame: Frame,
+    is_second: bool,
     out: Vec<u8>,
 }
 
 impl Made for Frames {
     fn make(said: &mut Said, _call: &str, is_second: bool) -> Option<Frames> {
-        let (digits, size) = if is_second {
-            (&LONG, 248)
-        } else {
-            (&SHORT, 249)
-        };
-        let body = body(said, size)?;
-        let frame = Frame::Publish {
-            flags: Flags { bits: 0 },
-            topic: 1,
-            msg_id: 0,
-            body,
-        };
-        Some(Frames {
-            datagram: octets_of(said, digits),
-            frame,
-            out: front(said),
-        })
+        let out = front(said);
+        Some(Frames { is_second, out })
     }
 }
 
 impl Calls for Frames {
     fn call_once(&mut self, said: &mut Said, call: &str) {
-        if call == "decode" {
-            let read = decode(said.alloc, self.datagram.as_slice());
-            given(said, read, FrameFault::Memory);
+        if is_word(call, "decode") {
+            let digits = if self.is_second { &LONG } else { &SHORT };
+            read(said, digits);
         } else {
-            let done = encode(said.alloc, &self.frame, &mut self.out);
+            let size = if self.is_second { 248 } else { 249 };
+            self.write(said, size);
+        }
+    }
+}
+
+impl Frames {
+    /// Writes a PUBLISH with so many octets of message.
+    fn write(&mut self, said: &mut Said, size: usize) {
+        if let Some(body) = body(said, size) {
+            let done = written_to(said, body, &mut self.out);
             show_written(said, done, self.out.as_slice());
         }
     }
+}
+
+/// Reads a datagram.
+fn read(said: &mut Said, digits: &[&str]) {
+    let datagram = octets_of(said, digits);
+    let read = decode(said.alloc, datagram.as_slice());
+    drop(datagram);
+    given(said, read, FrameFault::Memory);
+}
+
+/// Writes a PUBLISH of this message.
+fn written_to(said: &mut Said, body: Octets, out: &mut Vec<u8>) -> Result<(), EncodeFault> {
+    let frame = Frame::Publish {
+        flags: Flags { bits: 0 },
+        topic: 1,
+        msg_id: 0,
+        body,
+    };
+    let done = encode(said.alloc, &frame, out);
+    drop(frame);
+    done
 }
 
 /// A message of so many octets.

@@ -1,15 +1,18 @@
 //! One gateway.
 
-use crate::calls::{Calls, Made, Shown, beside, given};
-use crate::deltas::{client, delta, octets_of, spelled};
+use crate::calls::{Calls, Made, Shown, beside, given, is_same, is_word};
+use crate::deltas::{client, delta, octets_of, spelled_or_none};
+use crate::digests::empty_digest;
+use crate::journals::replaced;
 use crate::locals::{HERE, config};
 use crate::said::{Said, Stop};
 use gw_node::{Answer, Node, NodeFault, Out, Step};
 use jr_journal::MemoryDisk;
 use octets::{NoMemory, Octets};
-use rep_digest::Digest;
 use rep_model::Replica;
+use sn_local::Config;
 use std::alloc::Global;
+use std::marker::PhantomData;
 use std::mem;
 
 /// The first CONNECT of client s1, and its SUBSCRIBE to `t/#`.
@@ -34,42 +37,65 @@ const RETAINED: [&str; 2] = ["0200000001", "040003742f61000000000000000101010001
 /// A gateway on a disk in memory.
 pub(crate) type Gateway<R> = Node<R, MemoryDisk>;
 
-/// A disk on which a gateway is opened, and that gateway.
+/// A disk on which a gateway is opened.
 #[derive(Drop)]
 pub(crate) struct Openings<R: Replica> {
     disk: MemoryDisk,
-    opened: Option<Gateway<R>>,
+    replica: PhantomData<R>,
 }
 
 impl<R: Replica> Made for Openings<R> {
     fn make(said: &mut Said, _call: &str, is_second: bool) -> Option<Openings<R>> {
         let disk = if is_second {
-            gateway::<R>(said, true)?.into_disk()
+            used_disk::<R>(said)
         } else {
             MemoryDisk::new(said.alloc)
         };
-        Some(Openings { disk, opened: None })
+        Some(Openings {
+            disk,
+            replica: PhantomData,
+        })
+    }
+}
+
+/// The disk of a gateway at which the client is connected.
+fn used_disk<R: Replica>(said: &mut Said) -> MemoryDisk {
+    match gateway::<R>(said, true) {
+        Some(node) => node.into_disk(),
+        None => MemoryDisk::new(said.alloc),
     }
 }
 
 impl<R: Replica> Calls for Openings<R> {
     fn call_once(&mut self, said: &mut Said, _call: &str) {
         if let Some(config) = config(said) {
-            let disk = mem::replace(&mut self.disk, MemoryDisk::new(said.alloc));
-            match Node::open(said.alloc, config, disk) {
-                Ok(node) => {
-                    said.number("records", node.records() as usize);
-                    show_kept(said, &node);
-                    said.answer();
-                    self.opened = Some(node);
-                }
-                Err((disk, fault)) => {
-                    self.disk = disk;
-                    look_closed(said, self.disk.starved(), &fault);
-                }
+            let disk = replaced(&mut self.disk, MemoryDisk::new(said.alloc));
+            let opened = Node::open(said.alloc, config, disk);
+            self.look(said, opened);
+        }
+    }
+}
+
+impl<R: Replica> Openings<R> {
+    /// Looks at an opening. If it was refused, the disk came back.
+    fn look(&mut self, said: &mut Said, opened: Result<Gateway<R>, (MemoryDisk, NodeFault)>) {
+        match opened {
+            Ok(node) => show_opened(said, node),
+            Err((disk, fault)) => {
+                look_closed(said, disk.starved(), &fault);
+                drop(fault);
+                drop(replaced(&mut self.disk, disk));
             }
         }
     }
+}
+
+/// Prints how many records a gateway has read, and what it keeps.
+fn show_opened<R: Replica>(said: &mut Said, node: Gateway<R>) {
+    said.number("records", node.records() as usize);
+    show_kept(said, &node);
+    drop(node);
+    said.answer();
 }
 
 /// Looks at a refused opening.
@@ -95,18 +121,35 @@ pub(crate) struct Gateways<R: Replica> {
 
 impl<R: Replica> Made for Gateways<R> {
     fn make(said: &mut Said, call: &str, is_second: bool) -> Option<Gateways<R>> {
-        let is_connected = is_second || (call != "Node::frame" && call != "Node::retained");
-        let mut node = gateway(said, is_connected)?;
-        if call == "Node::retained" {
-            let retained = step_of(said, &RETAINED);
-            call_beside(said, &mut node, retained);
+        let is_connected = is_second || !is_about_none(call);
+        match gateway(said, is_connected) {
+            Some(node) => Some(ready(said, node, call, is_connected)),
+            None => None,
         }
-        Some(Gateways {
-            stood: kept(said, &node),
-            node,
-            step: step(said, call, is_connected),
-            is_connected,
-        })
+    }
+}
+
+/// Whether a call is first made of a gateway without clients.
+fn is_about_none(call: &str) -> bool {
+    is_word(call, "Node::frame") || is_word(call, "Node::retained")
+}
+
+/// A gateway of which this call is made. It has retained a message if that is asked for.
+fn ready<R: Replica>(
+    said: &mut Said,
+    mut node: Gateway<R>,
+    call: &str,
+    is_connected: bool,
+) -> Gateways<R> {
+    if is_word(call, "Node::retained") {
+        let retained = step_of(said, &RETAINED);
+        call_beside(said, &mut node, retained);
+    }
+    Gateways {
+        stood: kept(said, &node),
+        node,
+        step: step(said, call, is_connected),
+        is_connected,
     }
 }
 
@@ -133,7 +176,7 @@ impl<R: Replica> Calls for Gateways<R> {
 impl<R: Replica> Gateways<R> {
     /// Makes a call, and looks at the answer.
     fn answer_once(&mut self, said: &mut Said, call: &str) {
-        let answer = if call == "Node::step" {
+        let answer = if is_word(call, "Node::step") {
             called_thrice(said, &mut self.node, &self.step)
         } else {
             called(said.alloc, &mut self.node, &self.step)
@@ -146,6 +189,7 @@ impl<R: Replica> Gateways<R> {
             }
             Err(fault) => self.look(said, fault),
         }
+        drop(answer);
     }
 
     /// Looks at a refusal: all is as it was, but that the gateway halts if its disk fails.
@@ -158,8 +202,10 @@ impl<R: Replica> Gateways<R> {
             }
         }
         let stands = kept(said, &self.node);
-        said.keep(stands.as_slice() == self.stood.as_slice());
-        self.revive(said);
+        said.keep_octets(stands, self.stood.as_slice());
+        if self.node.is_halted() {
+            self.revive(said);
+        }
     }
 
     /// Looks at a gateway whose disk failed, and at what it answered.
@@ -176,10 +222,8 @@ impl<R: Replica> Gateways<R> {
 
     /// Puts a gateway as it was in the place of a halted one.
     fn revive(&mut self, said: &mut Said) {
-        if self.node.is_halted() {
-            if let Some(node) = gateway(said, self.is_connected) {
-                self.node = node;
-            }
+        if let Some(node) = gateway(said, self.is_connected) {
+            drop(mem::replace(&mut self.node, node));
         }
     }
 }
@@ -187,8 +231,9 @@ impl<R: Replica> Gateways<R> {
 /// A call as a value.
 fn step(said: &mut Said, call: &str, is_connected: bool) -> Step {
     match call {
-        "Node::frame" if !is_connected => frame(said, CONNECT),
-        "Node::frame" | "Node::step" => frame(said, SUBSCRIBE),
+        "Node::frame" | "Node::step" => {
+            frame(said, if is_connected { SUBSCRIBE } else { CONNECT })
+        }
         "Node::take" => step_of(said, &OTHER),
         "Node::tick" => Step::Tick { now: 1_000 },
         "Node::compact" => Step::Compact,
@@ -210,12 +255,6 @@ fn asking(said: &mut Said, call: &str) -> Step {
         },
         _ => Step::Digest,
     }
-}
-
-/// The digest of a replica that has taken nothing.
-fn empty_digest(said: &mut Said) -> Option<Digest> {
-    let read = Digest::decode(said.alloc, b"\x01\x00\x00\x00\x00");
-    beside(said, read)
 }
 
 /// A datagram from the client's address.
@@ -258,49 +297,62 @@ fn called<R: Replica>(alloc: Global, node: &mut Gateway<R>, step: &Step) -> Answ
 /// A call as a value, which answers three times.
 fn called_thrice<R: Replica>(said: &mut Said, node: &mut Gateway<R>, step: &Step) -> Answer {
     let (first, second, third) = node.step(said.alloc, step);
-    let is_ok = first.is_ok();
-    said.keep(second.is_ok() == is_ok && third.is_ok() == is_ok);
+    let is_ok = has_answered(&first);
+    said.keep(has_answered(&second) == is_ok && has_answered(&third) == is_ok);
+    drop(second);
+    drop(third);
     first
+}
+
+/// Whether a call was not refused.
+fn has_answered(answer: &Answer) -> bool {
+    answer.is_ok()
 }
 
 /// Makes a call beside the row's.
 fn call_beside<R: Replica>(said: &mut Said, node: &mut Gateway<R>, step: Step) {
     let answer = called(said.alloc, node, &step);
-    said.stop_if_short(answer.is_err());
+    drop(step);
+    said.stop_if_short(!has_answered(&answer));
+    drop(answer);
 }
 
 /// A gateway without clients, or one at which the client is connected.
 pub(crate) fn gateway<R: Replica>(said: &mut Said, is_connected: bool) -> Option<Gateway<R>> {
-    let mut node = new(said)?;
+    match config(said) {
+        Some(config) => opened(said, config, is_connected),
+        None => None,
+    }
+}
+
+/// The same of a gateway that is told this.
+fn opened<R: Replica>(said: &mut Said, config: Config, is_connected: bool) -> Option<Gateway<R>> {
+    let opened = Node::open(said.alloc, config, MemoryDisk::new(said.alloc));
+    match beside(said, opened) {
+        Some(node) => Some(connected(said, node, is_connected)),
+        None => None,
+    }
+}
+
+/// A gateway at which the client connects, or not.
+fn connected<R: Replica>(said: &mut Said, mut node: Gateway<R>, is_connected: bool) -> Gateway<R> {
     if is_connected {
         let connect = frame(said, CONNECT);
         call_beside(said, &mut node, connect);
     }
-    Some(node)
-}
-
-/// A gateway without clients.
-fn new<R: Replica>(said: &mut Said) -> Option<Gateway<R>> {
-    let config = config(said)?;
-    let opened = Node::open(said.alloc, config, MemoryDisk::new(said.alloc));
-    beside(said, opened)
+    node
 }
 
 /// The octets of what a gateway must keep.
 fn kept<R: Replica>(said: &mut Said, node: &Gateway<R>) -> Vec<u8> {
-    match &node.held(said.alloc) {
-        Ok(deltas) => spelled(said, deltas.as_slice()),
-        Err(_) => {
-            said.stop(Stop::Memory);
-            Vec::new(said.alloc)
-        }
-    }
+    let held = node.held(said.alloc);
+    spelled_or_none(said, held)
 }
 
 /// Prints the octets of what a gateway must keep.
 pub(crate) fn show_kept<R: Replica>(said: &mut Said, node: &Gateway<R>) {
     let octets = kept(said, node);
-    said.octets(octets.as_slice());
+    said.print(octets);
 }
 
 /// Whether this is sent instead of the answer, and nothing else is said.
@@ -310,7 +362,7 @@ pub(crate) fn is_excuse(out: &Out, excuse: &[u8]) -> bool {
     }
     match out.sends.as_slice() {
         [] => excuse.is_empty(),
-        [send] => send.bytes.as_slice() == excuse,
+        [send] => is_same(send.bytes.as_slice(), excuse),
         _ => false,
     }
 }

@@ -1,11 +1,14 @@
 //! Journals on a disk in memory.
 
-use crate::calls::{Calls, Made, Shown, beside, octets_or_none};
+use crate::calls::{Calls, Made, Shown, add, is_word, octets_or_none};
 use crate::deltas::{FIRST, delta};
 use crate::said::{Said, Stop};
 use jr_journal::{Disk, Journal, JournalFault, MemoryDisk, Slot};
 use rep_ops::Delta;
 use std::mem;
+
+/// What the opening of a journal gives.
+type Opened = Result<(Journal<MemoryDisk>, Vec<Delta>), (MemoryDisk, JournalFault)>;
 
 /// A disk on which a journal is opened.
 #[derive(Drop)]
@@ -16,7 +19,7 @@ pub(crate) struct Disks {
 impl Made for Disks {
     fn make(said: &mut Said, _call: &str, is_second: bool) -> Option<Disks> {
         let disk = if is_second {
-            journal(said, true)?.into_disk()
+            used_disk(said)
         } else {
             MemoryDisk::new(said.alloc)
         };
@@ -24,17 +27,39 @@ impl Made for Disks {
     }
 }
 
+/// The disk of a journal with one record.
+fn used_disk(said: &mut Said) -> MemoryDisk {
+    match journal(said, true) {
+        Some(journal) => journal.into_disk(),
+        None => MemoryDisk::new(said.alloc),
+    }
+}
+
+/// The disk that was in this place, where there is another one now.
+pub(crate) fn replaced(place: &mut MemoryDisk, disk: MemoryDisk) -> MemoryDisk {
+    mem::replace(place, disk)
+}
+
 impl Calls for Disks {
     fn call_once(&mut self, said: &mut Said, _call: &str) {
-        let disk = mem::replace(&mut self.disk, MemoryDisk::new(said.alloc));
-        match Journal::open(said.alloc, disk, 1) {
+        let disk = replaced(&mut self.disk, MemoryDisk::new(said.alloc));
+        let opened = Journal::open(said.alloc, disk, 1);
+        self.look(said, opened);
+    }
+}
+
+impl Disks {
+    /// Looks at an opening. If it was refused, the disk came back.
+    fn look(&mut self, said: &mut Said, opened: Opened) {
+        match opened {
             Ok((journal, deltas)) => {
                 deltas.show(said);
+                drop(deltas);
                 show(said, journal);
             }
             Err((disk, fault)) => {
-                self.disk = disk;
-                look_closed(said, self.disk.starved(), &fault);
+                look_closed(said, disk.starved(), &fault);
+                drop(replaced(&mut self.disk, disk));
             }
         }
     }
@@ -61,9 +86,8 @@ pub(crate) struct Journals {
 
 impl Made for Journals {
     fn make(said: &mut Said, call: &str, _is_second: bool) -> Option<Journals> {
-        let journal = journal(said, call != "Journal::append")?;
         Some(Journals {
-            journal: Some(journal),
+            journal: journal(said, !is_word(call, "Journal::append")),
             delta: delta(said, &FIRST),
             base: base(said),
         })
@@ -77,7 +101,7 @@ impl Calls for Journals {
                 Ok(()) => show(said, journal),
                 Err(fault) => {
                     look(said, &mut journal, &fault);
-                    self.journal = Some(journal);
+                    drop(mem::replace(&mut self.journal, Some(journal)));
                 }
             }
         }
@@ -96,12 +120,20 @@ impl Journals {
         match call {
             "Journal::append" => journal.append(said.alloc, &self.delta),
             "Journal::compact" => journal.compact(said.alloc, self.base.as_slice()),
-            _ => {
-                let read = journal.reopen(said.alloc)?;
-                said.number("records", read.len());
-                Ok(())
-            }
+            _ => reopen(said, journal),
         }
+    }
+}
+
+/// Opens a journal again.
+fn reopen(said: &mut Said, journal: &mut Journal<MemoryDisk>) -> Result<(), JournalFault> {
+    match journal.reopen(said.alloc) {
+        Ok(read) => {
+            said.number("records", read.len());
+            drop(read);
+            Ok(())
+        }
+        Err(fault) => Err(fault),
     }
 }
 
@@ -112,8 +144,7 @@ fn look(said: &mut Said, journal: &mut Journal<MemoryDisk>, fault: &JournalFault
         JournalFault::Disk => {
             said.keep(journal.starved() && journal.is_halted());
             said.starve();
-            let opened = journal.reopen(said.alloc);
-            said.stop_if_short(opened.is_err());
+            mend(said, journal);
         }
         fault => {
             said.keep(!journal.is_halted());
@@ -122,24 +153,50 @@ fn look(said: &mut Said, journal: &mut Journal<MemoryDisk>, fault: &JournalFault
     }
 }
 
+/// Opens a journal again, beside the call.
+fn mend(said: &mut Said, journal: &mut Journal<MemoryDisk>) {
+    let opened = journal.reopen(said.alloc);
+    let is_short = opened.is_err();
+    drop(opened);
+    said.stop_if_short(is_short);
+}
+
 /// A journal with one record, or without.
 fn journal(said: &mut Said, is_recorded: bool) -> Option<Journal<MemoryDisk>> {
     let opened = Journal::open(said.alloc, MemoryDisk::new(said.alloc), 1);
-    let (mut journal, _) = beside(said, opened)?;
+    match opened {
+        Ok((journal, deltas)) => {
+            drop(deltas);
+            Some(recorded(said, journal, is_recorded))
+        }
+        Err(refused) => {
+            drop(refused);
+            said.stop(Stop::Memory);
+            None
+        }
+    }
+}
+
+/// A journal to which the first delta is appended, or not.
+fn recorded(
+    said: &mut Said,
+    mut journal: Journal<MemoryDisk>,
+    is_recorded: bool,
+) -> Journal<MemoryDisk> {
     if is_recorded {
         let delta = delta(said, &FIRST);
-        let appended = journal.append(said.alloc, &delta);
-        said.stop_if_short(appended.is_err());
+        let is_short = journal.append(said.alloc, &delta).is_err();
+        drop(delta);
+        said.stop_if_short(is_short);
     }
-    Some(journal)
+    journal
 }
 
 /// The first delta.
 fn base(said: &mut Said) -> Vec<Delta> {
     let mut deltas = Vec::new(said.alloc);
     let delta = delta(said, &FIRST);
-    let is_short = deltas.push(delta).is_err();
-    said.stop_if_short(is_short);
+    add(said, &mut deltas, delta);
     deltas
 }
 
@@ -148,6 +205,7 @@ fn show(said: &mut Said, journal: Journal<MemoryDisk>) {
     let mut disk = journal.into_disk();
     show_slot(said, &mut disk, Slot::First);
     show_slot(said, &mut disk, Slot::Second);
+    drop(disk);
     said.answer();
 }
 
@@ -159,5 +217,5 @@ fn show_slot(said: &mut Said, disk: &mut MemoryDisk, slot: Slot) {
     if disk.read_at(slot, 0, &mut octets).is_err() {
         said.stop(Stop::Other);
     }
-    said.octets(octets.as_slice());
+    said.print(octets);
 }

@@ -1,44 +1,47 @@
 //! What a gateway is told, and what it knows that is in no set of operations.
 
-use crate::calls::{Calls, Made, Shown, given};
+use crate::calls::{Calls, Made, Shown, given, is_word};
 use crate::deltas::client;
 use crate::said::Said;
 use crate::topics::predefined;
 use octets::Sequence;
 use rep_ops::ClientId;
 use sn_local::{Addr, Config, Dialogs, LocalChange, StepFault};
-use std::alloc::AllocError;
 
 /// Where client s1 speaks from.
 pub(crate) const HERE: Addr = Addr { host: 0, port: 7 };
 
-/// What a gateway is told, and what it knows.
+/// What a gateway knows. What it is told is made beside the call that copies it.
 #[derive(Drop)]
 pub(crate) struct Locals {
-    config: Config,
     dialogs: Dialogs,
 }
 
 impl Made for Locals {
     fn make(said: &mut Said, _call: &str, _is_second: bool) -> Option<Locals> {
-        let config = config(said)?;
-        Some(Locals {
-            config,
-            dialogs: Dialogs::empty(said.alloc),
-        })
+        let dialogs = Dialogs::empty(said.alloc);
+        Some(Locals { dialogs })
     }
 }
 
 impl Calls for Locals {
     fn call_once(&mut self, said: &mut Said, call: &str) {
-        if call == "Config::copy" {
-            let copy = self.config.copy(said.alloc);
-            given(said, copy, StepFault::Memory);
+        if is_word(call, "Config::copy") {
+            copy(said);
         } else {
             let changes = changes(said);
-            let done = change(&mut self.dialogs, changes);
-            show(said, self.dialogs.client_at(HERE), done.is_err());
+            let is_changed = change(&mut self.dialogs, changes);
+            show(said, self.dialogs.client_at(HERE), is_changed);
         }
+    }
+}
+
+/// Copies what a gateway is told.
+fn copy(said: &mut Said) {
+    if let Some(config) = config(said) {
+        let copy = config.copy(said.alloc);
+        drop(config);
+        given(said, copy, StepFault::Memory);
     }
 }
 
@@ -51,33 +54,50 @@ impl Shown for Config {
 
 /// What gateway 1 is told.
 pub(crate) fn config(said: &mut Said) -> Option<Config> {
-    let predefined = predefined(said)?;
+    match predefined(said) {
+        Some(predefined) => Some(Config {
+            gateway: 1,
+            advertise: 0,
+            field: field(said),
+            predefined,
+        }),
+        None => None,
+    }
+}
+
+/// The other gateways that it may name: one.
+fn field(said: &mut Said) -> Sequence<Addr> {
     let mut field = Sequence::empty(said.alloc);
     let is_short = field.push(Addr { host: 1, port: 2 }).is_err();
     said.stop_if_short(is_short);
-    Some(Config {
-        gateway: 1,
-        advertise: 0,
-        field,
-        predefined,
-    })
+    field
 }
 
 /// The client speaks from its address, and was heard of.
 fn changes(said: &mut Said) -> Sequence<LocalChange> {
     let mut changes = Sequence::empty(said.alloc);
+    add_bound(said, &mut changes);
+    add_heard(said, &mut changes);
+    changes
+}
+
+/// The client speaks from its address.
+fn add_bound(said: &mut Said, changes: &mut Sequence<LocalChange>) {
     if let Some(client) = client(said) {
         let bound = LocalChange::Bind {
             address: HERE,
             client,
         };
-        add(said, &mut changes, bound);
+        add(said, changes, bound);
     }
+}
+
+/// The client was heard of.
+fn add_heard(said: &mut Said, changes: &mut Sequence<LocalChange>) {
     if let Some(client) = client(said) {
         let heard = LocalChange::Heard { client, moment: 0 };
-        add(said, &mut changes, heard);
+        add(said, changes, heard);
     }
-    changes
 }
 
 /// A change comes after the others.
@@ -86,23 +106,20 @@ fn add(said: &mut Said, changes: &mut Sequence<LocalChange>, change: LocalChange
     said.stop_if_short(is_short);
 }
 
-/// Changes what a gateway knows.
-pub(crate) fn change(
-    dialogs: &mut Dialogs,
-    changes: Sequence<LocalChange>,
-) -> Result<(), AllocError> {
-    match dialogs.prepare(changes.as_slice()) {
-        Ok(()) => {
-            dialogs.commit(changes);
-            Ok(())
-        }
-        Err(fault) => Err(fault),
+/// Changes what a gateway knows. Nothing of it is changed where that is refused.
+pub(crate) fn change(dialogs: &mut Dialogs, changes: Sequence<LocalChange>) -> bool {
+    let is_ready = dialogs.prepare(changes.as_slice()).is_ok();
+    if is_ready {
+        dialogs.commit(changes);
+    } else {
+        drop(changes);
     }
+    is_ready
 }
 
 /// Prints who speaks from the address: nobody, if the change was refused.
-fn show(said: &mut Said, found: Option<&ClientId>, is_refused: bool) {
-    if is_refused {
+fn show(said: &mut Said, found: Option<&ClientId>, is_changed: bool) {
+    if !is_changed {
         said.keep(found.is_none());
         said.refuse(true);
     } else if let Some(client) = found {

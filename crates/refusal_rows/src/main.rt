@@ -38,7 +38,7 @@ mod steps;
 mod topics;
 mod worlds;
 
-use crate::calls::is_one_of;
+use crate::calls::{is_one_of, is_word};
 use crate::rows::{NO_GROWTH, ROWS, play_row};
 use crate::said::{Said, Stop};
 use std::alloc::Global;
@@ -64,9 +64,24 @@ where
     T: Threads + Wait + Sync + Files<File = File> + Input + Print + Eprint + AllocGlobal,
 {
     for line in rt.lines(rt.alloc()) {
-        play_line(rt, line?.as_str())?;
+        play_read(rt, line)?;
     }
     Ok(())
+}
+
+/// Plays a line that is read.
+fn play_read<T>(rt: &T, line: io::Result<String>) -> io::Result<()>
+where
+    T: Threads + Wait + Sync + Files<File = File> + Print + Eprint + AllocGlobal,
+{
+    match line {
+        Ok(line) => {
+            let played = play_line(rt, line.as_str());
+            drop(line);
+            played
+        }
+        Err(error) => Err(error),
+    }
 }
 
 /// Plays a line.
@@ -74,7 +89,7 @@ fn play_line<T>(rt: &T, line: &str) -> io::Result<()>
 where
     T: Threads + Wait + Sync + Files<File = File> + Print + Eprint + AllocGlobal,
 {
-    if line == "all" {
+    if is_word(line, "all") {
         return play_all(rt);
     }
     match line.strip_prefix("use ") {
@@ -97,7 +112,10 @@ where
 /// Makes growths.
 fn spend(alloc: Global, count: u32) -> io::Result<()> {
     for _ in 0..count {
-        if Box::new(alloc, 0u64).is_err() {
+        let made = Box::new(alloc, 0u64);
+        let is_short = made.is_err();
+        drop(made);
+        if is_short {
             return Err(io::Error::from(ErrorKind::OutOfMemory));
         }
     }
@@ -111,23 +129,24 @@ where
     T: Threads + Wait + Sync + Files<File = File> + Print + Eprint + AllocGlobal,
 {
     let mut said = Said::new(rt.alloc());
+    said.title(name);
     play_row(rt, &mut said, name);
     if said.begin_again() {
+        said.title(name);
         play_row(rt, &mut said, name);
     }
-    print(rt, name, &said)?;
-    let (refused, disk, beside) = (said.refused, said.disk, said.beside);
-    eprintln!(rt; "refused {refused} disk {disk} beside {beside}")
+    let told = tell(rt, &mut said, name);
+    drop(said);
+    told
 }
 
-/// Prints what a row says.
-fn print<T: Print>(rt: &T, name: &str, said: &Said) -> io::Result<()> {
-    let mut out = io::writer(rt);
-    out.write_all(b"== ")?;
-    out.write_all(name.as_bytes())?;
-    out.write_all(b"\n")?;
-    out.write_all(said.page.as_slice())?;
-    out.write_all(ending(name, said.reason()).as_bytes())
+/// Prints what a row says, and how often memory was refused to it.
+fn tell<T: Print + Eprint>(rt: &T, said: &mut Said, name: &str) -> io::Result<()> {
+    let ending = ending(name, said.reason());
+    said.page.append(ending.as_bytes());
+    io::writer(rt).write_all(said.page.as_slice())?;
+    let (refused, disk, beside) = (said.refused, said.disk, said.beside);
+    eprintln!(rt; "refused {refused} disk {disk} beside {beside}")
 }
 
 /// What stands at the end of a row, also of one whose call asks for no memory.

@@ -1,7 +1,7 @@
 //! Replicas, and views of clients.
 
-use crate::calls::{Calls, Made, Shown, beside, given};
-use crate::deltas::{FIRST, client, delta, spelled};
+use crate::calls::{Calls, Made, Shown, beside, given, is_word};
+use crate::deltas::{FIRST, client, delta, spelled_or_none};
 use crate::said::{Said, Stop};
 use crate::topics::filter;
 use rep_model::{ClientView, Replica, TakeFault};
@@ -34,12 +34,14 @@ pub(crate) struct Replicas<R: Replica> {
 
 impl<R: Replica> Made for Replicas<R> {
     fn make(said: &mut Said, call: &str, _is_second: bool) -> Option<Replicas<R>> {
-        let replica: R = replica_with(said, call != "prepare")?;
-        Some(Replicas {
-            next: delta(said, &NEXT),
-            stood: kept(said, &replica),
-            replica,
-        })
+        match replica_with(said, !is_word(call, "prepare")) {
+            Some(replica) => Some(Replicas {
+                next: delta(said, &NEXT),
+                stood: kept(said, &replica),
+                replica,
+            }),
+            None => None,
+        }
     }
 }
 
@@ -65,7 +67,7 @@ impl<R: Replica> Replicas<R> {
             }
             Err(fault) => {
                 let stands = kept(said, &self.replica);
-                said.keep(stands.as_slice() == self.stood.as_slice());
+                said.keep_octets(stands, self.stood.as_slice());
                 said.refuse(fault == TakeFault::Memory);
             }
         }
@@ -89,19 +91,20 @@ impl<R: Replica> Replicas<R> {
 
 /// Makes an empty replica.
 fn show_empty<R: Replica>(said: &mut Said) {
-    match &R::empty(said.alloc) {
+    match R::empty(said.alloc) {
         Ok(replica) => {
-            show(said, replica);
+            show(said, &replica);
+            drop(replica);
             said.answer();
         }
-        Err(fault) => said.refuse(*fault == TakeFault::Memory),
+        Err(fault) => said.refuse(fault == TakeFault::Memory),
     }
 }
 
 /// Prints the octets of what a replica must keep.
 fn show<R: Replica>(said: &mut Said, replica: &R) {
     let octets = kept(said, replica);
-    said.octets(octets.as_slice());
+    said.print(octets);
 }
 
 /// Prints clients.
@@ -127,6 +130,7 @@ impl Shown for Vec<(TopicName, Retained)> {
 fn match_all<R: Replica>(said: &mut Said, replica: &R) {
     if let Some(all) = filter(said, b"#") {
         let found = replica.retained_matching(said.alloc, &all);
+        drop(all);
         given(said, found, TakeFault::Memory);
     }
 }
@@ -139,18 +143,26 @@ pub(crate) fn new<R: Replica>(said: &mut Said) -> Option<R> {
 
 /// A replica that took the first connection, or more.
 pub(crate) fn replica_with<R: Replica>(said: &mut Said, has_more: bool) -> Option<R> {
-    let mut replica = new(said)?;
+    match new(said) {
+        Some(replica) => Some(taken(said, replica, has_more)),
+        None => None,
+    }
+}
+
+/// A replica that takes the first connection, or more.
+fn taken<R: Replica>(said: &mut Said, mut replica: R, has_more: bool) -> R {
     take_parts(said, &mut replica, &FIRST);
     if has_more {
         take_parts(said, &mut replica, &NEXT);
     }
-    Some(replica)
+    replica
 }
 
 /// Takes the delta that hexadecimal digits spell, beside the call.
 fn take_parts<R: Replica>(said: &mut Said, replica: &mut R, parts: &[&str]) {
     let delta = delta(said, parts);
     take(said, replica, &delta);
+    drop(delta);
 }
 
 /// Takes a delta beside the call.
@@ -163,32 +175,30 @@ pub(crate) fn take<R: Replica>(said: &mut Said, replica: &mut R, delta: &Delta) 
 
 /// The octets of what a replica must keep.
 fn kept<R: Replica>(said: &mut Said, replica: &R) -> Vec<u8> {
-    match &replica.held(said.alloc) {
-        Ok(deltas) => spelled(said, deltas.as_slice()),
-        Err(_) => {
-            said.stop(Stop::Memory);
-            Vec::new(said.alloc)
-        }
-    }
+    let held = replica.held(said.alloc);
+    spelled_or_none(said, held)
 }
 
 /// Copies the view of the client.
 fn copy_view<R: Replica>(said: &mut Said, replica: &R) {
     if let Some(client) = client(said) {
         if let Some(view) = replica.view_of(&client) {
-            show_copy(said, view);
+            let copy = view.copy(said.alloc);
+            show_copy(said, view, copy);
         }
+        drop(client);
     }
 }
 
-/// Copies a view, and prints how many messages wait in the copy.
-fn show_copy(said: &mut Said, view: &ClientView) {
-    match &view.copy(said.alloc) {
+/// Prints how many messages wait in the copy of a view.
+fn show_copy(said: &mut Said, view: &ClientView, copy: Result<ClientView, OpsFault>) {
+    match copy {
         Ok(copy) => {
             said.keep(copy.session == view.session && copy.stamp == view.stamp);
             said.number("pending", copy.pending.as_slice().len());
+            drop(copy);
             said.answer();
         }
-        Err(fault) => said.refuse(*fault == OpsFault::Memory),
+        Err(fault) => said.refuse(fault == OpsFault::Memory),
     }
 }

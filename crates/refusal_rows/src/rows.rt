@@ -1,6 +1,6 @@
 //! The rows.
 
-use crate::calls::{is_one_of, play};
+use crate::calls::{is_one_of, play, play_call};
 use crate::daemon::{self, Starts};
 use crate::deltas::{Clients, Deltas};
 use crate::digests::Digests;
@@ -145,9 +145,9 @@ where
 fn play_format(said: &mut Said, home: &str, call: &str) {
     match home {
         "sn_frame" => play::<Frames>(said, call),
-        "sn_topic" => play::<Topics>(said, call),
+        "sn_topic" => play_call(said, &mut Topics, call),
         "sn_session" => play::<Sessions>(said, call),
-        "rep_op" => play::<Clients>(said, call),
+        "rep_op" => play_call(said, &mut Clients, call),
         "rep_ops" => play::<Deltas>(said, call),
         home => play_part(said, home, call),
     }

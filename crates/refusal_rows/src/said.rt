@@ -5,6 +5,7 @@
 //! the row stays. From then on nothing counts that the row makes or prints: no call is made, and a
 //! row that begins again begins with an empty page.
 
+use crate::calls::is_same;
 use crate::page::Page;
 use std::alloc::Global;
 use std::io::Write;
@@ -51,6 +52,13 @@ impl Said {
             is_answered: false,
             stop: None,
         }
+    }
+
+    /// Prints the name of a row.
+    pub(crate) fn title(&mut self, name: &str) {
+        self.page.append(b"== ");
+        self.page.append(name.as_bytes());
+        self.page.push(b'\n');
     }
 
     /// Why the row ends, if it ends before its time.
@@ -105,10 +113,10 @@ impl Said {
 
     /// The call answers a fault: Memory, or one that the row does not want.
     pub(crate) fn refuse(&mut self, is_memory: bool) {
-        if is_memory {
-            self.refused = self.refused.saturating_add(1);
-        } else {
+        if !is_memory {
             self.stop(Stop::Other);
+        } else if self.stop.is_none() {
+            self.refused = self.refused.saturating_add(1);
         }
     }
 
@@ -124,9 +132,23 @@ impl Said {
         }
     }
 
+    /// Prints `changed`, unless these octets are as they were.
+    pub(crate) fn keep_octets(&mut self, octets: Vec<u8>, stood: &[u8]) {
+        let same = is_same(octets.as_slice(), stood);
+        drop(octets);
+        self.keep(same);
+    }
+
     /// Prints a word and a number.
     pub(crate) fn number(&mut self, word: &str, number: usize) {
-        let _ = writeln!(&mut self.page, "{word} {number}");
+        self.page.append(word.as_bytes());
+        let _ = writeln!(&mut self.page, " {number}");
+    }
+
+    /// Prints octets that were made for it.
+    pub(crate) fn print(&mut self, octets: Vec<u8>) {
+        self.octets(octets.as_slice());
+        drop(octets);
     }
 
     /// Prints octets.

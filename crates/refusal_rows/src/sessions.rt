@@ -1,6 +1,6 @@
 //! Sessions.
 
-use crate::calls::{Calls, Made, Shown, given};
+use crate::calls::{Calls, Made, Shown, given, is_word};
 use crate::deltas::delta;
 use crate::said::{Said, Stop};
 use rep_ops::{Delta, Op};
@@ -29,36 +29,48 @@ pub(crate) struct Sessions {
 
 impl Made for Sessions {
     fn make(said: &mut Said, call: &str, _is_second: bool) -> Option<Sessions> {
-        let mut made = Sessions {
+        let made = Sessions {
             session: Session::empty(said.alloc),
             changes: delta(said, &CHANGES),
             done: 0,
         };
-        if call == "Session::copy" {
-            let changed = made.change_all(said);
-            said.stop_if_short(changed.is_err());
-        }
-        Some(made)
+        Some(if is_word(call, "Session::copy") {
+            changed(said, made)
+        } else {
+            made
+        })
     }
+}
+
+/// A session that has all changes.
+fn changed(said: &mut Said, mut made: Sessions) -> Sessions {
+    let is_short = made.change_all(said).is_err();
+    said.stop_if_short(is_short);
+    made
 }
 
 impl Calls for Sessions {
     fn call_once(&mut self, said: &mut Said, call: &str) {
-        if call == "Session::copy" {
+        if is_word(call, "Session::copy") {
             self.copy(said);
         } else {
-            match self.change_all(said) {
-                Ok(()) => {
-                    self.session.show(said);
-                    said.answer();
-                }
-                Err(fault) => said.refuse(fault == SessionFault::Memory),
-            }
+            self.change(said);
         }
     }
 }
 
 impl Sessions {
+    /// Makes the changes that are left.
+    fn change(&mut self, said: &mut Said) {
+        match self.change_all(said) {
+            Ok(()) => {
+                self.session.show(said);
+                said.answer();
+            }
+            Err(fault) => said.refuse(fault == SessionFault::Memory),
+        }
+    }
+
     /// Makes the changes that are left, up to one that is refused.
     fn change_all(&mut self, said: &mut Said) -> Result<(), SessionFault> {
         let ops = self.changes.ops();
@@ -91,6 +103,7 @@ fn change_once(
         Ok(before) => {
             let done = session.apply(said.alloc, change);
             said.keep(done.is_ok() || *session == before);
+            drop(before);
             done
         }
         Err(_) => {

@@ -3,19 +3,19 @@
 ghost use Rattle.std.specs.Prelude.{IfSome};
 ghost use Rattle.sn_frame.specs.Bodies.{IsMessage};
 
-use crate::calls::{Calls, Made, Shown, beside};
-use crate::deltas::{client, octets_of};
+use crate::calls::{Calls, Made, Shown, beside, is_word};
+use crate::deltas::{client, delta_of, octets_of};
 use crate::locals::{HERE, change, config};
 use crate::replicas::{new, take};
 use crate::said::{Said, Stop};
-use octets::NoMemory;
+use octets::{NoMemory, Sequence};
 use rep_model::Replica;
-use rep_ops::{ClientId, Delta};
+use rep_ops::ClientId;
 use sn_deliver::{ack_in, publish_in, pubrel_in, step, wake};
 use sn_exchange::deliver_next;
 use sn_flow::{connect, disconnect, will_msg, will_msg_update, will_topic, will_topic_update};
 use sn_frame::{Frame, decode};
-use sn_local::{Config, Dialogs, StepFault};
+use sn_local::{Config, Dialogs, Send, StepFault};
 use sn_plan::{Plan, Row, other, plan_of_row};
 use sn_subscribe::{register, subscribe, unsubscribe};
 use sn_tick::tick;
@@ -24,67 +24,65 @@ use std::alloc::Global;
 /// When a tick comes.
 const LATER: u64 = 20;
 
-/// A client connects with a will.
-const WITH_WILL: &str = "08040c01003c7331 060700742f61 0609676f6e65";
+/// What comes before each call, and what comes then, each a datagram in hexadecimal digits; `tick`
+/// stands for time that passes.
+const COMES: &str = "
+connect: > 08040401003c7331
+step: > 08040401003c7331
+other: > 030100
+disconnect: 08040401003c7331 > 0418012c
+wake: 08040401003c7331 0418012c > 04167331
+register: 08040401003c7331 > 090a00000001742f61
+subscribe: 08040401003c7331 > 0812200002742f23
+unsubscribe: 08040401003c7331 0812200002742f23 > 0814000003742f23
+will_topic: 08040c01003c7331 > 060700742f61
+will_msg: 08040c01003c7331 060700742f61 > 0609676f6e65
+will_topic_update: 08040c01003c7331 060700742f61 0609676f6e65 > 061a00742f62
+will_msg_update: 08040c01003c7331 060700742f61 0609676f6e65 > 061c68657265
+publish_in: 08040401003c7331 0812200002742f61 > 080c200001000478
+pubrel_in: 08040401003c7331 090a00000001742f61 080c400001000578 > 04100005
+ack_in: 08040401003c7331 0812200002742f61 080c200001000478 tick > 070d0001000100
+deliver_next: 08040401003c7331 07122200026162 0418012c 080c626162000078 > 04167331
+tick: 08040401003c7331 0812200002742f61 080c200001000478 > tick
+";
 
-/// A gateway without a journal, its client, and what comes when the call is made.
+/// A gateway without a journal, and what comes when the call is made.
 #[derive(Drop)]
 pub(crate) struct Steps<R: Replica> {
     config: Config,
     replica: R,
     dialogs: Dialogs,
-    client: ClientId,
     last: &'static str,
 }
 
-/// What comes before the call, and what comes then, each a datagram in hexadecimal digits; `tick`
-/// stands for time that passes.
+/// What comes before a call, and what comes then.
 fn comes(call: &str) -> (&'static str, &'static str) {
-    match call {
-        "disconnect" => ("08040401003c7331", "0418012c"),
-        "wake" => ("08040401003c7331 0418012c", "04167331"),
-        "register" => ("08040401003c7331", "090a00000001742f61"),
-        "subscribe" => ("08040401003c7331", "0812200002742f23"),
-        "unsubscribe" => ("08040401003c7331 0812200002742f23", "0814000003742f23"),
-        "other" => ("", "030100"),
-        "connect" | "step" => ("", "08040401003c7331"),
-        call => comes_late(call),
+    for line in COMES.lines() {
+        if let Some((name, both)) = line.split_once(": ") {
+            if is_word(name, call) {
+                return both.split_once("> ").unwrap_or(("", ""));
+            }
+        }
     }
-}
-
-/// The same of a call about a will, or about messages.
-fn comes_late(call: &str) -> (&'static str, &'static str) {
-    match call {
-        "will_topic" => ("08040c01003c7331", "060700742f61"),
-        "will_msg" => ("08040c01003c7331 060700742f61", "0609676f6e65"),
-        "will_topic_update" => (WITH_WILL, "061a00742f62"),
-        "will_msg_update" => (WITH_WILL, "061c68657265"),
-        "publish_in" => ("08040401003c7331 0812200002742f61", "080c200001000478"),
-        "pubrel_in" => (
-            "08040401003c7331 090a00000001742f61 080c400001000578",
-            "04100005",
-        ),
-        "ack_in" => (
-            "08040401003c7331 0812200002742f61 080c200001000478 tick",
-            "070d0001000100",
-        ),
-        "deliver_next" => (
-            "08040401003c7331 07122200026162 0418012c 080c626162000078",
-            "04167331",
-        ),
-        _ => ("08040401003c7331 0812200002742f61 080c200001000478", "tick"),
-    }
+    ("", "")
 }
 
 impl<R: Replica> Made for Steps<R> {
     fn make(said: &mut Said, call: &str, _is_second: bool) -> Option<Steps<R>> {
         let (earlier, last) = comes(call);
-        let mut steps = fresh(said, last)?;
-        for word in earlier.split_whitespace() {
-            steps.hear(said, word);
+        match fresh(said, last) {
+            Some(steps) => Some(heard(said, steps, earlier)),
+            None => None,
         }
-        Some(steps)
     }
+}
+
+/// A gateway that hears what comes before the call.
+fn heard<R: Replica>(said: &mut Said, mut steps: Steps<R>, earlier: &str) -> Steps<R> {
+    for word in earlier.split_whitespace() {
+        steps.hear(said, word);
+    }
+    steps
 }
 
 impl<R: Replica> Calls for Steps<R> {
@@ -99,16 +97,26 @@ impl<R: Replica> Calls for Steps<R> {
 
 /// A gateway that has heard nothing.
 fn fresh<R: Replica>(said: &mut Said, last: &'static str) -> Option<Steps<R>> {
-    let client = client(said)?;
-    let config = config(said)?;
-    let replica = new(said)?;
-    Some(Steps {
-        config,
-        replica,
-        dialogs: Dialogs::empty(said.alloc),
-        client,
-        last,
-    })
+    match new(said) {
+        Some(replica) => fresh_on(said, replica, last),
+        None => None,
+    }
+}
+
+/// A gateway on this replica.
+fn fresh_on<R: Replica>(said: &mut Said, replica: R, last: &'static str) -> Option<Steps<R>> {
+    match config(said) {
+        Some(config) => Some(Steps {
+            config,
+            replica,
+            dialogs: Dialogs::empty(said.alloc),
+            last,
+        }),
+        None => {
+            drop(replica);
+            None
+        }
+    }
 }
 
 /// The frame of a datagram.
@@ -116,7 +124,9 @@ fn read(said: &mut Said, digits: &str) -> Option<Frame>
     ensures { IfSome result IsMessage }
 {
     let octets = octets_of(said, &[digits]);
-    match decode(said.alloc, octets.as_slice()) {
+    let read = decode(said.alloc, octets.as_slice());
+    drop(octets);
+    match read {
         Ok(frame) => Some(frame),
         Err(_) => {
             said.stop(Stop::Memory);
@@ -126,60 +136,69 @@ fn read(said: &mut Said, digits: &str) -> Option<Frame>
 }
 
 impl<R: Replica> Steps<R> {
-    /// The plan of a datagram, which is read beside it, or of a tick.
-    fn planned(&self, said: &mut Said, word: &str) -> Option<Result<Plan, StepFault>> {
+    /// The plan of a datagram or of a tick.
+    fn planned(&self, said: &mut Said, word: &str) -> Result<Plan, StepFault> {
         let (config, replica, dialogs) = (&self.config, &self.replica, &self.dialogs);
-        if word == "tick" {
-            return Some(tick(said.alloc, config, replica, dialogs, LATER));
+        if is_word(word, "tick") {
+            tick(said.alloc, config, replica, dialogs, LATER)
+        } else {
+            self.stepped(said, word)
         }
-        let frame = read(said, word)?;
-        Some(step(said.alloc, config, replica, dialogs, HERE, &frame, 1))
+    }
+
+    /// The plan of a datagram, which is read beside it. If that is refused, nothing counts any more
+    /// that the row makes.
+    fn stepped(&self, said: &mut Said, digits: &str) -> Result<Plan, StepFault> {
+        let (config, replica, dialogs) = (&self.config, &self.replica, &self.dialogs);
+        match read(said, digits) {
+            Some(frame) => {
+                let planned = step(said.alloc, config, replica, dialogs, HERE, &frame, 1);
+                drop(frame);
+                planned
+            }
+            None => Err(StepFault::Memory),
+        }
     }
 
     /// A datagram or a tick comes before the call.
     fn hear(&mut self, said: &mut Said, word: &str) {
-        if let Some(planned) = self.planned(said, word) {
-            if let Some(plan) = beside(said, planned) {
-                self.take(said, plan);
-            }
+        let planned = self.planned(said, word);
+        if let Some(plan) = beside(said, planned) {
+            self.take(said, plan);
         }
     }
 
     /// Takes a plan: its operations, and what is in no set of operations.
     fn take(&mut self, said: &mut Said, plan: Plan) {
-        let Plan { ops, local, .. } = plan;
-        match &Delta::from_ops(said.alloc, ops.into_vec()) {
-            Ok(delta) => take(said, &mut self.replica, delta),
-            Err(_) => said.stop(Stop::Memory),
-        }
-        let changed = change(&mut self.dialogs, local);
-        said.stop_if_short(changed.is_err());
+        let Plan { ops, sends, local } = plan;
+        drop(sends);
+        let is_changed = change(&mut self.dialogs, local);
+        said.stop_if_short(!is_changed);
+        let delta = delta_of(said, ops.into_vec());
+        take(said, &mut self.replica, &delta);
+        drop(delta);
     }
 
     /// Asks for the plan of what comes.
     fn step_once(&self, said: &mut Said) {
-        if let Some(planned) = self.planned(said, self.last) {
-            show_planned(said, planned);
-        }
+        let planned = self.planned(said, self.last);
+        show_planned(said, planned);
     }
 
     /// Asks for the plan of the datagram's row, with what follows it.
     fn deliver_once(&self, said: &mut Said) {
-        if let Some(made) = self.row(said) {
-            if let Some(row) = beside(said, made) {
-                let plan = deliver_next(said.alloc, &self.config, &self.replica, HERE, 1, row);
-                show_planned(said, plan);
-            }
+        let made = self.row(said);
+        if let Some(row) = beside(said, made) {
+            let plan = deliver_next(said.alloc, &self.config, &self.replica, HERE, 1, row);
+            show_planned(said, plan);
         }
     }
 
     /// Asks for the row of the datagram, and prints its plan.
     fn row_once(&self, said: &mut Said) {
-        if let Some(made) = self.row(said) {
-            match made {
-                Ok(row) => self.show_row(said, row),
-                Err(_) => said.refuse(true),
-            }
+        match self.row(said) {
+            Ok(row) => self.show_row(said, row),
+            Err(_) => said.refuse(true),
         }
     }
 
@@ -193,14 +212,32 @@ impl<R: Replica> Steps<R> {
     }
 
     /// The row of the datagram, which is read beside it.
-    fn row(&self, said: &mut Said) -> Option<Result<Row, NoMemory>> {
-        let frame = read(said, self.last)?;
-        Some(self.row_of(said.alloc, &frame))
+    fn row(&self, said: &mut Said) -> Result<Row, NoMemory> {
+        match read(said, self.last) {
+            Some(frame) => self.row_of_frame(said, frame),
+            None => Err(NoMemory),
+        }
+    }
+
+    /// The row of a frame. That of a CONNECT is about a client, whose name is made beside it.
+    fn row_of_frame(&self, said: &mut Said, frame: Frame) -> Result<Row, NoMemory> {
+        match client(said) {
+            Some(client) => {
+                let row = self.row_of(said.alloc, &frame, &client);
+                drop(client);
+                drop(frame);
+                row
+            }
+            None => {
+                drop(frame);
+                Err(NoMemory)
+            }
+        }
     }
 
     /// The row of a frame. Each of the functions below knows some frames, and leaves all others to
     /// the next.
-    fn row_of(&self, alloc: Global, frame: &Frame) -> Result<Row, NoMemory> {
+    fn row_of(&self, alloc: Global, frame: &Frame, client: &ClientId) -> Result<Row, NoMemory> {
         let (config, replica, dialogs) = (&self.config, &self.replica, &self.dialogs);
         match frame {
             Frame::Connect {
@@ -209,15 +246,7 @@ impl<R: Replica> Steps<R> {
                 duration,
                 ..
             } => connect(
-                alloc,
-                replica,
-                dialogs,
-                HERE,
-                *flags,
-                *protocol,
-                *duration,
-                &self.client,
-                1,
+                alloc, replica, dialogs, HERE, *flags, *protocol, *duration, client, 1,
             ),
             Frame::Disconnect { duration } => {
                 disconnect(alloc, replica, dialogs, HERE, *duration, 1)
@@ -317,11 +346,18 @@ fn show_planned(said: &mut Said, planned: Result<Plan, StepFault>) {
 
 /// Prints what a plan sends, and its operations.
 fn show_plan(said: &mut Said, plan: Plan) {
-    for send in plan.sends.as_slice() {
+    let Plan { ops, sends, local } = plan;
+    drop(local);
+    show_sends(said, sends);
+    let delta = delta_of(said, ops.into_vec());
+    delta.show(said);
+    drop(delta);
+}
+
+/// Prints datagrams.
+fn show_sends(said: &mut Said, sends: Sequence<Send>) {
+    for send in sends.as_slice() {
         said.octets(send.bytes.as_slice());
     }
-    match &Delta::from_ops(said.alloc, plan.ops.into_vec()) {
-        Ok(delta) => delta.show(said),
-        Err(_) => said.stop(Stop::Memory),
-    }
+    drop(sends);
 }

@@ -1,69 +1,59 @@
 //! Topic names, filters and predefined topic ids.
 
-use crate::calls::{Calls, Made, Shown, beside, given};
+use crate::calls::{Calls, Shown, add, beside, given, is_word};
 use crate::said::{Said, Stop};
 use sn_topic::{Filter, Predefined, TopicFault, TopicName};
 
-/// What is copied.
+/// Calls that need nothing: what is copied is made beside each of them.
 #[derive(Drop)]
-pub(crate) struct Topics {
-    name: TopicName,
-    filter: Filter,
-    table: Predefined,
-}
-
-impl Made for Topics {
-    fn make(said: &mut Said, _call: &str, _is_second: bool) -> Option<Topics> {
-        let name = topic(said)?;
-        let filter = filter(said, b"t/#")?;
-        let table = predefined(said)?;
-        Some(Topics {
-            name,
-            filter,
-            table,
-        })
-    }
-}
+pub(crate) struct Topics;
 
 impl Calls for Topics {
     fn call_once(&mut self, said: &mut Said, call: &str) {
         match call {
-            "TopicName::new" | "TopicName::copy" => self.name_once(said, call),
-            "Filter::new" | "Filter::copy" => self.filter_once(said, call),
-            _ => self.table_once(said, call),
+            "TopicName::new" | "TopicName::copy" => name_once(said, call),
+            "Filter::new" | "Filter::copy" => filter_once(said, call),
+            _ => table_once(said, call),
         }
     }
 }
 
-impl Topics {
-    /// Makes or copies a topic name.
-    fn name_once(&self, said: &mut Said, call: &str) {
-        let made = if call == "TopicName::new" {
+/// Makes or copies a topic name.
+fn name_once(said: &mut Said, call: &str) {
+    if let Some(name) = topic(said) {
+        let made = if is_word(call, "TopicName::new") {
             TopicName::new(said.alloc, b"t/a")
         } else {
-            self.name.copy(said.alloc)
+            name.copy(said.alloc)
         };
+        drop(name);
         given(said, made, TopicFault::Memory);
     }
+}
 
-    /// Makes or copies a filter.
-    fn filter_once(&self, said: &mut Said, call: &str) {
-        let made = if call == "Filter::new" {
+/// Makes or copies a filter.
+fn filter_once(said: &mut Said, call: &str) {
+    if let Some(filter) = filter(said, b"t/#") {
+        let made = if is_word(call, "Filter::new") {
             Filter::new(said.alloc, b"t/#")
         } else {
-            self.filter.copy(said.alloc)
+            filter.copy(said.alloc)
         };
+        drop(filter);
         given(said, made, TopicFault::Memory);
     }
+}
 
-    /// Makes or copies a table of predefined topic ids.
-    fn table_once(&self, said: &mut Said, call: &str) {
-        let made = if call == "Predefined::new" {
+/// Makes or copies a table of predefined topic ids.
+fn table_once(said: &mut Said, call: &str) {
+    if let Some(table) = predefined(said) {
+        let made = if is_word(call, "Predefined::new") {
             let entries = entries(said);
             Predefined::new(said.alloc, entries)
         } else {
-            self.table.copy(said.alloc)
+            table.copy(said.alloc)
         };
+        drop(table);
         given(said, made, TopicFault::Memory);
     }
 }
@@ -106,8 +96,7 @@ pub(crate) fn filter(said: &mut Said, octets: &[u8]) -> Option<Filter> {
 fn entries(said: &mut Said) -> Vec<(u16, TopicName)> {
     let mut entries = Vec::new(said.alloc);
     if let Some(topic) = topic(said) {
-        let is_short = entries.push((5u16, topic)).is_err();
-        said.stop_if_short(is_short);
+        add(said, &mut entries, (5u16, topic));
     }
     entries
 }

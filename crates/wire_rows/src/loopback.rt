@@ -13,9 +13,9 @@ use std::alloc::Global;
 use std::net::{Net, SocketAddr};
 use std::sync::Wait;
 use std::sync::atomic::{AtomicBool, Ordering};
-use std::thread;
 use std::thread::Threads;
 use std::time::Clock;
+use std::{io, thread};
 
 /// How often an asker looks for its answer.
 const LOOKS: u64 = 10_000_000;
@@ -57,12 +57,20 @@ pub(crate) fn over_sockets<T: Threads + Wait + Sync + Clock + Net>(
     questions: &Questions,
 ) -> Outcome {
     match Socket::bind(rt, page.alloc(), HOME) {
-        Ok(mut socket) => over_socket(rt, page, shift, passes, &mut socket, questions),
-        Err(error) => {
-            page.stop(missing(&error));
-            unserved(page.alloc(), passes, None)
+        Ok(mut socket) => {
+            let outcome = over_socket(rt, page, shift, passes, &mut socket, questions);
+            drop(socket);
+            outcome
         }
+        Err(error) => no_socket(page, passes, error),
     }
+}
+
+/// There is no socket: nothing is served.
+fn no_socket(page: &mut Page, passes: Vec<Pass>, error: io::Error) -> Outcome {
+    page.stop(missing(&error));
+    drop(error);
+    unserved(page.alloc(), passes, None)
 }
 
 /// The same once the gateway has its socket.
@@ -81,12 +89,11 @@ fn over_socket<T: Threads + Wait + Sync + Clock + Net>(
                 at: socket.local,
                 is_over: AtomicBool::new(false),
             };
-            over_both(rt, page, shift, passes, socket, &asker, questions)
+            let outcome = over_both(rt, page, shift, passes, socket, &asker, questions);
+            drop(asker);
+            outcome
         }
-        Err(error) => {
-            page.stop(missing(&error));
-            unserved(page.alloc(), passes, None)
-        }
+        Err(error) => no_socket(page, passes, error),
     }
 }
 
@@ -111,16 +118,17 @@ fn over_both<T: Threads + Wait + Sync + Clock>(
         questions,
         room,
     );
-    print_answer(page, &answer);
-    if outcome.cause.is_none() && came(&outcome) < 2 {
-        page.stop(Stop::TooLate);
-    }
+    print_answer(page, answer);
+    stop_if_late(page, &outcome);
     outcome
 }
 
-/// How many datagrams came.
-fn came(outcome: &Outcome) -> usize {
-    outcome.taken.len().saturating_add(outcome.left.len())
+/// The row ends if fewer than two datagrams came, and nothing else ended serving.
+fn stop_if_late(page: &mut Page, outcome: &Outcome) {
+    let came = outcome.taken.len().saturating_add(outcome.left.len());
+    if outcome.cause.is_none() && came < 2 {
+        page.stop(Stop::TooLate);
+    }
 }
 
 /// Room for what is answered.
@@ -135,10 +143,11 @@ fn room(page: &mut Page) -> Vec<u8> {
 }
 
 /// What was answered; the row ends if nothing was.
-fn print_answer(page: &mut Page, answer: &Option<Vec<u8>>) {
+fn print_answer(page: &mut Page, answer: Option<Vec<u8>>) {
     match answer {
         Some(octets) => {
             page.octets("answered ", octets.as_slice());
+            drop(octets);
             page.end();
         }
         None => page.stop(Stop::TooLate),
@@ -206,34 +215,60 @@ fn ask_both(
     at: SocketAddr,
     first: &[u8],
     second: &[u8],
-    room: Vec<u8>,
+    mut room: Vec<u8>,
     is_over: &AtomicBool,
 ) -> Option<Vec<u8>> {
-    let answer = ask(socket, at, first, room, is_over);
-    let _ = socket.send_to(second, at);
-    answer
+    let size = ask(socket, at, first, room.as_mut_slice(), is_over);
+    let _ = is_sent(socket, at, second);
+    match size {
+        Some(size) => {
+            room.truncate(size);
+            Some(room)
+        }
+        None => {
+            drop(room);
+            None
+        }
+    }
 }
 
-/// Sends a datagram, and waits for the next that comes, for as long as somebody serves.
+/// Sends a datagram, and waits for the next that comes, for as long as somebody serves. Says how
+/// many octets that has.
 fn ask(
     socket: &UdpSocket,
     at: SocketAddr,
     bytes: &[u8],
-    mut room: Vec<u8>,
+    room: &mut [u8],
     is_over: &AtomicBool,
-) -> Option<Vec<u8>> {
-    if socket.send_to(bytes, at).is_err() {
+) -> Option<usize> {
+    if !is_sent(socket, at, bytes) {
         return None;
     }
     for _ in 0..LOOKS {
-        if let Ok((size, _)) = socket.recv_from(room.as_mut_slice()) {
-            room.truncate(size);
-            return Some(room);
-        }
-        if is_over.load(Ordering::Acquire) {
-            return None;
+        let size = received(socket, room);
+        if size.is_some() || is_over.load(Ordering::Acquire) {
+            return size;
         }
         thread::yield_now();
     }
     None
+}
+
+/// Sends a datagram. Says whether that went well.
+fn is_sent(socket: &UdpSocket, at: SocketAddr, bytes: &[u8]) -> bool {
+    let sent = socket.send_to(bytes, at);
+    let went = sent.is_ok();
+    drop(sent);
+    went
+}
+
+/// How many octets a datagram has that has come, if one has.
+fn received(socket: &UdpSocket, room: &mut [u8]) -> Option<usize> {
+    match socket.recv_from(room) {
+        Ok((size, _)) => Some(size),
+        Err(error) => {
+            drop(error);
+            None
+        }
+    }
 }

@@ -94,6 +94,7 @@ use crate::words::Words;
 use std::alloc::AllocError;
 use std::fs::{File, Files};
 use std::io::{self, Input, Write};
+use std::mem;
 use std::net::Net;
 use std::process::ExitCode;
 use std::sync::Wait;
@@ -104,7 +105,9 @@ fn main(rt: HostRuntime) -> ExitCode {
     let mut page = Page::new(rt.alloc());
     play_input(&rt, &mut page);
     write(&rt, &mut page);
-    match page.reason() {
+    let reason = page.reason();
+    drop(page);
+    match reason {
         None => ExitCode::SUCCESS,
         Some(stop) => {
             let _ = eprintln!(&rt; "wire_rows: {stop}");
@@ -119,29 +122,30 @@ where
     T: Threads + Wait + Sync + Clock + Net + Files<File = File> + Input + AllocGlobal,
 {
     let mut lines = Vec::new(rt.alloc());
-    match read_lines(rt, &mut lines) {
-        Ok(()) => play_lines(rt, page, lines.as_slice()),
-        Err(stop) => page.stop(stop),
-    }
+    read_lines(rt, page, &mut lines);
+    play_lines(rt, page, lines.as_slice());
+    drop(lines);
 }
 
-/// The lines of standard input.
-fn read_lines<T: Input + AllocGlobal>(rt: &T, lines: &mut Vec<String>) -> Result<(), Stop> {
+/// The lines of standard input, until it fails or memory runs out.
+fn read_lines<T: Input + AllocGlobal>(rt: &T, page: &mut Page, lines: &mut Vec<String>) {
     for line in rt.lines(rt.alloc()) {
-        match line {
-            Ok(line) => add_line(lines, line)?,
-            Err(error) => return Err(broken(&error)),
+        add_line(page, lines, line);
+        if page.reason().is_some() {
+            break;
         }
     }
-    Ok(())
 }
 
-/// A line comes after the others.
-fn add_line(lines: &mut Vec<String>, line: String) -> Result<(), Stop> {
-    if lines.push(line).is_err() {
-        return Err(Stop::Memory);
+/// A line comes after the others, if it could be read.
+fn add_line(page: &mut Page, lines: &mut Vec<String>, line: io::Result<String>) {
+    match line {
+        Ok(line) => page.push(lines, line),
+        Err(error) => {
+            page.stop(broken(&error));
+            drop(error);
+        }
     }
-    Ok(())
 }
 
 /// Writes the page, unless something else than a line ended the play.
@@ -151,6 +155,7 @@ fn write<T: Print>(rt: &T, page: &mut Page) {
         if let Err(error) = &written {
             page.stop(broken(error));
         }
+        drop(written);
     }
 }
 
@@ -165,6 +170,7 @@ where
             answer(rt, page, &mut row, line.as_str());
         }
     }
+    drop(row);
 }
 
 /// Plays a line; empty ones and explanations say nothing.
@@ -182,7 +188,7 @@ where
 
 /// A row of this name begins.
 fn begin_row(page: &mut Page, row: &mut Row, name: &str) {
-    *row = Row::new(page.alloc());
+    drop(mem::replace(row, Row::new(page.alloc())));
     page.text("== ");
     page.text(name);
     page.end();
@@ -209,13 +215,21 @@ fn play_words<T>(rt: &T, page: &mut Page, row: &mut Row, line: &str)
 where
     T: Threads + Wait + Sync + Clock + Net + Files<File = File>,
 {
-    let words: Result<Vec<&str>, AllocError> = line.split(' ').collect(page.alloc());
-    match &words {
-        Ok(words) => {
-            let mut words = Words::new(page.alloc(), words.as_slice());
-            let first = words.word();
-            play(rt, page, row, first, &mut words);
-        }
+    let all: Result<Vec<&str>, AllocError> = line.split(' ').collect(page.alloc());
+    match &all {
+        Ok(all) => play_all(rt, page, row, all.as_slice()),
         Err(_) => page.stop(Stop::Memory),
     }
+    drop(all);
+}
+
+/// Plays a line of these words.
+fn play_all<'a, T>(rt: &T, page: &mut Page, row: &mut Row, all: &'a [&'a str])
+where
+    T: Threads + Wait + Sync + Clock + Net + Files<File = File>,
+{
+    let mut words = Words::new(page.alloc(), all);
+    let first = words.word();
+    play(rt, page, row, first, &mut words);
+    drop(words);
 }

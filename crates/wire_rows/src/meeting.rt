@@ -1,13 +1,13 @@
 //! Gateways that have links: two, or a chain of three.
 
-use crate::options::{add, begin_on};
+use crate::options::{begin_on, tell};
 use crate::page::Page;
 use crate::pipe::{Pipe, Place};
 use crate::printing::{print_answer, print_over};
 use crate::serving::{Gateway, Shared, close, shift_of};
 use crate::stop::Stop;
 use crate::words::Words;
-use gw_link::{End, Link, Origin, Phase, Stage, call, talk};
+use gw_link::{End, Link, Origin, Phase, Relay, Stage, call, talk};
 use gw_node::{Answer, Step};
 use gw_run::{Pool, Seat, sit};
 use gw_shift::Pass;
@@ -16,6 +16,7 @@ use octets::{Octets, read_u32};
 use sn_local::Addr;
 use std::alloc::Global;
 use std::collections::VecDeque;
+use std::mem;
 use std::sync::{Arc, Wait};
 use std::time::Clock;
 
@@ -50,10 +51,10 @@ enum Act {
 #[derive(Drop)]
 struct OpenShift {
     shift: Shared,
-    /// The pass of datagrams.
-    pass: Pass,
-    /// That of the link.
-    seat: Pass,
+    /// The pass of datagrams, while no call has it.
+    pass: Option<Pass>,
+    /// That of the links.
+    seat: Option<Pass>,
 }
 
 /// A gateway's end of a link.
@@ -66,13 +67,19 @@ struct Tie<'a, T: Wait> {
     link: Option<Link<Pipe<'a, T>>>,
 }
 
-/// One of the gateways, with its ends of links.
+/// One of the gateways.
 #[derive(Drop)]
-struct Side<'a, T: Wait> {
+struct Party<'a, T: Wait> {
     number: u8,
     open: Option<OpenShift>,
     /// What its links share.
     pool: Pool<Pipe<'a, T>>,
+}
+
+/// A gateway, with its ends of links.
+#[derive(Drop)]
+struct Side<'a, T: Wait> {
+    party: Party<'a, T>,
     /// Its ends of links, that with the least number first.
     ties: VecDeque<Tie<'a, T>>,
 }
@@ -125,6 +132,7 @@ pub(crate) fn meet<T: Wait + Clock>(rt: &T, page: &mut Page, deeds: &[Deed]) {
     let places = Places::new(page.alloc());
     meet_between(rt, page, &places, deeds);
     page.stop_if_short(places.are_short());
+    drop(places);
 }
 
 impl Places {
@@ -154,44 +162,101 @@ fn meet_between<'a, T: Wait + Clock>(
     deeds: &[Deed],
 ) {
     let mut sides = Vec::new(page.alloc());
-    add_side(page, &mut sides, 1);
-    add_side(page, &mut sides, 2);
-    join(rt, page, &mut sides, (1, &places.near), (2, &places.far));
-    if deeds.iter().any(|deed| deed.gateway == 3) {
-        add_side(page, &mut sides, 3);
-        join(rt, page, &mut sides, (2, &places.inner), (3, &places.outer));
+    gather(rt, page, &mut sides, places, deeds);
+    play_deeds(rt, page, &mut sides, deeds);
+    drop(sides);
+}
+
+/// The gateways that the lines name, with links between them.
+fn gather<'a, T: Wait>(
+    rt: &'a T,
+    page: &mut Page,
+    sides: &mut Vec<Side<'a, T>>,
+    places: &'a Places,
+    deeds: &[Deed],
+) {
+    add_side(page, sides, 1);
+    add_side(page, sides, 2);
+    join(rt, page, sides, (1, &places.near), (2, &places.far));
+    if is_third_named(deeds) {
+        add_side(page, sides, 3);
+        join(rt, page, sides, (2, &places.inner), (3, &places.outer));
     }
+}
+
+/// Whether a line names gateway 3.
+fn is_third_named(deeds: &[Deed]) -> bool {
+    for deed in deeds {
+        if deed.gateway == 3 {
+            return true;
+        }
+    }
+    false
+}
+
+/// What happens, and whether memory was refused in a disk.
+fn play_deeds<'a, T: Wait + Clock>(
+    rt: &T,
+    page: &mut Page,
+    sides: &mut Vec<Side<'a, T>>,
+    deeds: &[Deed],
+) {
     for deed in deeds {
         if page.reason().is_none() {
-            play_deed(rt, page, &mut sides, deed);
+            play_deed(rt, page, sides, deed);
         }
     }
     for side in sides.iter_mut() {
-        page.stop_if_short(is_starved(side));
+        page.stop_if_short(is_starved(&mut side.party));
     }
 }
 
 /// Whether memory was refused in the disk of a gateway, whose shift ends.
-fn is_starved<T: Wait>(side: &mut Side<'_, T>) -> bool {
-    match side.open.take() {
-        Some(opened) => opened.shift.end().node.starved(),
+fn is_starved<'a, T: Wait>(party: &mut Party<'a, T>) -> bool {
+    match change_shift(party, None) {
+        Some(OpenShift { shift, pass, seat }) => {
+            drop(pass);
+            drop(seat);
+            is_ended_starved(shift)
+        }
         None => false,
     }
 }
 
+/// Whether memory was refused in the disk of a shift, which ends.
+fn is_ended_starved(shift: Shared) -> bool {
+    let ended = shift.end();
+    let starved = ended.node.starved();
+    drop(ended);
+    starved
+}
+
+/// The shift that a gateway had, in whose place is this.
+fn change_shift<'a, T: Wait>(
+    party: &mut Party<'a, T>,
+    open: Option<OpenShift>,
+) -> Option<OpenShift> {
+    mem::replace(&mut party.open, open)
+}
+
+/// Takes a pass, for a call.
+fn take_pass(pass: &mut Option<Pass>) -> Option<Pass> {
+    pass.take()
+}
+
+/// Puts a pass back after a call.
+fn put_pass(at: &mut Option<Pass>, pass: Pass) {
+    drop(mem::replace(at, Some(pass)));
+}
+
 /// A gateway of this number on an empty disk, without a link, comes after the others.
 fn add_side<'a, T: Wait>(page: &mut Page, sides: &mut Vec<Side<'a, T>>, number: u8) {
-    let open = open_on(page, number);
     match Pool::new(page.alloc(), 1, &[]) {
         Some(pool) => {
-            let side = Side {
-                number,
-                open,
-                pool,
-                ties: VecDeque::new(page.alloc()),
-            };
-            let is_short = sides.push(side).is_err();
-            page.stop_if_short(is_short);
+            let open = open_on(page, number);
+            let party = Party { number, open, pool };
+            let ties = VecDeque::new(page.alloc());
+            page.push(sides, Side { party, ties });
         }
         None => page.stop(Stop::Memory),
     }
@@ -200,13 +265,11 @@ fn add_side<'a, T: Wait>(page: &mut Page, sides: &mut Vec<Side<'a, T>>, number: 
 /// The first shift of a gateway of this number on an empty disk.
 fn open_on(page: &mut Page, number: u8) -> Option<OpenShift> {
     let mut toml = String::new(page.alloc());
-    let is_short = writeln!(toml, "gateway = {number}").is_err();
-    page.stop_if_short(is_short);
-    add(page, &mut toml, "listen = \"127.0.0.1:1\"");
-    add(page, &mut toml, "link = \"127.0.0.1:2\"");
-    add(page, &mut toml, "journal = \"j\"");
+    tell(page, &mut toml, &number);
     let disk = MemoryDisk::new(page.alloc());
-    match begin_on(page, toml.as_str(), disk) {
+    let node = begin_on(page, toml.as_str(), disk);
+    drop(toml);
+    match node {
         Some(node) => open_shift(page, node),
         None => {
             // Nothing else refuses on an empty disk in memory.
@@ -216,19 +279,20 @@ fn open_on(page: &mut Page, number: u8) -> Option<OpenShift> {
     }
 }
 
-/// A shift of a gateway, with a pass for datagrams and one for the link.
+/// A shift of a gateway, with a pass for datagrams and one for the links.
 fn open_shift(page: &mut Page, node: Gateway) -> Option<OpenShift> {
     match shift_of(page, node, 2, 4_096) {
-        Some((shift, passes)) => seated(shift, passes),
+        Some((shift, passes)) => Some(seated(shift, passes)),
         None => None,
     }
 }
 
 /// A shift with its two passes.
-fn seated(shift: Shared, mut passes: Vec<Pass>) -> Option<OpenShift> {
-    let pass = passes.pop()?;
-    let seat = passes.pop()?;
-    Some(OpenShift { shift, pass, seat })
+fn seated(shift: Shared, mut passes: Vec<Pass>) -> OpenShift {
+    let pass = passes.pop();
+    let seat = passes.pop();
+    drop(passes);
+    OpenShift { shift, pass, seat }
 }
 
 /// A link between two gateways, which the first one dialled. Each has its number and its end.
@@ -252,14 +316,14 @@ fn add_tie<'a, T: Wait>(
     there: (u8, &'a Place),
     origin: Origin,
 ) {
-    let pipe = Pipe::new(rt, page.alloc(), here.1, there.1);
-    let tie = Tie {
-        other: there.0,
-        place: here.1,
-        link: Some(Link::new(page.alloc(), pipe, origin)),
-    };
     if let Some(side) = side_of(sides, u64::from(here.0)) {
-        put_last(page, side, tie);
+        let pipe = Pipe::new(rt, page.alloc(), here.1, there.1);
+        let tie = Tie {
+            other: there.0,
+            place: here.1,
+            link: Some(Link::new(page.alloc(), pipe, origin)),
+        };
+        put_last(page, &mut side.ties, tie);
     }
 }
 
@@ -275,9 +339,18 @@ fn side_of<'b, 'a, T: Wait>(
 }
 
 /// Puts an end of a link after the others of a gateway.
-fn put_last<'a, T: Wait>(page: &mut Page, side: &mut Side<'a, T>, tie: Tie<'a, T>) {
-    let is_short = side.ties.push_back(tie).is_err();
+fn put_last<'a, T: Wait>(page: &mut Page, ties: &mut VecDeque<Tie<'a, T>>, tie: Tie<'a, T>) {
+    let pushed = ties.push_back(tie);
+    let is_short = pushed.is_err();
+    drop(pushed);
     page.stop_if_short(is_short);
+}
+
+/// The first end of a link is the last one of a gateway then.
+fn put_first_last<'a, T: Wait>(page: &mut Page, ties: &mut VecDeque<Tie<'a, T>>) {
+    if let Some(tie) = ties.pop_front() {
+        put_last(page, ties, tie);
+    }
 }
 
 /// Something happens at one of the gateways.
@@ -296,11 +369,11 @@ fn play_deed<'a, T: Wait + Clock>(
 /// Something happens at a gateway.
 fn happen<'a, T: Wait + Clock>(rt: &T, page: &mut Page, side: &mut Side<'a, T>, act: &Act) {
     match act {
-        Act::Talk(phase) => talk_all(rt, page, side, *phase),
-        Act::Sit => sit_down(rt, page, side),
+        Act::Talk(phase) => talk_all(rt, page, &mut side.party, &mut side.ties, *phase),
+        Act::Sit => sit_down(rt, page, &mut side.party, &mut side.ties),
         Act::Turn => turn(rt, page, side),
         act => match place_of(side) {
-            Some(place) => happen_at(rt, page, side, place, act),
+            Some(place) => happen_at(rt, page, &mut side.party, place, act),
             None => page.stop(Stop::Line),
         },
     }
@@ -318,12 +391,12 @@ fn place_of<'a, T: Wait>(side: &Side<'a, T>) -> Option<&'a Place> {
 fn happen_at<'a, T: Wait>(
     rt: &T,
     page: &mut Page,
-    side: &mut Side<'a, T>,
+    party: &mut Party<'a, T>,
     place: &Place,
     act: &Act,
 ) {
     match act {
-        Act::Ask(host, octets) => ask(rt, page, side, place.stage(), *host, octets.as_slice()),
+        Act::Ask(host, octets) => ask(rt, page, party, place.stage(), *host, octets.as_slice()),
         Act::Come(octets) => {
             let has_come = place.come(rt, page.alloc(), octets.as_slice());
             page.stop_if_short(!has_come);
@@ -338,44 +411,77 @@ fn happen_at<'a, T: Wait>(
 fn ask<'a, T: Wait>(
     rt: &T,
     page: &mut Page,
-    side: &mut Side<'a, T>,
+    party: &mut Party<'a, T>,
     stage: &Stage,
     host: u32,
     octets: &[u8],
 ) {
     match step_of(page.alloc(), host, octets) {
-        Some(step) => ask_step(rt, page, side, stage, step),
+        Some(step) => ask_step(rt, page, party, stage, step),
         None => page.stop(Stop::Memory),
     }
 }
 
 /// The call of a datagram, if there is memory for it.
 fn step_of(alloc: Global, host: u32, octets: &[u8]) -> Option<Arc<Step>> {
-    let from = Addr { host, port: 1 };
-    let bytes = Octets::from_slice(alloc, octets).ok()?;
-    let step = Step::Frame {
-        from,
-        bytes,
-        now: 5,
-    };
-    Arc::new(alloc, step).ok()
+    match Octets::from_slice(alloc, octets) {
+        Ok(bytes) => {
+            let from = Addr { host, port: 1 };
+            let now = 5;
+            shared_of(alloc, Step::Frame { from, bytes, now })
+        }
+        Err(_) => None,
+    }
 }
 
-/// A call is made.
+/// A call that can be shared, if there is memory for it.
+fn shared_of(alloc: Global, step: Step) -> Option<Arc<Step>> {
+    match Arc::new(alloc, step) {
+        Ok(shared) => Some(shared),
+        Err(refused) => {
+            drop(refused);
+            None
+        }
+    }
+}
+
+/// A call is made, if the gateway has a shift.
 fn ask_step<'a, T: Wait>(
     rt: &T,
     page: &mut Page,
-    side: &mut Side<'a, T>,
+    party: &mut Party<'a, T>,
     stage: &Stage,
     step: Arc<Step>,
 ) {
-    match side.open.take() {
-        Some(OpenShift { shift, pass, seat }) => {
-            let (pass, answered) = call(rt, page.alloc(), &shift, pass, step, stage);
-            side.open = Some(OpenShift { shift, pass, seat });
-            print_asked(page, side.number, &answered);
+    match &mut party.open {
+        Some(open) => call_in(rt, page, open, party.number, stage, step),
+        None => {
+            drop(step);
+            page.stop(Stop::Line);
         }
-        None => page.stop(Stop::Line),
+    }
+}
+
+/// A call is made in a shift.
+fn call_in<T: Wait>(
+    rt: &T,
+    page: &mut Page,
+    open: &mut OpenShift,
+    number: u8,
+    stage: &Stage,
+    step: Arc<Step>,
+) {
+    match take_pass(&mut open.pass) {
+        Some(pass) => {
+            let (pass, answered) = call(rt, page.alloc(), &open.shift, pass, step, stage);
+            put_pass(&mut open.pass, pass);
+            print_asked(page, number, &answered);
+            drop(answered);
+        }
+        None => {
+            drop(step);
+            page.stop(Stop::Line);
+        }
     }
 }
 
@@ -392,22 +498,17 @@ fn print_asked(page: &mut Page, number: u8, answered: &Result<Answer, End>) {
 }
 
 /// The links of a gateway talk in turn, from a phase of the shift on, each to the end of the shift.
-fn talk_all<'a, T: Wait + Clock>(rt: &T, page: &mut Page, side: &mut Side<'a, T>, phase: Phase) {
-    for _ in 0..side.ties.len() {
+fn talk_all<'a, T: Wait + Clock>(
+    rt: &T,
+    page: &mut Page,
+    party: &mut Party<'a, T>,
+    ties: &mut VecDeque<Tie<'a, T>>,
+    phase: Phase,
+) {
+    for tie in ties.iter_mut() {
         if page.reason().is_none() {
-            talk_next(rt, page, side, phase);
+            talk_once(rt, page, party, tie, phase);
         }
-    }
-}
-
-/// The first link of a gateway talks, and is the last one then.
-fn talk_next<'a, T: Wait + Clock>(rt: &T, page: &mut Page, side: &mut Side<'a, T>, phase: Phase) {
-    match side.ties.pop_front() {
-        Some(mut tie) => {
-            talk_once(rt, page, side, &mut tie, phase);
-            put_last(page, side, tie);
-        }
-        None => page.stop(Stop::Line),
     }
 }
 
@@ -415,32 +516,54 @@ fn talk_next<'a, T: Wait + Clock>(rt: &T, page: &mut Page, side: &mut Side<'a, T
 fn talk_once<'a, T: Wait + Clock>(
     rt: &T,
     page: &mut Page,
-    side: &mut Side<'a, T>,
+    party: &mut Party<'a, T>,
     tie: &mut Tie<'a, T>,
     phase: Phase,
 ) {
-    match tie.link.take() {
-        Some(mut link) => {
-            tie.place.stage().go_to(rt, phase);
-            let end = talk_over(rt, page, side, tie.place.stage(), &mut link);
-            put_link(rt, side, tie, link, end);
-            print_said(rt, page, side.number, tie);
-            print_end(page, side.number, end);
+    match talk_over(rt, page, party, tie, phase) {
+        Some(end) => {
+            if end != End::Full {
+                lose_link(rt, party, tie);
+            }
+            print_said(rt, page, party.number, tie);
+            print_end(page, party.number, end);
         }
         None => page.stop(Stop::Line),
     }
 }
 
-/// A link of a gateway talks to the end of the shift. Says why it stopped.
+/// A link of a gateway talks to the end of the shift. Says why it stopped, if it is there.
 fn talk_over<'a, T: Wait + Clock>(
     rt: &T,
     page: &mut Page,
-    side: &mut Side<'a, T>,
+    party: &mut Party<'a, T>,
+    tie: &mut Tie<'a, T>,
+    phase: Phase,
+) -> Option<End> {
+    let place = tie.place;
+    match &mut tie.link {
+        Some(link) => {
+            place.stage().go_to(rt, phase);
+            Some(talk_from(rt, page.alloc(), party, place.stage(), link))
+        }
+        None => None,
+    }
+}
+
+/// The same in this phase.
+fn talk_from<'a, T: Wait + Clock>(
+    rt: &T,
+    alloc: Global,
+    party: &mut Party<'a, T>,
     stage: &Stage,
     link: &mut Link<Pipe<'a, T>>,
 ) -> End {
-    match Vec::from_elem(page.alloc(), 0u8, 65_536) {
-        Ok(mut piece) => talk_by(rt, page.alloc(), side, stage, link, piece.as_mut_slice()),
+    match Vec::from_elem(alloc, 0u8, 65_536) {
+        Ok(mut piece) => {
+            let end = talk_by(rt, alloc, party, stage, link, piece.as_mut_slice());
+            drop(piece);
+            end
+        }
         Err(_) => End::Memory,
     }
 }
@@ -449,46 +572,53 @@ fn talk_over<'a, T: Wait + Clock>(
 fn talk_by<'a, T: Wait + Clock>(
     rt: &T,
     alloc: Global,
-    side: &mut Side<'a, T>,
+    party: &mut Party<'a, T>,
     stage: &Stage,
     link: &mut Link<Pipe<'a, T>>,
     piece: &mut [u8],
 ) -> End {
-    match side.open.take() {
-        Some(OpenShift { shift, pass, seat }) => {
-            let relay = &side.pool.relay;
-            let (seat, end) = talk(
-                rt,
-                alloc,
-                &shift,
-                seat,
-                link,
-                side.number,
-                piece,
-                stage,
-                relay,
-            );
-            side.open = Some(OpenShift { shift, pass, seat });
-            end
-        }
+    let number = party.number;
+    let relay = &party.pool.relay;
+    match &mut party.open {
+        Some(open) => talk_in(rt, alloc, open, number, stage, link, piece, relay),
         // A gateway without a shift had no memory for it.
         None => End::Memory,
     }
 }
 
-/// Puts a link back that has talked. One that is lost is left.
-fn put_link<'a, T: Wait>(
+/// The same in a shift.
+fn talk_in<'a, T: Wait + Clock>(
     rt: &T,
-    side: &Side<'a, T>,
-    tie: &mut Tie<'a, T>,
-    link: Link<Pipe<'a, T>>,
-    end: End,
-) {
-    if end == End::Full {
-        tie.link = Some(link);
-    } else {
-        side.pool.relay.leave(rt, link.place);
+    alloc: Global,
+    open: &mut OpenShift,
+    number: u8,
+    stage: &Stage,
+    link: &mut Link<Pipe<'a, T>>,
+    piece: &mut [u8],
+    relay: &Relay,
+) -> End {
+    match take_pass(&mut open.seat) {
+        Some(seat) => {
+            let shift = &open.shift;
+            let (seat, end) = talk(rt, alloc, shift, seat, link, number, piece, stage, relay);
+            put_pass(&mut open.seat, seat);
+            end
+        }
+        None => End::Memory,
     }
+}
+
+/// A link that is lost is closed.
+fn lose_link<'a, T: Wait>(rt: &T, party: &Party<'a, T>, tie: &mut Tie<'a, T>) {
+    if let Some(link) = take_link(tie) {
+        party.pool.relay.leave(rt, link.place);
+        drop(link);
+    }
+}
+
+/// Takes the link of an end.
+fn take_link<'a, T: Wait>(tie: &mut Tie<'a, T>) -> Option<Link<Pipe<'a, T>>> {
+    tie.link.take()
 }
 
 /// Why a link has stopped to talk, unless memory ran out.
@@ -505,18 +635,30 @@ fn print_end(page: &mut Page, number: u8, end: End) {
 fn print_said<'a, T: Wait>(rt: &T, page: &mut Page, number: u8, tie: &Tie<'a, T>) {
     let to = if tie.other == 3 { " to 3" } else { "" };
     let said = tie.place.take_said(rt, Vec::new(page.alloc()));
-    let mut rest = said.as_slice();
-    for _ in 0..said.len() {
+    let rest = print_messages(page, number, to, said.as_slice());
+    put_back(rt, page, tie.place, rest);
+    drop(said);
+}
+
+/// The front part of a message waits at an end.
+fn put_back<T: Wait>(rt: &T, page: &mut Page, place: &Place, rest: &[u8]) {
+    match Vec::from_slice(page.alloc(), rest) {
+        Ok(left) => drop(place.take_said(rt, left)),
+        Err(_) => page.stop(Stop::Memory),
+    }
+}
+
+/// The messages that stand whole in front of octets. Gives what comes after them.
+fn print_messages<'o>(page: &mut Page, number: u8, to: &str, octets: &'o [u8]) -> &'o [u8] {
+    let mut rest = octets;
+    for _ in 0..octets.len() {
         let Some((kind, body, behind)) = first_of(rest) else {
             break;
         };
         print_message(page, number, to, kind, body);
         rest = behind;
     }
-    match Vec::from_slice(page.alloc(), rest) {
-        Ok(left) => drop(tie.place.take_said(rt, left)),
-        Err(_) => page.stop(Stop::Memory),
-    }
+    rest
 }
 
 /// The kind and the body of the message in front of octets, and what comes after it.
@@ -544,33 +686,32 @@ fn print_message(page: &mut Page, number: u8, to: &str, kind: u8, body: &[u8]) {
     page.end();
 }
 
-/// The first link of a gateway talks at a seat, and then it is closed.
-fn sit_down<'a, T: Wait + Clock>(rt: &T, page: &mut Page, side: &mut Side<'a, T>) {
-    match side.ties.pop_front() {
-        Some(mut tie) => {
-            sit_with(rt, page, side, &mut tie);
-            put_last(page, side, tie);
-        }
+/// The first link of a gateway talks at a seat, and then it is closed, and is the last one.
+fn sit_down<'a, T: Wait + Clock>(
+    rt: &T,
+    page: &mut Page,
+    party: &mut Party<'a, T>,
+    ties: &mut VecDeque<Tie<'a, T>>,
+) {
+    match ties.front_mut() {
+        Some(tie) => sit_with(rt, page, party, tie),
         None => page.stop(Stop::Line),
     }
+    put_first_last(page, ties);
 }
 
 /// A link of a gateway talks at a seat, and then it is closed.
 fn sit_with<'a, T: Wait + Clock>(
     rt: &T,
     page: &mut Page,
-    side: &mut Side<'a, T>,
+    party: &mut Party<'a, T>,
     tie: &mut Tie<'a, T>,
 ) {
-    match tie.link.take() {
+    match take_link(tie) {
         Some(link) => {
             let origin = link.origin;
-            side.pool.open(rt, link);
-            if is_closed(rt, &side.pool, origin) {
-                page.stop(Stop::Memory);
-            } else {
-                sit_opened(rt, page, side, tie, origin);
-            }
+            party.pool.open(rt, link);
+            sit_opened(rt, page, party, tie, origin);
         }
         None => page.stop(Stop::Line),
     }
@@ -580,44 +721,56 @@ fn sit_with<'a, T: Wait + Clock>(
 fn sit_opened<'a, T: Wait + Clock>(
     rt: &T,
     page: &mut Page,
-    side: &mut Side<'a, T>,
+    party: &mut Party<'a, T>,
     tie: &Tie<'a, T>,
     origin: Origin,
 ) {
-    let end = serve_seat(rt, page, side, tie.place.stage());
-    print_said(rt, page, side.number, tie);
-    print_end(page, side.number, end.unwrap_or(End::Full));
-    print_room(rt, page, side.number, &side.pool, origin);
-    side.pool.close_all(rt);
-    print_room(rt, page, side.number, &side.pool, origin);
+    if is_closed(rt, &party.pool, origin) {
+        page.stop(Stop::Memory);
+    } else {
+        let end = serve_seat(rt, page, party, tie.place.stage());
+        print_said(rt, page, party.number, tie);
+        print_end(page, party.number, end.unwrap_or(End::Full));
+        print_room(rt, page, party.number, &party.pool, origin);
+        party.pool.close_all(rt);
+        print_room(rt, page, party.number, &party.pool, origin);
+    }
 }
 
 /// Serves the first seat of a gateway's pool. Says why its link stopped, if it did.
 fn serve_seat<'a, T: Wait + Clock>(
     rt: &T,
     page: &mut Page,
-    side: &mut Side<'a, T>,
+    party: &mut Party<'a, T>,
     stage: &Stage,
 ) -> Option<End> {
-    match side.open.take() {
-        Some(OpenShift { shift, pass, seat }) => {
+    let number = party.number;
+    let pool = &party.pool;
+    match &mut party.open {
+        Some(open) => sit_in(rt, page, open, number, stage, pool),
+        None => {
+            page.stop(Stop::Line);
+            None
+        }
+    }
+}
+
+/// The same in a shift.
+fn sit_in<'a, T: Wait + Clock>(
+    rt: &T,
+    page: &mut Page,
+    open: &mut OpenShift,
+    number: u8,
+    stage: &Stage,
+    pool: &Pool<Pipe<'a, T>>,
+) -> Option<End> {
+    match take_pass(&mut open.seat) {
+        Some(pass) => {
             stage.go_to(rt, Phase::Serving);
-            let given = Seat {
-                pass: seat,
-                end: None,
-            };
-            let sat = sit(
-                rt,
-                page.alloc(),
-                &shift,
-                given,
-                &side.pool,
-                side.number,
-                stage,
-            );
-            let seat = sat.pass;
-            side.open = Some(OpenShift { shift, pass, seat });
-            sat.end
+            let given = Seat { pass, end: None };
+            let Seat { pass, end } = sit(rt, page.alloc(), &open.shift, given, pool, number, stage);
+            put_pass(&mut open.seat, pass);
+            end
         }
         None => {
             page.stop(Stop::Line);
@@ -653,10 +806,11 @@ fn print_room<T: Wait, S: Drop>(
 
 /// A shift of a gateway is closed, and the next one begins, also for its links.
 fn turn<'a, T: Wait>(rt: &T, page: &mut Page, side: &mut Side<'a, T>) {
-    match side.open.take() {
+    match change_shift(&mut side.party, None) {
         Some(opened) => {
-            side.open = next_of(page, side.number, opened);
-            side.pool.begin_shift(rt);
+            let next = next_of(page, side.party.number, opened);
+            drop(change_shift(&mut side.party, next));
+            side.party.pool.begin_shift(rt);
             begin_links(side);
         }
         None => page.stop(Stop::Line),
@@ -666,15 +820,27 @@ fn turn<'a, T: Wait>(rt: &T, page: &mut Page, side: &mut Side<'a, T>) {
 /// Closes a shift of a gateway, prints how it went, and opens the next one.
 fn next_of(page: &mut Page, number: u8, opened: OpenShift) -> Option<OpenShift> {
     let OpenShift { shift, pass, seat } = opened;
-    let mut passes = Vec::new(page.alloc());
-    let is_pass_lost = passes.push(pass).is_err();
-    let is_seat_lost = passes.push(seat).is_err();
-    page.stop_if_short(is_pass_lost || is_seat_lost);
+    let passes = both(page, pass, seat);
     let over = close(shift, passes);
     page.shown("", &number);
     page.text(" ");
-    print_over(page, &over);
-    open_shift(page, over.node)
+    let node = print_over(page, over);
+    open_shift(page, node)
+}
+
+/// Both passes of a shift.
+fn both(page: &mut Page, pass: Option<Pass>, seat: Option<Pass>) -> Vec<Pass> {
+    let mut passes = Vec::new(page.alloc());
+    add_pass(page, &mut passes, pass);
+    add_pass(page, &mut passes, seat);
+    passes
+}
+
+/// A pass comes after others, if it is there.
+fn add_pass(page: &mut Page, passes: &mut Vec<Pass>, pass: Option<Pass>) {
+    if let Some(pass) = pass {
+        page.push(passes, pass);
+    }
 }
 
 /// The next shift begins for the links of a gateway.

@@ -13,6 +13,7 @@ use gw_wire::address;
 use jr_journal::{Disk, MemoryDisk};
 use rep_plain::Plain;
 use sn_local::Addr;
+use std::fmt::Display;
 use std::fs::{File, Files, remove_file};
 use std::io::ErrorKind;
 
@@ -49,6 +50,7 @@ pub(crate) fn show(page: &mut Page, toml: &str, words: &mut Words) {
         if let Some(read) = read(page, toml) {
             print_needed(page, &read);
             print_others(page, &read);
+            drop(read);
         }
     }
 }
@@ -94,12 +96,17 @@ pub(crate) fn name(page: &mut Page, toml: &mut String, words: &mut Words) {
     let number = words.word();
     if words.end(page) {
         toml.clear();
-        let is_short = writeln!(toml, "gateway = {number}").is_err();
-        page.stop_if_short(is_short);
-        add(page, toml, "listen = \"127.0.0.1:1884\"");
-        add(page, toml, "link = \"127.0.0.1:1885\"");
-        add(page, toml, "journal = \"j\"");
+        tell(page, toml, &number);
     }
+}
+
+/// What a gateway of this number must be told.
+pub(crate) fn tell<D: Display>(page: &mut Page, toml: &mut String, number: &D) {
+    let is_short = writeln!(toml, "gateway = {number}").is_err();
+    page.stop_if_short(is_short);
+    add(page, toml, "listen = \"127.0.0.1:1884\"");
+    add(page, toml, "link = \"127.0.0.1:1885\"");
+    add(page, toml, "journal = \"j\"");
 }
 
 /// A line of the settings' text.
@@ -111,8 +118,15 @@ pub(crate) fn add(page: &mut Page, toml: &mut String, line: &str) {
 /// Opens a gateway on a disk in memory, as a text says. No row arranges that its opening fails.
 pub(crate) fn begin_on(page: &mut Page, toml: &str, disk: MemoryDisk) -> Option<Gateway> {
     match read(page, toml) {
-        Some(read) => begun(page, &read, disk, NO_DISK),
-        None => None,
+        Some(read) => {
+            let node = begun(page, &read, disk, NO_DISK);
+            drop(read);
+            node
+        }
+        None => {
+            drop(disk);
+            None
+        }
     }
 }
 
@@ -127,8 +141,8 @@ fn begun<D: Disk + Drop>(
     let mut out = room(page);
     let mut err = room(page);
     let node = begin(page.alloc(), read, disk, &mut out, &mut err);
-    print_octets(page, out.as_slice(), short);
-    print_octets(page, err.as_slice(), short);
+    print_octets(page, out, short);
+    print_octets(page, err, short);
     started(page, node)
 }
 
@@ -159,12 +173,14 @@ fn started<D: Disk + Drop>(
 }
 
 /// Text that was printed, unless it says that memory ran out.
-fn print_octets(page: &mut Page, octets: &[u8], short: &[u8]) {
-    page.stop_if_short(octets == NO_MEMORY || octets == short);
-    match str::from_utf8(octets) {
+fn print_octets(page: &mut Page, octets: Vec<u8>, short: &[u8]) {
+    let printed = octets.as_slice();
+    page.stop_if_short(printed == NO_MEMORY || printed == short);
+    match str::from_utf8(printed) {
         Ok(printed) => page.text(printed),
         Err(_) => page.stop(Stop::Line),
     }
+    drop(octets);
 }
 
 /// `files OCTETS`: opens a gateway on the two files that the settings name, gives it a datagram
@@ -172,9 +188,16 @@ fn print_octets(page: &mut Page, octets: &[u8], short: &[u8]) {
 pub(crate) fn files<T: Files<File = File>>(rt: &T, page: &mut Page, toml: &str, words: &mut Words) {
     let octets = words.octets();
     if words.end(page) {
-        if let Some(read) = read(page, toml) {
-            files_of(rt, page, &read, octets.as_slice());
-        }
+        files_told(rt, page, toml, octets.as_slice());
+    }
+    drop(octets);
+}
+
+/// A gateway on the two files that a text names is opened, and asked once.
+fn files_told<T: Files<File = File>>(rt: &T, page: &mut Page, toml: &str, octets: &[u8]) {
+    if let Some(read) = read(page, toml) {
+        files_of(rt, page, &read, octets);
+        drop(read);
     }
 }
 
@@ -198,20 +221,29 @@ fn print_fault(page: &mut Page, fault: FileDiskFault) {
 
 /// A gateway on a disk is opened, and asked once.
 fn ask_on<D: Disk + Drop>(page: &mut Page, read: &Settings, disk: D, octets: &[u8]) {
-    if let Some(mut node) = begun(page, read, disk, NO_MEMORY) {
-        let answer = node.frame(page.alloc(), Addr { host: 7, port: 1 }, octets, 0);
-        page.text("answered");
-        print_answer(page, &answer);
-        page.end();
+    if let Some(node) = begun(page, read, disk, NO_MEMORY) {
+        ask_node(page, node, octets);
     }
+}
+
+/// A gateway is asked once.
+fn ask_node<D: Disk + Drop>(page: &mut Page, mut node: Node<Plain, D>, octets: &[u8]) {
+    let answer = node.frame(page.alloc(), Addr { host: 7, port: 1 }, octets, 0);
+    drop(node);
+    page.text("answered");
+    print_answer(page, &answer);
+    drop(answer);
+    page.end();
 }
 
 /// `lose NAME`: the file of this name is not there any more.
 pub(crate) fn lose<T: Files<File = File>>(rt: &T, page: &mut Page, words: &mut Words) {
     let name = words.word();
     if words.end(page) {
-        if let Err(error) = &remove_file(rt, name) {
+        let removed = remove_file(rt, name);
+        if let Err(error) = &removed {
             page.stop(missing(error));
         }
+        drop(removed);
     }
 }

@@ -78,9 +78,11 @@ impl<'a, T: Wait> Outside<'a, T> {
 
     /// Notes something.
     fn note(&self, note: Note) {
-        if self.notes.lock(self.rt).push(note).is_err() {
+        let pushed = self.notes.lock(self.rt).push(note);
+        if pushed.is_err() {
             self.is_short.store(true, Ordering::SeqCst);
         }
+        drop(pushed);
     }
 
     /// Waits until the others are out. Says whether they are.
@@ -100,12 +102,16 @@ impl<'a, T: Wait> Post for Outside<'a, T> {
         if self.fails {
             return Err(Unsent);
         }
-        let Ok(bytes) = Octets::from_slice(self.alloc, bytes) else {
-            self.is_short.store(true, Ordering::SeqCst);
-            return Err(Unsent);
-        };
-        self.note(Note::Sent { to, bytes });
-        Ok(())
+        match Octets::from_slice(self.alloc, bytes) {
+            Ok(bytes) => {
+                self.note(Note::Sent { to, bytes });
+                Ok(())
+            }
+            Err(_) => {
+                self.is_short.store(true, Ordering::SeqCst);
+                Err(Unsent)
+            }
+        }
     }
 }
 

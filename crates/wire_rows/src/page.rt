@@ -57,6 +57,14 @@ impl Page {
         }
     }
 
+    /// Puts a value after others, unless memory runs out.
+    pub(crate) fn push<T: Drop>(&mut self, list: &mut Vec<T>, value: T) {
+        let pushed = list.push(value);
+        let is_short = pushed.is_err();
+        drop(pushed);
+        self.stop_if_short(is_short);
+    }
+
     /// Whether the line that was played is none of the language. The next one is played.
     pub(crate) fn forgive(&mut self) -> bool {
         let is_refused = matches!(self.reason, Some(Stop::Line));

@@ -1,5 +1,7 @@
 //! A stream in memory between two gateways.
 
+ghost use Rattle.std.specs.Prelude.{◌≤◌, length, IfSome};
+
 use gw_link::{Phase, Stage};
 use std::alloc::Global;
 use std::collections::VecDeque;
@@ -85,7 +87,12 @@ impl Place {
     /// Octets come to it, unless memory runs out, which it says.
     pub(crate) fn come<T: Wait>(&self, rt: &T, alloc: Global, octets: &[u8]) -> bool {
         match Vec::from_slice(alloc, octets) {
-            Ok(octets) => self.coming.lock(rt).push_back(octets).is_ok(),
+            Ok(octets) => {
+                let pushed = self.coming.lock(rt).push_back(octets);
+                let has_come = pushed.is_ok();
+                drop(pushed);
+                has_come
+            }
             Err(_) => false,
         }
     }
@@ -130,12 +137,14 @@ impl<'a, T: Wait> Pipe<'a, T> {
 impl<'a, T: Wait> Read for Pipe<'a, T> {
     fn read(&mut self, buf: &mut [u8]) -> io::Result<usize> {
         let come = self.here.coming.lock(self.rt).pop_front();
-        match come {
-            Some(octets) if octets.len() <= buf.len() => {
-                buf[..octets.len()].copy_from_slice(octets.as_slice());
-                Ok(octets.len())
-            }
-            _ => {
+        let size = match &come {
+            Some(octets) => filled(octets.as_slice(), buf),
+            None => None,
+        };
+        drop(come);
+        match size {
+            Some(size) => Ok(size),
+            None => {
                 self.here.rest(self.rt);
                 Err(io::Error::from(ErrorKind::WouldBlock))
             }
@@ -157,4 +166,16 @@ impl<'a, T: Wait> Write for Pipe<'a, T> {
     fn flush(&mut self) -> io::Result<()> {
         Ok(())
     }
+}
+
+/// Puts octets into the front of a buffer, and says how many. `None` where they are too many.
+fn filled(octets: &[u8], buf: &mut [u8]) -> Option<usize>
+    ensures { IfSome result (λ size. size ≤ length buf.new) }
+{
+    let size = octets.len();
+    if size > buf.len() {
+        return None;
+    }
+    buf[..size].copy_from_slice(octets);
+    Some(size)
 }

@@ -176,9 +176,22 @@ fn print_note(page: &mut Page, number: u64, host: u32, note: &Note) {
     }
 }
 
+/// Prints of a shift that is over what became of it, and gives its gateway back.
+pub(crate) fn print_over(page: &mut Page, over: Over) -> Gateway {
+    print_closed(page, &over);
+    let Over {
+        node,
+        history,
+        fault,
+    } = over;
+    drop(history);
+    drop(fault);
+    node
+}
+
 /// Whether the shift was closed, with how many calls, and which clients the gateway knows. The
 /// program ends if memory was refused in the disk, which then did not fail as arranged.
-pub(crate) fn print_over(page: &mut Page, over: &Over) {
+fn print_closed(page: &mut Page, over: &Over) {
     page.stop_if_short(over.node.starved());
     match &over.fault {
         None => page.text("closed,"),
@@ -195,7 +208,8 @@ pub(crate) fn print_over(page: &mut Page, over: &Over) {
 
 /// The clients that a gateway knows.
 fn print_clients(page: &mut Page, node: &Gateway) {
-    match &node.clients(page.alloc()) {
+    let clients = node.clients(page.alloc());
+    match &clients {
         Ok(clients) => {
             for client in clients.as_slice() {
                 page.octets(" ", client.bytes());
@@ -203,4 +217,5 @@ fn print_clients(page: &mut Page, node: &Gateway) {
         }
         Err(_) => page.stop(Stop::Memory),
     }
+    drop(clients);
 }

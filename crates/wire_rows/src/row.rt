@@ -54,6 +54,21 @@ impl Row {
             plan: Plan::new(alloc),
         }
     }
+
+    /// Takes the gateway that is open.
+    fn take_node(&mut self) -> Option<Gateway> {
+        self.node.take()
+    }
+
+    /// This gateway is the open one, where there is one.
+    fn put_node(&mut self, node: Option<Gateway>) {
+        drop(mem::replace(&mut self.node, node));
+    }
+
+    /// The next serving is given nothing yet.
+    fn clear_plan(&mut self, alloc: Global) {
+        drop(mem::replace(&mut self.plan, Plan::new(alloc)));
+    }
 }
 
 impl Plan {
@@ -119,15 +134,24 @@ fn play_plan(page: &mut Page, plan: &mut Plan, first: &str, words: &mut Words) {
 /// Lines that say what comes, or what happens when gateways meet.
 fn play_happening(page: &mut Page, plan: &mut Plan, first: &str, words: &mut Words) {
     match first {
-        "datagram" => add_datagram(page, &mut plan.coming, words),
-        "failure" => add_failure(page, &mut plan.coming, words),
+        "datagram" => {
+            let datagram = read_datagram(words);
+            add(page, &mut plan.coming, datagram, words);
+        }
+        "failure" => add(page, &mut plan.coming, Coming::Failure, words),
         first => {
             let deed = read_deed(first, words);
-            if words.end(page) {
-                let is_short = plan.deeds.push(deed).is_err();
-                page.stop_if_short(is_short);
-            }
+            add(page, &mut plan.deeds, deed, words);
         }
+    }
+}
+
+/// What a line says comes after others, if the line is right.
+fn add<S: Drop>(page: &mut Page, list: &mut Vec<S>, said: S, words: &mut Words) {
+    if words.end(page) {
+        page.push(list, said);
+    } else {
+        drop(said);
     }
 }
 
@@ -158,42 +182,28 @@ fn set_hold(page: &mut Page, hold: &mut Option<Hold>, words: &mut Words) {
 }
 
 /// `datagram HOST MOMENT OCTETS`.
-fn add_datagram(page: &mut Page, coming: &mut Vec<Coming>, words: &mut Words) {
-    let host = words.host();
-    let moment = words.number();
-    let bytes = words.octets();
-    if words.end(page) {
-        let datagram = Coming::Datagram {
-            host,
-            moment,
-            bytes,
-        };
-        let is_short = coming.push(datagram).is_err();
-        page.stop_if_short(is_short);
-    }
-}
-
-/// `failure`.
-fn add_failure(page: &mut Page, coming: &mut Vec<Coming>, words: &mut Words) {
-    if words.end(page) {
-        let is_short = coming.push(Coming::Failure).is_err();
-        page.stop_if_short(is_short);
+fn read_datagram(words: &mut Words) -> Coming {
+    Coming::Datagram {
+        host: words.host(),
+        moment: words.number(),
+        bytes: words.octets(),
     }
 }
 
 /// `meet`: gateways meet.
 fn play_meet<T: Wait + Clock>(rt: &T, page: &mut Page, row: &mut Row, words: &mut Words) {
     if words.end(page) {
-        let plan = mem::replace(&mut row.plan, Plan::new(page.alloc()));
-        meet(rt, page, plan.deeds.as_slice());
+        meet(rt, page, row.plan.deeds.as_slice());
+        row.clear_plan(page.alloc());
     }
 }
 
 /// `begin`: the gateway is opened on the disk of the one that was open, or on an empty one.
 fn play_begin(page: &mut Page, row: &mut Row, words: &mut Words) {
     if words.end(page) {
-        let disk = disk_of(page.alloc(), row.node.take());
-        row.node = begin_on(page, row.toml.as_str(), disk);
+        let disk = disk_of(page.alloc(), row.take_node());
+        let node = begin_on(page, row.toml.as_str(), disk);
+        row.put_node(node);
     }
 }
 
@@ -218,23 +228,38 @@ fn play_fail(page: &mut Page, row: &mut Row, words: &mut Words) {
 /// `serve`: serves what comes in a shift of the open gateway, and closes that.
 fn play_serve<T: Threads + Wait + Sync>(rt: &T, page: &mut Page, row: &mut Row, words: &mut Words) {
     if words.end(page) {
-        let plan = mem::replace(&mut row.plan, Plan::new(page.alloc()));
-        if let Some((shift, passes)) = opened(page, row, &plan) {
-            let outcome = serve_noted(rt, page, &shift, passes, &plan);
-            row.node = finish(page, shift, outcome, plan.coming.len());
+        if let Some((shift, passes)) = opened(page, row) {
+            let node = serve_shift(rt, page, shift, passes, &row.plan);
+            row.put_node(Some(node));
         }
+        row.clear_plan(page.alloc());
     }
 }
 
 /// The open gateway, in a shift of its own.
-fn opened(page: &mut Page, row: &mut Row, plan: &Plan) -> Option<(Shared, Vec<Pass>)> {
-    match row.node.take() {
-        Some(node) => shift_of(page, node, plan.workers, plan.steps),
+fn opened(page: &mut Page, row: &mut Row) -> Option<(Shared, Vec<Pass>)> {
+    match row.take_node() {
+        Some(node) => shift_of(page, node, row.plan.workers, row.plan.steps),
         None => {
             page.stop(Stop::Line);
             None
         }
     }
+}
+
+/// Serves what comes in a shift, closes it, and prints how that went. Gives the gateway back.
+fn serve_shift<T: Threads + Wait + Sync>(
+    rt: &T,
+    page: &mut Page,
+    shift: Shared,
+    passes: Vec<Pass>,
+    plan: &Plan,
+) -> Gateway {
+    let mut outcome = serve_noted(rt, page, &shift, passes, plan);
+    let over = close(shift, outcome.take_passes(page.alloc()));
+    print_calls(page, &outcome, over.history.as_slice(), plan.coming.len());
+    drop(outcome);
+    print_over(page, over)
 }
 
 /// Serves what comes, and prints how that ended and what the outside was asked.
@@ -248,9 +273,10 @@ fn serve_noted<T: Threads + Wait + Sync>(
     let outside = Outside::new(rt, page.alloc(), plan.fails, plan.hold);
     let outcome = serve_told(rt, page.alloc(), shift, passes, plan, &outside);
     page.stop_if_short(outside.is_short());
-    let notes = outside.into_notes();
     print_outcome(page, &outcome);
+    let notes = outside.into_notes();
     print_notes(page, plan.coming.as_slice(), notes.as_slice());
+    drop(notes);
     outcome
 }
 
@@ -272,16 +298,6 @@ where
     serve_all(rt, alloc, shift, passes, &mut wire, outside, outside, turns)
 }
 
-/// Closes a shift, and prints what became of so many datagrams. Its gateway is the open one.
-fn finish(page: &mut Page, shift: Shared, outcome: Outcome, count: usize) -> Option<Gateway> {
-    let mut outcome = outcome;
-    let passes = mem::replace(&mut outcome.passes, Vec::new(page.alloc()));
-    let over = close(shift, passes);
-    print_calls(page, &outcome, over.history.as_slice(), count);
-    print_over(page, &over);
-    Some(over.node)
-}
-
 /// `loopback FIRST SECOND`: serves what comes over a socket in a shift of the open gateway, and
 /// closes that: a datagram, and after its answer another one.
 fn play_loopback<T: Threads + Wait + Sync + Clock + Net>(
@@ -295,26 +311,38 @@ fn play_loopback<T: Threads + Wait + Sync + Clock + Net>(
         second: words.octets(),
     };
     if words.end(page) {
-        let plan = mem::replace(&mut row.plan, Plan::new(page.alloc()));
-        if let Some((shift, passes)) = opened(page, row, &plan) {
-            row.node = ask_over(rt, page, shift, passes, &questions);
-        }
+        play_questions(rt, page, row, &questions);
     }
+    drop(questions);
 }
 
-/// Serves what is asked over a socket, closes the shift, and prints how that went. Its gateway is
-/// the open one.
+/// Asks over a socket in a shift of the open gateway.
+fn play_questions<T: Threads + Wait + Sync + Clock + Net>(
+    rt: &T,
+    page: &mut Page,
+    row: &mut Row,
+    questions: &Questions,
+) {
+    if let Some((shift, passes)) = opened(page, row) {
+        let node = ask_over(rt, page, shift, passes, questions);
+        row.put_node(Some(node));
+    }
+    row.clear_plan(page.alloc());
+}
+
+/// Serves what is asked over a socket, closes the shift, and prints how that went. Gives the
+/// gateway back.
 fn ask_over<T: Threads + Wait + Sync + Clock + Net>(
     rt: &T,
     page: &mut Page,
     shift: Shared,
     passes: Vec<Pass>,
     questions: &Questions,
-) -> Option<Gateway> {
-    let outcome = over_sockets(rt, page, &shift, passes, questions);
+) -> Gateway {
+    let mut outcome = over_sockets(rt, page, &shift, passes, questions);
     print_outcome(page, &outcome);
     print_count(page, &outcome);
-    let over = close(shift, outcome.passes);
-    print_over(page, &over);
-    Some(over.node)
+    let over = close(shift, outcome.take_passes(page.alloc()));
+    drop(outcome);
+    print_over(page, over)
 }

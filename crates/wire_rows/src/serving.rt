@@ -6,12 +6,13 @@ use crate::page::Page;
 use crate::stop::Stop;
 use gw_node::Node;
 use gw_serve::{Cause, Taken, serve};
-use gw_shift::{CloseFault, Entry, Pass, Shift};
+use gw_shift::{CloseFault, Ended, Entry, Pass, Shift};
 use gw_wire::{Gate, Post, Wire};
 use jr_journal::{Disk, MemoryDisk};
 use rep_model::Replica;
 use rep_plain::Plain;
 use std::alloc::Global;
+use std::mem;
 use std::sync::Wait;
 use std::thread::Threads;
 
@@ -33,6 +34,13 @@ pub(crate) struct Outcome {
     pub(crate) cause: Option<Cause>,
 }
 
+impl Outcome {
+    /// Takes the passes.
+    pub(crate) fn take_passes(&mut self, alloc: Global) -> Vec<Pass> {
+        mem::replace(&mut self.passes, Vec::new(alloc))
+    }
+}
+
 /// A shift that is over.
 #[derive(Drop)]
 pub(crate) struct Over {
@@ -49,11 +57,14 @@ pub(crate) fn shift_of(
     workers: u64,
     steps: u64,
 ) -> Option<(Shared, Vec<Pass>)> {
-    let opened = Shift::open(page.alloc(), node, passes_of(workers), steps_of(steps)).ok();
-    if opened.is_none() {
-        page.stop(Stop::Memory);
+    match Shift::open(page.alloc(), node, passes_of(workers), steps_of(steps)) {
+        Ok(opened) => Some(opened),
+        Err(refused) => {
+            drop(refused);
+            page.stop(Stop::Memory);
+            None
+        }
     }
-    opened
 }
 
 /// How many passes a shift has.
@@ -122,10 +133,24 @@ pub(crate) fn close(shift: Shared, passes: Vec<Pass>) -> Over {
             history: closed.history,
             fault: None,
         },
-        Err((ended, _passes, fault)) => Over {
-            node: ended.node,
-            history: ended.history,
-            fault: Some(fault),
-        },
+        Err((ended, passes, fault)) => {
+            drop(passes);
+            not_closed(ended, fault)
+        }
+    }
+}
+
+/// A shift that is over, and is not closed for this reason.
+fn not_closed(ended: Ended<Plain, MemoryDisk>, fault: CloseFault) -> Over {
+    let Ended {
+        node,
+        opening,
+        history,
+    } = ended;
+    drop(opening);
+    Over {
+        node,
+        history,
+        fault: Some(fault),
     }
 }

@@ -6,6 +6,7 @@
 
 use crate::page::Page;
 use crate::stop::Stop;
+use hex::FromHexError;
 use std::alloc::Global;
 
 /// The words of a line that are left, and what was wrong so far.
@@ -79,13 +80,9 @@ impl<'a> Words<'a> {
 
     /// The number of a host.
     pub(crate) fn host(&mut self) -> u32 {
-        match self.word().parse::<u32>() {
-            Ok(number) => number,
-            Err(_) => {
-                self.fail(Stop::Line);
-                0
-            }
-        }
+        let number = self.number();
+        self.require(number < 0x1_0000_0000);
+        (number % 0x1_0000_0000) as u32
     }
 
     /// The octets that hexadecimal digits write, two for each.
@@ -93,14 +90,16 @@ impl<'a> Words<'a> {
         let digits = self.word();
         match hex::decode(self.alloc, digits.as_bytes()) {
             Ok(octets) => octets,
-            Err(hex::FromHexError::OutOfMemory) => self.no_octets(Stop::Memory),
-            Err(_) => self.no_octets(Stop::Line),
+            Err(fault) => self.no_octets(fault),
         }
     }
 
     /// No octets, for this fault.
-    fn no_octets(&mut self, fault: Stop) -> Vec<u8> {
-        self.fail(fault);
+    fn no_octets(&mut self, fault: FromHexError) -> Vec<u8> {
+        match fault {
+            FromHexError::OutOfMemory => self.fail(Stop::Memory),
+            _ => self.fail(Stop::Line),
+        }
         Vec::new(self.alloc)
     }
 }

@@ -1,9 +1,9 @@
 //! Calls of one gateway on a disk in memory, made directly and through a shift, so that the two can
 //! be compared in one run.
 
-use crate::calls::{call_thrice, close_by, open_node, over, told};
+use crate::calls::{self, call_thrice, close_by, open_node, over, told};
 use crate::page::Page;
-use crate::seats::{Seat, call_all, seat_all};
+use crate::seats::{Seat, call_all, line_up, seat_all};
 use crate::shifts;
 use crate::stop::Stop;
 use gw_node::{Answer, Node, NodeFault, Step};
@@ -39,33 +39,39 @@ const SLEEP: [u8; 4] = [4, 0x18, 1, 0x2c];
 /// that they took.
 pub(crate) fn run<T>(rt: &T, page: &mut Page, name: &str, threads: usize, rounds: u16)
 where
-    T: Threads + Wait + Sync + Clock + Eprint + AllocGlobal,
+    T: Threads + Wait + Sync + Clock + Eprint,
 {
     let step = step_of(page, name);
     if let Some(step) = &step {
         let micros = all(rt, page, step, threads, rounds);
         tell(rt, page, name, threads, rounds, micros);
     }
+    drop(step);
 }
 
 /// Prints the calls, and on standard error the microseconds that they took.
-fn tell<T>(rt: &T, page: &mut Page, name: &str, threads: usize, rounds: u16, micros: u64)
-where
-    T: Eprint + AllocGlobal,
-{
+fn tell<T: Eprint>(rt: &T, page: &mut Page, name: &str, threads: usize, rounds: u16, micros: u64) {
     let calls = u64::from(rounds) * 4096;
+    print_work(page, name, threads, rounds);
+    page.number(": ", calls);
+    page.text(" calls\n");
+    let mut times = Page::new(page.alloc());
+    print_work(&mut times, name, threads, rounds);
+    times.number(" ", calls);
+    times.number(" ", micros);
+    tell_times(rt, times.printed());
+    drop(times);
+}
+
+/// Prints a work, the threads and the rounds.
+fn print_work(page: &mut Page, name: &str, threads: usize, rounds: u16) {
     page.text(name);
     page.length(" ", threads);
     page.number(" ", u64::from(rounds));
-    page.number(": ", calls);
-    page.text(" calls\n");
-    let mut times = Page::new(rt.alloc());
-    times.text(name);
-    times.length(" ", threads);
-    times.number(" ", u64::from(rounds));
-    times.number(" ", calls);
-    times.number(" ", micros);
-    let times = times.printed();
+}
+
+/// A line on standard error.
+fn tell_times<T: Eprint>(rt: &T, times: &str) {
     let _ = eprintln!(rt; "{times}");
 }
 
@@ -83,14 +89,23 @@ fn step_of(page: &mut Page, name: &str) -> Option<Arc<Step>> {
 
 /// The call that brings this datagram, to be shared.
 fn shared(page: &mut Page, datagram: &[u8]) -> Option<Arc<Step>> {
-    let bytes = Octets::from_slice(page.alloc(), datagram).ok();
-    page.stop_if_short(bytes.is_none());
+    match Octets::from_slice(page.alloc(), datagram) {
+        Ok(bytes) => shared_frame(page, bytes),
+        Err(_) => {
+            page.stop(Stop::Memory);
+            None
+        }
+    }
+}
+
+/// The call that brings these octets, to be shared.
+fn shared_frame(page: &mut Page, bytes: Octets) -> Option<Arc<Step>> {
     let step = Step::Frame {
         from: CLIENT,
-        bytes: bytes?,
+        bytes,
         now: 0,
     };
-    let shared = Arc::new(page.alloc(), step).ok();
+    let shared = calls::shared(page.alloc(), step);
     page.stop_if_short(shared.is_none());
     shared
 }
@@ -98,7 +113,7 @@ fn shared(page: &mut Page, datagram: &[u8]) -> Option<Arc<Step>> {
 /// The microseconds that all rounds took.
 fn all<T>(rt: &T, page: &mut Page, step: &Arc<Step>, threads: usize, rounds: u16) -> u64
 where
-    T: Threads + Wait + Sync + Clock + AllocGlobal,
+    T: Threads + Wait + Sync + Clock,
 {
     let mut micros = 0_u64;
     for _ in 0..rounds {
@@ -110,20 +125,38 @@ where
 /// The microseconds that a round took.
 fn round<T>(rt: &T, page: &mut Page, step: &Arc<Step>, threads: usize) -> u64
 where
-    T: Threads + Wait + Sync + Clock + AllocGlobal,
+    T: Threads + Wait + Sync + Clock,
 {
     match gateway(page) {
-        Some(node) if threads == 0 => direct(rt, page, node, step),
-        Some(node) => by_threads(rt, page, node, step, threads),
+        Some(node) => round_of(rt, page, node, step, threads),
         None => 0,
+    }
+}
+
+/// The microseconds that a round of this gateway took.
+fn round_of<T: Threads + Wait + Sync + Clock>(
+    rt: &T,
+    page: &mut Page,
+    node: Gateway,
+    step: &Arc<Step>,
+    threads: usize,
+) -> u64 {
+    if threads == 0 {
+        direct(rt, page, node, step)
+    } else {
+        by_threads(rt, page, node, step, threads)
     }
 }
 
 /// Gateway 1 on an empty disk, with a client that has connected.
 fn gateway(page: &mut Page) -> Option<Gateway> {
-    let config = told(page.alloc(), 1, 0, Sequence::empty(page.alloc()));
-    page.stop_if_short(config.is_none());
-    opened(page, config?)
+    match told(page.alloc(), 1, 0, Sequence::empty(page.alloc())) {
+        Some(config) => opened(page, config),
+        None => {
+            page.stop(Stop::Memory);
+            None
+        }
+    }
 }
 
 /// A gateway on an empty disk, with a client that has connected.
@@ -132,6 +165,8 @@ fn opened(page: &mut Page, config: Config) -> Option<Gateway> {
         Ok(node) => Some(greeted(page, node)),
         Err((disk, fault)) => {
             page.stop(stop_of(&fault, disk.starved()));
+            drop(fault);
+            drop(disk);
             None
         }
     }
@@ -179,7 +214,9 @@ fn direct<T: Clock>(rt: &T, page: &mut Page, node: Gateway, step: &Step) -> u64 
     for _ in 0..CALLS {
         call(page, &mut node, step);
     }
-    since(rt, page, &start)
+    let micros = since(rt, page, &start);
+    drop(node);
+    micros
 }
 
 /// A call, which is not refused.
@@ -229,20 +266,20 @@ fn at_once<T: Threads + Wait + Sync + Clock>(
 fn close(page: &mut Page, shift: Shift<Plain, MemoryDisk>, seats: Vec<Seat>, each: usize) {
     let calls = each.saturating_mul(seats.len());
     let passes = risen(page, seats);
-    match &close_by(over(shift), passes) {
+    let closed = close_by(over(shift), passes);
+    match &closed {
         Ok(closed) => check_closed(page, closed, calls),
         Err(_) => page.stop(Stop::Work),
     }
+    drop(closed);
 }
 
 /// The passes of all seats.
 fn risen(page: &mut Page, seats: Vec<Seat>) -> Vec<Pass> {
+    let mut seats = seats;
     let mut passes = Vec::new(page.alloc());
-    for seat in seats {
-        if let Some(pass) = seat {
-            let is_short = passes.push(pass).is_err();
-            page.stop_if_short(is_short);
-        }
+    for place in 0..seats.len() {
+        line_up(page, &mut passes, seats.as_mut_slice(), place);
     }
     passes
 }
