@@ -44,6 +44,19 @@ pub struct LinkNumbers {
     pub counts: LinkCounts,
 }
 
+impl LinkNumbers {
+    /// A link of which nothing was counted.
+    pub fn new(place: u64, origin: Origin, other: u8) -> LinkNumbers {
+        LinkNumbers {
+            place,
+            origin,
+            other,
+            heard: 0,
+            counts: no_counts(),
+        }
+    }
+}
+
 /// Nothing was counted.
 pub(crate) fn no_counts() -> LinkCounts {
     LinkCounts {
@@ -59,20 +72,15 @@ pub(crate) fn no_counts() -> LinkCounts {
     }
 }
 
-/// A link of which nothing was counted.
-pub(crate) fn begun(place: u64, origin: Origin, other: u8) -> LinkNumbers {
-    LinkNumbers {
-        place,
-        origin,
-        other,
-        heard: 0,
-        counts: no_counts(),
-    }
-}
-
 /// So many more.
 pub(crate) fn add(count: &mut u64, more: usize) {
     *count = count.saturating_add(more as u64);
+}
+
+/// So many octets came, in this second.
+pub(crate) fn note_read<S: Drop>(link: &mut Link<S>, size: usize, second: u64) {
+    link.heard = Some(second);
+    add(&mut link.counts.received, size);
 }
 
 /// What was counted, with what waits now.

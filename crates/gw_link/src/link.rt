@@ -89,6 +89,7 @@ impl<S: Drop> Link<S> {
         Link {
             stream,
             origin,
+            counts: no_counts(),
             incoming: LinkIn::new(),
             waiting: VecDeque::new(alloc),
             asked: None,
@@ -112,7 +113,6 @@ impl<S: Drop> Link<S> {
             mute: false,
             greeted: false,
             told: 0,
-            counts: no_counts(),
         }
     }
 

@@ -4,7 +4,7 @@ ghost use Rattle.std.specs.Prelude.{◌≡◌, ◌≤◌, IfOk, length};
 ghost use Rattle.gw_link.specs.inner.Weights as spec;
 
 use crate::calling::End;
-use crate::counts::{LinkCounts, LinkNumbers, begun};
+use crate::counts::{LinkCounts, LinkNumbers};
 use crate::link::Origin;
 use crate::trouble::{Report, Tally, Trouble, count_one, report_of};
 use gw_relay::{
@@ -164,7 +164,7 @@ impl Relay {
             id,
             other,
             is_accepted,
-            numbers: begun(id, origin, other),
+            numbers: LinkNumbers::new(id, origin, other),
             is_over: false,
             has_asked: false,
             at,

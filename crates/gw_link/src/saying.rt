@@ -86,6 +86,7 @@ pub(crate) fn say_answer<S: Drop>(
     }
     link.answering = pieces;
     link.behind = 0;
+    add(&mut link.counts.told, pieces);
     Ok(())
 }
 
@@ -126,7 +127,6 @@ fn say_piece<S: Drop>(
         let octets = spelled(alloc, LinkMessage::Delta(piece))?;
         if fits(octets.len(), count) {
             say_spelled(link, octets)?;
-            add(&mut link.counts.told, 1);
             return Ok(count);
         }
         drop(octets);
@@ -420,11 +420,16 @@ fn tell_some<T: Wait, S: Drop>(
             return Err(End::Lost);
         }
         relay.note_made(rt, alloc, number, &delta);
-        say(alloc, link, LinkMessage::Delta(delta))?;
-        add(&mut link.counts.told, 1);
+        say_delta(alloc, link, delta)?;
         link.told = number;
     }
     Ok(())
+}
+
+/// Says a delta, and counts it.
+fn say_delta<S: Drop>(alloc: Global, link: &mut Link<S>, delta: Delta) -> Result<(), End> {
+    add(&mut link.counts.told, 1);
+    say(alloc, link, LinkMessage::Delta(delta))
 }
 
 /// Hands on what other gateways told and what was new here, where it goes on to the other end.
@@ -446,7 +451,6 @@ pub(crate) fn hand_all<T: Wait, S: Drop>(
         };
         if goes_on(giver, other, link.linked.as_slice()) {
             hand(alloc, link, &step)?;
-            add(&mut link.counts.told, 1);
         }
     }
     unreachable!()
@@ -458,7 +462,7 @@ fn hand<S: Drop>(alloc: Global, link: &mut Link<S>, step: &Step) -> Result<(), E
         return Err(End::Lost);
     }
     match step {
-        Step::Take { delta } => say(alloc, link, LinkMessage::Delta(delta.copied(alloc)?)),
+        Step::Take { delta } => say_delta(alloc, link, delta.copied(alloc)?),
         _ => Ok(()),
     }
 }

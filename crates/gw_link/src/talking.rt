@@ -43,19 +43,11 @@ pub fn talk<T: Wait + Clock, R: Replica, D: Disk + Drop, S: Read + Write + Drop>
         let phase = stage.phase(rt);
         let (after, turned) = take_turn(rt, alloc, shift, pass, link, gateway, stage, phase, relay);
         pass = after;
-        show(rt, link, relay);
         if let Err(end) = wait_or_listen(rt, alloc, link, piece, stage, phase, turned) {
             return (pass, end);
         }
     }
     unreachable!()
-}
-
-/// Lets whoever watches the gateway see what was counted of a link.
-fn show<T: Wait, S: Drop>(rt: &T, link: &Link<S>, relay: &Relay) {
-    if let Some(place) = link.place {
-        relay.note_counts(rt, place, link.heard.unwrap_or(0), counts_of(link));
-    }
 }
 
 /// Hears what has come, and tells what is new: once what was said before went out, or at the
@@ -118,6 +110,13 @@ fn hear_in_turn<T: Wait + Clock, R: Replica, D: Disk + Drop, S: Drop>(
     answer(rt, alloc, shift, pass, link, stage, relay)
 }
 
+/// Lets whoever watches the gateway see what was counted of a link.
+fn show<T: Wait, S: Drop>(rt: &T, link: &Link<S>, relay: &Relay) {
+    if let Some(place) = link.place {
+        relay.note_counts(rt, place, link.heard.unwrap_or(0), counts_of(link));
+    }
+}
+
 /// Tells what is new, where that is due, and lets go out what the stream takes. A stream that took
 /// nothing lately is not waited for at the shift's end.
 fn tell<T: Wait, R: Replica, D: Disk + Drop, S: Write + Drop>(
@@ -130,6 +129,7 @@ fn tell<T: Wait, R: Replica, D: Disk + Drop, S: Write + Drop>(
     phase: Phase,
     relay: &Relay,
 ) -> Result<(), End> {
+    show(rt, link, relay);
     if link.mute {
         return Ok(());
     }

@@ -14,11 +14,24 @@ pub(crate) fn glance<R: Replica>(page: &mut Page, node: &Node<R, MemoryDisk>, wo
     let most = words.count();
     let above = words.octets();
     if words.end(page) {
-        match &glimpses(page.alloc(), node, &above, most) {
-            Ok(found) => print_glimpses(page, found.as_slice()),
-            Err(_) => page.stop(Stop::Memory),
-        }
+        show_glimpses(page, node, above.as_slice(), most);
     }
+    drop(above);
+}
+
+/// The clients above these octets, at most so many.
+fn show_glimpses<R: Replica>(
+    page: &mut Page,
+    node: &Node<R, MemoryDisk>,
+    above: &[u8],
+    most: usize,
+) {
+    let found = glimpses(page.alloc(), node, above, most);
+    match &found {
+        Ok(found) => print_glimpses(page, found.as_slice()),
+        Err(_) => page.stop(Stop::Memory),
+    }
+    drop(found);
 }
 
 /// `known CLIENT GATEWAY`: how many messages of a gateway are known for a client.
@@ -31,6 +44,7 @@ pub(crate) fn known<R: Replica>(page: &mut Page, node: &Node<R, MemoryDisk>, wor
             page.end();
         }
     }
+    drop(client);
 }
 
 /// Clients at a glance.

@@ -50,13 +50,18 @@ fn request(is_second: bool) -> &'static [u8] {
 
 /// Asks for a page, and prints how many octets the answer has.
 fn ask(said: &mut Said, request: &[u8], report: &Report) {
-    match &page(said.alloc, request, report) {
-        Ok(answer) => {
-            said.number("octets", answer.len());
-            said.answer();
-        }
+    let answered = page(said.alloc, request, report);
+    match &answered {
+        Ok(answer) => answer_with(said, "octets", answer.len()),
         Err(_) => said.refuse(true),
     }
+    drop(answered);
+}
+
+/// The call has answered with so many.
+fn answer_with(said: &mut Said, word: &str, many: usize) {
+    said.number(word, many);
+    said.answer();
 }
 
 /// Prints the line of each event.
@@ -68,7 +73,8 @@ fn write_all(said: &mut Said, events: &[Event]) {
 
 /// Prints the line of an event.
 fn write(said: &mut Said, event: &Event) {
-    match &entry(said.alloc, event) {
+    let written = entry(said.alloc, event);
+    match &written {
         Ok(line) => {
             said.page.append(line.as_bytes());
             said.page.push(b'\n');
@@ -76,17 +82,17 @@ fn write(said: &mut Said, event: &Event) {
         }
         Err(_) => said.refuse(true),
     }
+    drop(written);
 }
 
 /// Counts the calls of a history without any, and prints how many samples that gives.
 fn count(said: &mut Said) {
-    match &tally(said.alloc, &[]) {
-        Ok(samples) => {
-            said.number("samples", samples.len());
-            said.answer();
-        }
+    let counted = tally(said.alloc, &[]);
+    match &counted {
+        Ok(samples) => answer_with(said, "samples", samples.len()),
         Err(_) => said.refuse(true),
     }
+    drop(counted);
 }
 
 /// A report without a client and without an event.
@@ -122,9 +128,12 @@ fn numbers(alloc: Global) -> Numbers {
 
 /// The client is in a report, and nothing is known of it but its id.
 fn add_client(said: &mut Said, report: &mut Report) {
-    if let Some(client) = client(said) {
-        let is_short = report.clients.push(seen(client)).is_err();
-        said.stop_if_short(is_short);
+    match client(said) {
+        Some(client) => {
+            let is_short = report.clients.push(seen(client)).is_err();
+            said.stop_if_short(is_short);
+        }
+        None => {}
     }
 }
 
@@ -147,9 +156,12 @@ fn seen(client: ClientId) -> Seen {
 
 /// An event is in a report, which names the client.
 fn add_event(said: &mut Said, report: &mut Report) {
-    if let Some(client) = client(said) {
-        let what = What::Detail(Detail::TakenOver { client, number: 3 });
-        let is_short = report.events.push(Event { moment: 5, what }).is_err();
-        said.stop_if_short(is_short);
+    match client(said) {
+        Some(client) => {
+            let what = What::Detail(Detail::TakenOver { client, number: 3 });
+            let is_short = report.events.push(Event { moment: 5, what }).is_err();
+            said.stop_if_short(is_short);
+        }
+        None => {}
     }
 }

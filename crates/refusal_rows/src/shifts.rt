@@ -4,6 +4,7 @@ use crate::calls::{Calls, beside, play_call};
 use crate::gateways::{Gateway, NOT_SUBSCRIBED, SUBSCRIBE, frame, gateway, is_excuse, show_out};
 use crate::said::{Said, Stop};
 use gw_node::{NodeFault, Step};
+use gw_report::Glimpse;
 use gw_shift::{CallFault, Pass, Shift, ShiftFault};
 use jr_journal::MemoryDisk;
 use rep_state::Folded;
@@ -196,27 +197,40 @@ fn look_at<W: Wait>(rt: &W, said: &mut Said, shift: &Shared, call: &str) {
 
 /// Asks for the clients at a glance, and prints how many there are.
 fn show_glimpses<W: Wait>(rt: &W, said: &mut Said, shift: &Shared) {
-    match &shift.glance(rt, said.alloc, b"", 9) {
+    let glimpses = shift.glance(rt, said.alloc, b"", 9);
+    match &glimpses {
         Ok(found) => {
             said.number("clients", found.len());
             said.answer();
         }
         Err(_) => said.refuse(true),
     }
+    drop(glimpses);
 }
 
 /// Asks how many messages are known for each client, and prints for how many clients that is.
 fn show_known<W: Wait>(rt: &W, said: &mut Said, shift: &Shared) {
     let glimpses = shift.glance(rt, said.alloc, b"", 9);
-    if let Some(clients) = beside(said, glimpses) {
-        match &shift.messages_known(rt, said.alloc, clients.as_slice(), 1) {
-            Ok(counts) => {
-                said.number("counts", counts.len());
-                said.answer();
-            }
-            Err(_) => said.refuse(true),
+    match beside(said, glimpses) {
+        Some(clients) => {
+            show_known_of(rt, said, shift, clients.as_slice());
+            drop(clients);
         }
+        None => {}
     }
+}
+
+/// The same for these clients.
+fn show_known_of<W: Wait>(rt: &W, said: &mut Said, shift: &Shared, clients: &[Glimpse]) {
+    let known = shift.messages_known(rt, said.alloc, clients, 1);
+    match &known {
+        Ok(counts) => {
+            said.number("counts", counts.len());
+            said.answer();
+        }
+        Err(_) => said.refuse(true),
+    }
+    drop(known);
 }
 
 /// Ends a shift: its pass has all calls.

@@ -115,25 +115,35 @@ pub struct Board {
     calls: Mutex<Vec<Sequence<Sample>>>,
 }
 
-/// So many numbers, each 0. `None` if memory ran out.
-fn zeros(alloc: Global, many: usize) -> Option<Vec<AtomicU64>> {
-    let mut all = Vec::new(alloc);
+/// Puts so many numbers, each 0. Whether there was memory for them.
+fn add_zeros(all: &mut Vec<AtomicU64>, many: usize) -> bool {
     for _ in 0..many {
-        all.push(AtomicU64::new(0)).ok()?;
+        if all.push(AtomicU64::new(0)).is_err() {
+            return false;
+        }
     }
-    Some(all)
+    true
+}
+
+/// Whether anybody is to watch.
+fn is_watched(settings: &Settings) -> bool {
+    settings.status.is_some() || settings.log > 0
 }
 
 impl Board {
     /// Nothing was counted. `None` if memory ran out.
     pub(crate) fn of(alloc: Global, settings: &Settings) -> Option<Board> {
-        let counts = zeros(alloc, DIALS.saturating_add(settings.peers.len()))?;
-        Some(Board {
-            is_watched: settings.status.is_some() || settings.log > 0,
-            counts,
-            field: Mutex::new(None),
-            calls: Mutex::new(Vec::new(alloc)),
-        })
+        let mut counts = Vec::new(alloc);
+        if add_zeros(&mut counts, DIALS.saturating_add(settings.peers.len())) {
+            return Some(Board {
+                is_watched: is_watched(settings),
+                counts,
+                field: Mutex::new(None),
+                calls: Mutex::new(Vec::new(alloc)),
+            });
+        }
+        drop(counts);
+        None
     }
 
     /// One more.
@@ -252,6 +262,8 @@ impl Board {
         let mut all = self.calls.lock(rt);
         if all.len() < MOST_SHIFTS {
             let _ = all.push(calls);
+        } else {
+            drop(calls);
         }
     }
 

@@ -8,6 +8,7 @@ use gw_report::Report;
 use gw_wire::millisecond;
 use std::alloc::Global;
 use std::io::{Error, ErrorKind, Read, Write};
+use std::mem;
 use std::net::{Shutdown, TcpListener, TcpStream};
 use std::time::Clock;
 
@@ -56,30 +57,29 @@ pub(crate) fn take_calls<T: Clock>(
     listener: &TcpListener,
     callers: &mut Vec<Caller>,
 ) {
-    for _ in 0..MOST_CALLERS {
-        if callers.len() >= MOST_CALLERS {
-            return;
-        }
-        let Ok((stream, _)) = listener.accept() else {
-            return;
-        };
-        if stream.set_nonblocking(true).is_ok() {
-            let _ = callers.push(new_caller(alloc, stream, millisecond(rt)));
+    for _ in callers.len()..MOST_CALLERS {
+        match listener.accept() {
+            Ok((stream, _)) => take_call(alloc, callers, stream, millisecond(rt)),
+            Err(_) => return,
         }
     }
 }
 
-/// Somebody who has not asked yet.
-fn new_caller(alloc: Global, stream: TcpStream, began: u64) -> Caller {
-    Caller {
-        stream,
-        began,
-        request: Vec::new(alloc),
-        has_ended: false,
-        answer: None,
-        written: 0,
-        told: None,
-        is_done: false,
+/// Takes a call, if it can be served beside others.
+fn take_call(alloc: Global, callers: &mut Vec<Caller>, stream: TcpStream, began: u64) {
+    if stream.set_nonblocking(true).is_ok() {
+        let _ = callers.push(Caller {
+            stream,
+            began,
+            request: Vec::new(alloc),
+            has_ended: false,
+            answer: None,
+            written: 0,
+            told: None,
+            is_done: false,
+        });
+    } else {
+        drop(stream);
     }
 }
 
@@ -95,8 +95,19 @@ pub(crate) fn serve_calls<T: Clock>(
     for caller in callers.as_mut_slice() {
         serve(alloc, caller, piece, report, now);
     }
-    callers.retain(|caller| !caller.is_done);
+    close_done(callers);
     !callers.is_empty()
+}
+
+/// Closes the connections that are to be closed.
+fn close_done(callers: &mut Vec<Caller>) {
+    let mut place = callers.len();
+    for _ in 0..MOST_CALLERS {
+        place = place.saturating_sub(1);
+        if place < callers.len() && callers[place].is_done {
+            drop(callers.swap_remove(place));
+        }
+    }
 }
 
 /// Goes on with a caller: what came is read, and what can go out is written.
@@ -114,34 +125,40 @@ fn serve(alloc: Global, caller: &mut Caller, piece: &mut [u8], report: &Report, 
     }
     match caller.told {
         None => tell(caller, now),
-        Some(told) => {
-            if now.saturating_sub(told) > TIME_TO_CLOSE {
-                caller.is_done = true;
-            }
-            wait_for_end(caller, piece);
-        }
+        Some(told) => wait_for_end(caller, piece, now.saturating_sub(told)),
     }
 }
 
 /// Answers what came. If memory runs out, the connection is closed.
 fn answer(alloc: Global, caller: &mut Caller, report: &Report) {
     match page(alloc, caller.request.as_slice(), report) {
-        Ok(octets) => caller.answer = Some(octets),
+        Ok(octets) => drop(mem::replace(&mut caller.answer, Some(octets))),
         Err(_) => caller.is_done = true,
     }
 }
 
+/// How many octets a read or a write moved. `None` if the connection moves no more.
+fn moved(done: Result<usize, Error>) -> Option<usize> {
+    match done {
+        Ok(0) => None,
+        Ok(size) => Some(size),
+        Err(error) => { if is_nothing(&error) { Some(0) } else { None } }
+    }
+}
+
+/// Whether a read or a write found nothing to do.
+fn is_nothing(error: &Error) -> bool {
+    let kind = error.kind();
+    kind == ErrorKind::WouldBlock || kind == ErrorKind::TimedOut || kind == ErrorKind::Interrupted
+}
+
 /// Reads what came, no more than a request may have.
 fn listen(caller: &mut Caller, piece: &mut [u8]) {
-    match caller.stream.read(piece) {
-        Ok(0) => caller.has_ended = true,
-        Ok(size) => {
+    match moved(caller.stream.read(piece)) {
+        None => caller.has_ended = true,
+        Some(size) => {
+            let size = size.min(piece.len());
             if caller.request.extend_from_slice(&piece[..size]).is_err() {
-                caller.is_done = true;
-            }
-        }
-        Err(error) => {
-            if !is_nothing(&error) {
                 caller.is_done = true;
             }
         }
@@ -151,35 +168,34 @@ fn listen(caller: &mut Caller, piece: &mut [u8]) {
 /// Writes what the other end takes of the answer, and then says that this is all.
 fn tell(caller: &mut Caller, now: u64) {
     match tell_some(caller) {
-        Ok(false) => {}
-        Ok(true) => {
+        None => caller.is_done = true,
+        Some(false) => {}
+        Some(true) => {
             caller.told = Some(now);
             if caller.stream.shutdown(Shutdown::Write).is_err() {
-                caller.is_done = true;
-            }
-        }
-        Err(error) => {
-            if !is_nothing(&error) {
                 caller.is_done = true;
             }
         }
     }
 }
 
-/// Writes once what is left of the answer, if there is one. Whether all of it went out.
-fn tell_some(caller: &mut Caller) -> Result<bool, Error> {
+/// Writes once what is left of the answer, if there is one. Whether all of it went out; `None` if
+/// nothing more can.
+fn tell_some(caller: &mut Caller) -> Option<bool> {
     let Caller {
         stream,
         answer,
         written,
         ..
     } = caller;
-    let Some(answer) = answer.as_ref() else {
-        return Ok(false);
-    };
-    let size = write_from(stream, answer.as_slice(), *written)?;
-    *written = written.saturating_add(size);
-    Ok(*written >= answer.len())
+    match answer.as_ref() {
+        None => Some(false),
+        Some(answer) => {
+            let size = moved(write_from(stream, answer.as_slice(), *written))?;
+            *written = written.saturating_add(size);
+            Some(*written >= answer.len())
+        }
+    }
 }
 
 /// Writes once, after so many octets that went out.
@@ -191,23 +207,12 @@ fn write_from(stream: &mut TcpStream, octets: &[u8], written: usize) -> Result<u
     stream.write(&octets[written..end])
 }
 
-/// Drops what still comes, until the other end closes: closed before, the answer might be lost.
-fn wait_for_end(caller: &mut Caller, piece: &mut [u8]) {
-    match caller.stream.read(piece) {
-        Ok(0) => caller.is_done = true,
-        Ok(_) => {}
-        Err(error) => {
-            if !is_nothing(&error) {
-                caller.is_done = true;
-            }
-        }
+/// Drops what still comes, until the other end closes or had its time: closed before, the answer
+/// might be lost.
+fn wait_for_end(caller: &mut Caller, piece: &mut [u8], waited: u64) {
+    if moved(caller.stream.read(piece)).is_none() || waited > TIME_TO_CLOSE {
+        caller.is_done = true;
     }
-}
-
-/// Whether a read or a write found nothing to do.
-fn is_nothing(error: &Error) -> bool {
-    let kind = error.kind();
-    kind == ErrorKind::WouldBlock || kind == ErrorKind::TimedOut || kind == ErrorKind::Interrupted
 }
 
 /// Room for what is read at once. `None` if memory ran out.

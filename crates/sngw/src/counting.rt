@@ -1,14 +1,13 @@
 //! The numbers of a report, from what is counted and gathered.
 //!
-//! No function hands on that memory ran out. The tray keeps it, and whoever asked for the numbers
-//! looks at it once.
+//! They are counted apart: if memory runs out, the report keeps those of the last time.
 
 use crate::board::{Board, Number, Shared};
-use crate::gathering::{Gathered, KnownLink, is_at};
+use crate::gathering::{Gathered, KnownLink, is_at, no_link};
 use crate::keeping::length_of;
-use gw_link::Origin;
+use gw_link::{LinkCounts, Origin};
 use gw_main::options::Settings;
-use gw_report::{DeltaFault, Glimpse, Label, Link, Numbers, Place, Sample, Seen, Singles};
+use gw_report::{DeltaFault, Glimpse, Label, Link, Numbers, Place, Report, Sample, Seen, Singles};
 use gw_run::MOST_ACCEPTED;
 use octets::Sequence;
 use sn_frame::MsgType;
@@ -17,6 +16,7 @@ use sn_session::Presence;
 use std::alloc::Global;
 use std::fs::{File, Files};
 use std::io::Read;
+use std::mem;
 
 /// How many messages wait for a client that soon gets no others.
 const NEAR_FULL: usize = MAX_PENDING / 4 * 3;
@@ -42,29 +42,6 @@ const PRESENCES: [Presence; 5] = [
     Presence::Lost,
 ];
 
-/// Where lists have their memory from, and whether it ran out for one of them.
-#[derive(Drop)]
-struct Tray {
-    alloc: Global,
-    is_short: bool,
-}
-
-impl Tray {
-    /// One number more.
-    fn add(&mut self, all: &mut Vec<Sample>, label: Label, value: u64) {
-        if all.push(Sample { label, value }).is_err() {
-            self.is_short = true;
-        }
-    }
-
-    /// One place of a link more.
-    fn add_link(&mut self, all: &mut Vec<Link>, link: Link) {
-        if all.push(link).is_err() {
-            self.is_short = true;
-        }
-    }
-}
-
 /// No number.
 pub(crate) fn no_numbers(alloc: Global) -> Numbers {
     Numbers {
@@ -82,55 +59,68 @@ pub(crate) fn no_numbers(alloc: Global) -> Numbers {
     }
 }
 
-/// The numbers of now. `None` if memory runs out.
-pub(crate) fn numbers_of<T: Files<File = File>>(
+/// The numbers of now are in the report. If memory runs out, they are those of the last time.
+pub(crate) fn renew_numbers<T: Files<File = File>>(
     rt: &T,
     alloc: Global,
     settings: &Settings,
     shared: &Shared,
     gathered: &Gathered,
-    seen: &[Seen],
+    report: &mut Report,
     now: u64,
-) -> Option<Numbers> {
-    let board = &shared.board;
-    let mut tray = Tray {
-        alloc,
-        is_short: false,
-    };
-    let places = places_of(&mut tray, settings.peers.len());
-    let numbers = Numbers {
-        singles: singles_of(rt, settings.gateway, board, gathered, seen, now),
-        frames_received: frames(&mut tray, board, true),
-        datagrams_sent: frames(&mut tray, board, false),
-        calls: copied(&mut tray, gathered.calls.as_slice()),
-        compactions: compactions(&mut tray, board),
-        reopenings: reopenings(&mut tray, board),
-        clients: presences(&mut tray, seen),
-        journal_octets: journal_octets(rt, &mut tray, settings.journal.as_str()),
-        links: links_of(&mut tray, places.as_slice(), board, gathered, now),
-        link_refused: refusals(&mut tray, places.as_slice(), gathered),
-        messages_known: origins(&mut tray, gathered.known.as_slice()),
-    };
-    drop(places);
-    if tray.is_short {
+) {
+    let mut numbers = no_numbers(alloc);
+    count_singles(rt, &mut numbers.singles, &shared.board, gathered, now);
+    count_clients(
+        &mut numbers.singles,
+        settings.gateway,
+        report.clients.as_slice(),
+    );
+    let is_whole = count_parts(rt, alloc, settings, shared, gathered, report, &mut numbers)
+        && count_links(settings, &shared.board, gathered, &mut numbers, now);
+    if is_whole {
+        drop(mem::replace(&mut report.numbers, numbers));
+    } else {
         drop(numbers);
-        return None;
     }
-    Some(numbers)
 }
 
-/// The numbers without a label.
-fn singles_of<T: Files<File = File>>(
+/// The numbers with a label, without those of links. Whether there was memory for them.
+fn count_parts<T: Files<File = File>>(
     rt: &T,
-    gateway: u8,
+    alloc: Global,
+    settings: &Settings,
+    shared: &Shared,
+    gathered: &Gathered,
+    report: &Report,
+    numbers: &mut Numbers,
+) -> bool {
+    let board = &shared.board;
+    add_frames(&mut numbers.frames_received, board, true)
+        && add_frames(&mut numbers.datagrams_sent, board, false)
+        && add_all(&mut numbers.calls, gathered.calls.as_slice())
+        && add_compactions(&mut numbers.compactions, board)
+        && add_reopenings(&mut numbers.reopenings, board)
+        && add_presences(&mut numbers.clients, report.clients.as_slice())
+        && add_lengths(rt, alloc, &mut numbers.journal_octets, settings)
+        && add_origins(&mut numbers.messages_known, gathered.known.as_slice())
+}
+
+/// One number more. Whether there was memory for it.
+fn add(all: &mut Sequence<Sample>, label: Label, value: u64) -> bool {
+    all.push(Sample { label, value }).is_ok()
+}
+
+/// The numbers without a label, but for those of clients.
+fn count_singles<T: Files<File = File>>(
+    rt: &T,
+    singles: &mut Singles,
     board: &Board,
     gathered: &Gathered,
-    seen: &[Seen],
     now: u64,
-) -> Singles {
-    let mut singles = Singles::default();
-    count_served(&mut singles, board);
-    count_tended(&mut singles, board);
+) {
+    count_served(singles, board);
+    count_tended(singles, board);
     singles.up_seconds = now.saturating_sub(gathered.began) / 1_000;
     singles.tick_age_seconds = now.saturating_sub(gathered.changed);
     singles.tick_seconds_max = gathered.longest;
@@ -138,8 +128,6 @@ fn singles_of<T: Files<File = File>>(
     singles.events_lost = gathered.lost;
     singles.start_time = gathered.start;
     singles.resident_memory = resident(rt);
-    count_clients(&mut singles, gateway, seen);
-    singles
 }
 
 /// The numbers of datagrams, of shifts and of links.
@@ -230,61 +218,59 @@ fn mixed(mark: u64, number: u64) -> u64 {
     (mark ^ number).wrapping_mul(0x0100_0000_01b3)
 }
 
-/// How many datagrams came by type, or went out.
-fn frames(tray: &mut Tray, board: &Board, is_coming: bool) -> Sequence<Sample> {
-    let mut all = Vec::new(tray.alloc);
+/// How many datagrams came by type, or went out. Whether there was memory for them.
+fn add_frames(all: &mut Sequence<Sample>, board: &Board, is_coming: bool) -> bool {
     for octet in 0..TYPES {
         if let Some(frame) = MsgType::from_octet(octet) {
             let count = board.frames(is_coming, Some(frame));
-            tray.add(&mut all, Label::Frame(frame), count);
+            if !add(all, Label::Frame(frame), count) {
+                return false;
+            }
         }
     }
-    tray.add(&mut all, Label::OtherFrame, board.frames(is_coming, None));
-    Sequence::new(all)
+    add(all, Label::OtherFrame, board.frames(is_coming, None))
 }
 
-/// The same samples.
-fn copied(tray: &mut Tray, samples: &[Sample]) -> Sequence<Sample> {
-    let mut all = Vec::new(tray.alloc);
+/// The same numbers. Whether there was memory for them.
+fn add_all(all: &mut Sequence<Sample>, samples: &[Sample]) -> bool {
     for sample in samples {
-        tray.add(&mut all, sample.label, sample.value);
+        if !add(all, sample.label, sample.value) {
+            return false;
+        }
     }
-    Sequence::new(all)
+    true
 }
 
-/// How often the journal was written anew, and how often it could not be.
-fn compactions(tray: &mut Tray, board: &Board) -> Sequence<Sample> {
-    let mut all = Vec::new(tray.alloc);
-    tray.add(&mut all, Label::Done, board.get(Number::Compacted));
-    tray.add(&mut all, Label::Failed, board.get(Number::NotCompacted));
-    Sequence::new(all)
+/// How often the journal was written anew, and how often it could not be. Whether there was memory
+/// for that.
+fn add_compactions(all: &mut Sequence<Sample>, board: &Board) -> bool {
+    add(all, Label::Done, board.get(Number::Compacted))
+        && add(all, Label::Failed, board.get(Number::NotCompacted))
 }
 
-/// How often the gateway was opened again in a shift, and between two.
-fn reopenings(tray: &mut Tray, board: &Board) -> Sequence<Sample> {
-    let mut all = Vec::new(tray.alloc);
+/// How often the gateway was opened again in a shift, and between two. Whether there was memory for
+/// that.
+fn add_reopenings(all: &mut Sequence<Sample>, board: &Board) -> bool {
     let between = board.get(Number::ReopenedBetween);
-    tray.add(&mut all, Label::InPlace, board.get(Number::Reopened));
-    tray.add(&mut all, Label::BetweenShifts, between);
-    Sequence::new(all)
+    add(all, Label::InPlace, board.get(Number::Reopened)) && add(all, Label::BetweenShifts, between)
 }
 
-/// How many clients there are by presence.
-fn presences(tray: &mut Tray, seen: &[Seen]) -> Sequence<Sample> {
-    let mut all = Vec::new(tray.alloc);
+/// How many clients there are by presence. Whether there was memory for them.
+fn add_presences(all: &mut Sequence<Sample>, seen: &[Seen]) -> bool {
     for presence in PRESENCES.iter() {
         let count = count_present(seen, Some(*presence));
-        tray.add(&mut all, Label::Presence(*presence), count);
+        if !add(all, Label::Presence(*presence), count) {
+            return false;
+        }
     }
-    tray.add(&mut all, Label::NoSession, count_present(seen, None));
-    Sequence::new(all)
+    add(all, Label::NoSession, count_present(seen, None))
 }
 
 /// How many clients have this presence, or no session.
 fn count_present(seen: &[Seen], presence: Option<Presence>) -> u64 {
     let mut count = 0u64;
     for one in seen {
-        count_if(&mut count, presence_of(one) == presence);
+        count_if(&mut count, is_same(presence_of(one), presence));
     }
     count
 }
@@ -297,29 +283,58 @@ pub(crate) fn presence_of(seen: &Seen) -> Option<Presence> {
     }
 }
 
-/// How many messages of each gateway are known.
-fn origins(tray: &mut Tray, known: &[(u8, u64)]) -> Sequence<Sample> {
-    let mut all = Vec::new(tray.alloc);
-    for entry in known {
-        tray.add(&mut all, Label::Origin(entry.0), entry.1);
-    }
-    Sequence::new(all)
+/// Whether two clients are where the other is.
+pub(crate) fn is_same(presence: Option<Presence>, other: Option<Presence>) -> bool {
+    presence == other
 }
 
-/// The places of links: one for each peer, and those for whoever dials.
-fn places_of(tray: &mut Tray, peers: usize) -> Vec<Place> {
-    let mut all = Vec::new(tray.alloc);
-    for peer in 0..peers {
-        if all.push(Place::Dialled(small(peer))).is_err() {
-            tray.is_short = true;
+/// How many messages of each gateway are known. Whether there was memory for them.
+fn add_origins(all: &mut Sequence<Sample>, known: &[(u8, u64)]) -> bool {
+    for entry in known {
+        if !add(all, Label::Origin(entry.0), entry.1) {
+            return false;
+        }
+    }
+    true
+}
+
+/// The lengths of both files of the journal; 0 for one of which the system does not tell. Whether
+/// there was memory for them.
+fn add_lengths<T: Files<File = File>>(
+    rt: &T,
+    alloc: Global,
+    all: &mut Sequence<Sample>,
+    settings: &Settings,
+) -> bool {
+    let path = settings.journal.as_str();
+    let first = length_of(rt, alloc, path, 0).unwrap_or(0);
+    let second = length_of(rt, alloc, path, 1).unwrap_or(0);
+    add(all, Label::FirstSlot, first) && add(all, Label::SecondSlot, second)
+}
+
+/// The places of links: one for each peer, and those for whoever dials. Whether there was memory
+/// for them.
+fn count_links(
+    settings: &Settings,
+    board: &Board,
+    gathered: &Gathered,
+    numbers: &mut Numbers,
+    now: u64,
+) -> bool {
+    for peer in 0..settings.peers.len() {
+        let known = last_dialled(gathered, peer, now);
+        let failed = board.dials_failed(peer);
+        if !add_place(numbers, Place::Dialled(small(peer)), known, failed, now) {
+            return false;
         }
     }
     for slot in 0..MOST_ACCEPTED {
-        if all.push(Place::Accepted(small(slot))).is_err() {
-            tray.is_short = true;
+        let known = last_accepted(gathered, slot, now);
+        if !add_place(numbers, Place::Accepted(small(slot)), known, 0, now) {
+            return false;
         }
     }
-    all
+    true
 }
 
 /// The number of a place: there are few.
@@ -327,78 +342,46 @@ fn small(place: usize) -> u16 {
     (place % 65_536) as u16
 }
 
-/// The last link at a place.
-fn last_at(gathered: &Gathered, place: Place) -> Option<KnownLink> {
-    let mut last = None;
+/// The last link that was dialled to a peer.
+fn last_dialled(gathered: &Gathered, peer: usize, now: u64) -> KnownLink {
+    let mut last = no_link(now);
     for known in gathered.links.as_slice() {
-        if stands_at(known, place) {
-            last = Some(*known);
+        if known.numbers.origin == Origin::Dialled(peer) {
+            last = *known;
         }
     }
     last
 }
 
-/// Whether a link has this place.
-fn stands_at(known: &KnownLink, place: Place) -> bool {
-    match place {
-        Place::Dialled(peer) => known.numbers.origin == Origin::Dialled(usize::from(peer)),
-        Place::Accepted(slot) => is_at(known, usize::from(slot)),
+/// The last link that was accepted and had this place.
+fn last_accepted(gathered: &Gathered, slot: usize, now: u64) -> KnownLink {
+    let mut last = no_link(now);
+    for known in gathered.links.as_slice() {
+        if is_at(known, slot) {
+            last = *known;
+        }
     }
+    last
 }
 
-/// How many dials at a place made no link.
-fn dials_failed(board: &Board, place: Place) -> u64 {
-    match place {
-        Place::Dialled(peer) => board.dials_failed(usize::from(peer)),
-        Place::Accepted(_) => 0,
-    }
-}
-
-/// These places of links.
-fn links_of(
-    tray: &mut Tray,
-    places: &[Place],
-    board: &Board,
-    gathered: &Gathered,
+/// A place of a link in numbers. Whether there was memory for them.
+fn add_place(
+    numbers: &mut Numbers,
+    place: Place,
+    known: KnownLink,
+    dials_failed: u64,
     now: u64,
-) -> Sequence<Link> {
-    let mut all = Vec::new(tray.alloc);
-    for place in places {
-        let known = last_at(gathered, *place);
-        let failed = dials_failed(board, *place);
-        tray.add_link(&mut all, link_at(*place, known, failed, now));
-    }
-    Sequence::new(all)
-}
-
-/// A place of a link in numbers.
-fn link_at(place: Place, known: Option<KnownLink>, dials_failed: u64, now: u64) -> Link {
-    match known {
-        None => no_link(place, dials_failed),
-        Some(known) => link_as(place, known, dials_failed, now),
-    }
-}
-
-/// A place at which no link ever was.
-fn no_link(place: Place, dials_failed: u64) -> Link {
-    Link {
-        place,
-        up: 0,
-        number: 0,
-        since_seconds: 0,
-        heard_seconds: 0,
-        waiting_octets: 0,
-        told: 0,
-        taken: 0,
-        answer_operations: 0,
-        received_octets: 0,
-        sent_octets: 0,
-        dials_failed,
-    }
+) -> bool {
+    let counts = known.numbers.counts;
+    numbers
+        .links
+        .push(link_of(place, known, dials_failed, now))
+        .is_ok()
+        && add_refusals(&mut numbers.link_refused, place, counts)
 }
 
 /// A place at which this link is, or was last.
-fn link_as(place: Place, known: KnownLink, dials_failed: u64, now: u64) -> Link {
+fn link_of(place: Place, known: KnownLink, dials_failed: u64, now: u64) -> Link {
     let counts = known.numbers.counts;
     Link {
         place,
@@ -425,37 +408,14 @@ fn seconds_since(second: u64, now: u64) -> u64 {
     }
 }
 
-/// How many deltas were refused at each place, by fault.
-fn refusals(tray: &mut Tray, places: &[Place], gathered: &Gathered) -> Sequence<Sample> {
-    let mut all = Vec::new(tray.alloc);
-    for place in places {
-        add_refusals(tray, &mut all, *place, last_at(gathered, *place));
-    }
-    Sequence::new(all)
-}
-
-/// Those of a place.
-fn add_refusals(tray: &mut Tray, all: &mut Vec<Sample>, place: Place, known: Option<KnownLink>) {
-    let (conflicts, limits, others) = match known {
-        None => (0, 0, 0),
-        Some(known) => {
-            let counts = known.numbers.counts;
-            (counts.conflicts, counts.limits, counts.others)
-        }
-    };
-    tray.add(all, Label::Fault(place, DeltaFault::Conflict), conflicts);
-    tray.add(all, Label::Fault(place, DeltaFault::Full), limits);
-    tray.add(all, Label::Fault(place, DeltaFault::Other), others);
-}
-
-/// The lengths of both files of the journal; 0 for one of which the system does not tell.
-fn journal_octets<T: Files<File = File>>(rt: &T, tray: &mut Tray, path: &str) -> Sequence<Sample> {
-    let mut all = Vec::new(tray.alloc);
-    let first = length_of(rt, tray.alloc, path, 0).unwrap_or(0);
-    let second = length_of(rt, tray.alloc, path, 1).unwrap_or(0);
-    tray.add(&mut all, Label::FirstSlot, first);
-    tray.add(&mut all, Label::SecondSlot, second);
-    Sequence::new(all)
+/// How many deltas were refused at a place, by fault. Whether there was memory for them.
+fn add_refusals(all: &mut Sequence<Sample>, place: Place, counts: LinkCounts) -> bool {
+    let conflict = Label::Fault(place, DeltaFault::Conflict);
+    let limit = Label::Fault(place, DeltaFault::Full);
+    let other = Label::Fault(place, DeltaFault::Other);
+    add(all, conflict, counts.conflicts)
+        && add(all, limit, counts.limits)
+        && add(all, other, counts.others)
 }
 
 /// How many octets of memory the process has; 0 if the system does not tell.
@@ -463,7 +423,9 @@ fn resident<T: Files<File = File>>(rt: &T) -> u64 {
     match File::open(rt, "/proc/self/statm") {
         Ok(mut file) => {
             let mut octets = [0u8; STATM];
-            pages_of(&mut file, &mut octets).saturating_mul(A_PAGE)
+            let pages = pages_of(&mut file, &mut octets);
+            drop(file);
+            pages.saturating_mul(A_PAGE)
         }
         Err(_) => 0,
     }

@@ -1,13 +1,13 @@
 //! What is remembered of the gateway from one second to the next, for what is reported of it.
 
 use crate::board::{Field, Number, Shared};
-use crate::counting::{no_numbers, numbers_of};
+use crate::counting::{no_numbers, renew_numbers};
 use gw_link::{LinkNumbers, Origin};
 use gw_main::options::Settings;
 use gw_report::{Glimpse, Health, Report, Sample, Seen};
 use gw_run::MOST_ACCEPTED;
 use gw_wire::millisecond;
-use octets::{NoMemory, Sequence};
+use octets::Sequence;
 use rep_ops::ClientId;
 use std::alloc::Global;
 use std::fs::{File, Files};
@@ -25,8 +25,11 @@ const LATELY: u64 = 30_000;
 /// How many milliseconds the longest times are kept.
 const AN_HOUR: u64 = 3_600_000;
 
-/// How many links are asked for at most.
+/// How many links are asked for, and remembered, at most.
 const MOST_LINKS: usize = 64;
+
+/// Of how many shifts the calls are added at once.
+const MOST_SHIFTS: usize = 64;
 
 /// A link as it was last seen, with the millisecond in which it was first.
 #[derive(Clone, Copy)]
@@ -36,6 +39,9 @@ pub struct KnownLink {
     pub slot: usize,
     pub since: u64,
     pub is_up: bool,
+    /// Whether it was told that it is made, and that it is gone.
+    pub is_told_made: bool,
+    pub is_told_gone: bool,
 }
 
 /// What is remembered from one gathering to the next.
@@ -55,7 +61,7 @@ pub struct Gathered {
     ticking: Option<u64>,
     /// For how many seconds the clock stood still.
     pub stood: u64,
-    /// The links, those that are gone too, one for each place.
+    /// The links, those that are gone too, in the order in which they were made.
     pub links: Vec<KnownLink>,
     /// The clients of the last glance but one, and whether there was one.
     pub before: Vec<Seen>,
@@ -68,7 +74,7 @@ pub struct Gathered {
     /// How many messages of each gateway were known at it.
     pub known: Vec<(u8, u64)>,
     /// The calls of all closed shifts.
-    pub calls: Sequence<Sample>,
+    pub calls: Vec<Sample>,
     /// How many events were not written.
     pub lost: u64,
 }
@@ -115,7 +121,7 @@ pub(crate) fn none_gathered<T: Clock>(rt: &T, alloc: Global) -> Gathered {
         is_new: false,
         second: 0,
         known: Vec::new(alloc),
-        calls: Sequence::empty(alloc),
+        calls: Vec::new(alloc),
         lost: 0,
     }
 }
@@ -135,14 +141,11 @@ where
     let now = millisecond(rt);
     look_at_clock(shared, gathered, now);
     forget_longest(shared, gathered, now);
-    add_calls(rt, alloc, shared, gathered);
+    add_calls(rt, shared, gathered);
     find_links(rt, alloc, shared, gathered, now);
     find_clients(rt, alloc, shared, gathered, report);
     report.health = health_of(shared, gathered, now);
-    let seen = report.clients.as_slice();
-    if let Some(numbers) = numbers_of(rt, alloc, settings, shared, gathered, seen, now) {
-        report.numbers = numbers;
-    }
+    renew_numbers(rt, alloc, settings, shared, gathered, report, now);
 }
 
 /// Sees whether the clock's thread goes on. It begins a round several times a second.
@@ -183,75 +186,104 @@ fn forget_longest(shared: &Shared, gathered: &mut Gathered, now: u64) {
 }
 
 /// Adds the calls of shifts that were closed.
-fn add_calls<T: Wait>(rt: &T, alloc: Global, shared: &Shared, gathered: &mut Gathered) {
-    for _ in 0..MOST_LINKS {
-        let Some(calls) = shared.board.take_calls(rt) else {
-            return;
-        };
-        if let Ok(sum) = sum_of(alloc, gathered.calls.as_slice(), calls.as_slice()) {
-            gathered.calls = sum;
+fn add_calls<T: Wait>(rt: &T, shared: &Shared, gathered: &mut Gathered) {
+    for _ in 0..MOST_SHIFTS {
+        match shared.board.take_calls(rt) {
+            Some(calls) => add_shift(gathered, calls.into_vec()),
+            None => return,
         }
     }
 }
 
-/// The samples of a shift, each with that before at its place.
-fn sum_of(
-    alloc: Global,
-    before: &[Sample],
-    calls: &[Sample],
-) -> Result<Sequence<Sample>, NoMemory> {
-    let mut all = Vec::new(alloc);
+/// Adds the calls of a shift: each shift has as many samples, in the same order.
+fn add_shift(gathered: &mut Gathered, calls: Vec<Sample>) {
+    let mut calls = calls;
+    add_before(calls.as_mut_slice(), gathered.calls.as_slice());
+    drop(mem::replace(&mut gathered.calls, calls));
+}
+
+/// Adds to each sample that before at its place, if there is one.
+fn add_before(calls: &mut [Sample], before: &[Sample]) {
     let mut left = before;
     for sample in calls {
-        let mut value = sample.value;
         if let Some((first, rest)) = left.split_first() {
-            value = value.saturating_add(first.value);
+            sample.value = sample.value.saturating_add(first.value);
             left = rest;
         }
-        all.push(Sample {
-            label: sample.label,
-            value,
-        })?;
     }
-    Ok(Sequence::new(all))
 }
 
 /// Sees which links are up. If memory runs out, they are those of the last time.
 fn find_links<T: Wait>(rt: &T, alloc: Global, shared: &Shared, gathered: &mut Gathered, now: u64) {
-    if let Ok(links) = shared.pool.relay.links(rt, alloc, MOST_LINKS) {
-        look_at_links(gathered, links.as_slice(), now);
+    match shared.pool.relay.links(rt, alloc, MOST_LINKS) {
+        Ok(links) => {
+            look_at_links(&mut gathered.links, links.as_slice(), now);
+            drop(links);
+        }
+        Err(_) => {}
     }
 }
 
-/// Notes which links are up. If memory runs out, one is left out.
-fn look_at_links(gathered: &mut Gathered, links: &[LinkNumbers], now: u64) {
-    for known in gathered.links.as_mut_slice() {
+/// Notes which links are up.
+fn look_at_links(all: &mut Vec<KnownLink>, links: &[LinkNumbers], now: u64) {
+    for known in all.as_mut_slice() {
         known.is_up = false;
     }
     for link in links {
-        look_at_link(&mut gathered.links, *link, now);
-    }
-    if gathered.links.len() > MOST_LINKS {
-        gathered.links.retain(|known| known.is_up);
+        if !is_known(all.as_mut_slice(), link) {
+            add_link(all, *link, now);
+        }
     }
 }
 
-/// Notes a link that is up.
-fn look_at_link(all: &mut Vec<KnownLink>, link: LinkNumbers, now: u64) {
-    for known in all.as_mut_slice() {
+/// Whether a link was up before. If it was, it still is.
+fn is_known(all: &mut [KnownLink], link: &LinkNumbers) -> bool {
+    for known in all {
         if known.numbers.place == link.place {
-            known.numbers = link;
+            known.numbers = *link;
             known.is_up = true;
-            return;
+            return true;
         }
     }
-    let slot = free_slot(all.as_slice());
-    let _ = all.push(KnownLink {
-        numbers: link,
-        slot,
+    false
+}
+
+/// Notes a link that is new. If memory runs out, it is left out.
+fn add_link(all: &mut Vec<KnownLink>, link: LinkNumbers, now: u64) {
+    if all.len() >= MOST_LINKS {
+        forget_gone(all);
+    }
+    let mut known = no_link(now);
+    known.numbers = link;
+    known.slot = free_slot(all.as_slice());
+    known.is_up = true;
+    let _ = all.push(known);
+}
+
+/// Forgets the first link that is gone.
+fn forget_gone(all: &mut Vec<KnownLink>) {
+    let mut place = 0usize;
+    for known in all.as_slice() {
+        if !known.is_up {
+            break;
+        }
+        place = place.saturating_add(1);
+    }
+    if place < all.len() {
+        let _ = all.remove(place);
+    }
+}
+
+/// A link that never was.
+pub(crate) fn no_link(now: u64) -> KnownLink {
+    KnownLink {
+        numbers: LinkNumbers::new(0, Origin::Accepted, 0),
+        slot: MOST_ACCEPTED,
         since: now,
-        is_up: true,
-    });
+        is_up: false,
+        is_told_made: false,
+        is_told_gone: false,
+    }
 }
 
 /// The first place of an accepted link at which none is up.
@@ -291,8 +323,9 @@ fn find_clients<T: Wait>(
     report: &mut Report,
 ) {
     gathered.is_new = false;
-    if let Some(field) = shared.board.take_field(rt) {
-        take_clients(alloc, gathered, report, field);
+    match shared.board.take_field(rt) {
+        Some(field) => take_clients(alloc, gathered, report, field),
+        None => {}
     }
 }
 
@@ -303,39 +336,48 @@ fn take_clients(alloc: Global, gathered: &mut Gathered, report: &mut Report, fie
         known,
         second,
     } = field;
-    gathered.known = known;
+    drop(mem::replace(&mut gathered.known, known));
     let passed = second.saturating_sub(gathered.second);
-    let seen = seen_all(alloc, report.clients.as_slice(), clients, second, passed);
-    if let Some(seen) = seen {
-        let old = mem::replace(&mut report.clients, Sequence::new(seen));
-        gathered.before = old.into_vec();
-        gathered.has_before = gathered.has_glanced;
-        gathered.has_glanced = true;
-        gathered.is_new = true;
+    let mut seen = Vec::new(alloc);
+    if see_all(
+        &mut seen,
+        report.clients.as_slice(),
+        clients,
+        second,
+        passed,
+    ) {
         gathered.second = second;
+        put_clients(gathered, report, seen);
+    } else {
+        drop(seen);
     }
 }
 
-/// The clients of a glance, with what earlier ones add to it. `None` if memory runs out.
-fn seen_all(
-    alloc: Global,
+/// Puts these clients into the report. Those that were there are remembered.
+fn put_clients(gathered: &mut Gathered, report: &mut Report, seen: Vec<Seen>) {
+    let old = mem::replace(&mut report.clients, Sequence::new(seen));
+    drop(mem::replace(&mut gathered.before, old.into_vec()));
+    gathered.has_before = gathered.has_glanced;
+    gathered.has_glanced = true;
+    gathered.is_new = true;
+}
+
+/// Puts the clients of a glance after others, with what earlier ones add to them. Whether there was
+/// memory for all.
+fn see_all(
+    seen: &mut Vec<Seen>,
     old: &[Seen],
     clients: Vec<Glimpse>,
     second: u64,
     passed: u64,
-) -> Option<Vec<Seen>> {
-    let mut seen = Vec::new(alloc);
-    let mut is_short = false;
+) -> bool {
+    let mut is_whole = true;
     for glimpse in clients {
         if seen.push(seen_now(old, glimpse, second, passed)).is_err() {
-            is_short = true;
+            is_whole = false;
         }
     }
-    if is_short {
-        drop(seen);
-        return None;
-    }
-    Some(seen)
+    is_whole
 }
 
 /// A client, with what earlier glances add to it.

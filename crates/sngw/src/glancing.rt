@@ -3,13 +3,12 @@
 //! The lock of the shift is held for few clients at a time, and is let go between. Nothing of it is
 //! a call.
 
-use crate::board::{Field, Shared};
-use gw_link::{Phase, Stage};
+use crate::board::{Board, Field, Shared};
+use gw_link::{LinkNumbers, Phase, Stage};
 use gw_main::options::Settings;
 use gw_report::Glimpse;
 use gw_shift::Shift;
 use jr_disk::Disk;
-use octets::NoMemory;
 use rep_model::Replica;
 use std::alloc::Global;
 use std::sync::Wait;
@@ -47,8 +46,9 @@ where
             return;
         }
         if shared.board.may_glance(rt) {
-            if let Some(field) = look(rt, alloc, settings, shift, shared) {
-                shared.board.put_field(rt, field);
+            match look(rt, alloc, settings, shift, shared) {
+                Some(field) => shared.board.put_field(rt, field),
+                None => {}
             }
         }
         stage.wait(rt, Phase::Serving, A_LOOK);
@@ -75,12 +75,11 @@ where
         known: Vec::new(alloc),
         second: shared.pool.clock.second(),
     };
-    let is_whole = find_gateways(shared, &mut field) && look_at_all(rt, alloc, shift, &mut field);
-    if !is_whole {
-        drop(field);
-        return None;
+    if find_gateways(&shared.board, &mut field) && look_at_all(rt, alloc, shift, &mut field) {
+        return Some(field);
     }
-    Some(field)
+    drop(field);
+    None
 }
 
 /// Looks at the clients, some at a time. Whether there was memory for all.
@@ -91,36 +90,31 @@ where
     D: Disk + Drop,
 {
     for _ in 0..MOST_LOOKS {
-        match look_on(rt, alloc, shift, field) {
-            Ok(true) => {}
-            Ok(false) => return true,
-            Err(NoMemory) => return false,
+        let many = field.clients.len();
+        if !look_on(rt, alloc, shift, field) {
+            return false;
+        }
+        if field.clients.len() == many {
+            return true;
         }
     }
     true
 }
 
-/// Looks at some clients more. Whether there were any.
-fn look_on<T, R, D>(
-    rt: &T,
-    alloc: Global,
-    shift: &Shift<R, D>,
-    field: &mut Field,
-) -> Result<bool, NoMemory>
+/// Looks at some clients more, if there are any. Whether there was memory for them.
+fn look_on<T, R, D>(rt: &T, alloc: Global, shift: &Shift<R, D>, field: &mut Field) -> bool
 where
     T: Wait,
     R: Replica,
     D: Disk + Drop,
 {
-    let found = shift.glance(rt, alloc, last_of(field.clients.as_slice()), AT_ONCE)?;
-    let is_any = !found.is_empty();
-    let known = field.known.as_mut_slice();
-    let is_counted = count_known(rt, alloc, shift, found.as_slice(), known).is_ok();
-    let is_kept = keep_all(&mut field.clients, found);
-    if is_counted && is_kept {
-        Ok(is_any)
-    } else {
-        Err(NoMemory)
+    match shift.glance(rt, alloc, last_of(field.clients.as_slice()), AT_ONCE) {
+        Err(_) => false,
+        Ok(found) => {
+            let known = field.known.as_mut_slice();
+            let is_counted = count_known(rt, alloc, shift, found.as_slice(), known);
+            keep_all(&mut field.clients, found) && is_counted
+        }
     }
 }
 
@@ -143,14 +137,15 @@ fn keep_all(clients: &mut Vec<Glimpse>, found: Vec<Glimpse>) -> bool {
     is_kept
 }
 
-/// Adds how many messages of each gateway are known for these clients.
+/// Adds how many messages of each gateway are known for these clients. Whether there was memory for
+/// that.
 fn count_known<T, R, D>(
     rt: &T,
     alloc: Global,
     shift: &Shift<R, D>,
     found: &[Glimpse],
     known: &mut [(u8, u64)],
-) -> Result<(), NoMemory>
+) -> bool
 where
     T: Wait,
     R: Replica,
@@ -158,10 +153,15 @@ where
 {
     for entry in known {
         let (origin, before) = *entry;
-        let counts = shift.messages_known(rt, alloc, found, origin)?;
-        *entry = (origin, sum_after(before, counts.as_slice()));
+        match shift.messages_known(rt, alloc, found, origin) {
+            Err(_) => return false,
+            Ok(counts) => {
+                *entry = (origin, sum_after(before, counts.as_slice()));
+                drop(counts);
+            }
+        }
     }
-    Ok(())
+    true
 }
 
 /// A number and all of these.
@@ -181,21 +181,29 @@ fn note_gateways<T: Wait>(rt: &T, alloc: Global, settings: &Settings, shared: &S
     for number in settings.numbers.as_slice() {
         board.note_gateway(*number);
     }
-    if let Ok(links) = shared.pool.relay.links(rt, alloc, MOST_LINKS) {
-        for link in links.as_slice() {
-            board.note_gateway(link.other);
+    match shared.pool.relay.links(rt, alloc, MOST_LINKS) {
+        Ok(links) => {
+            note_linked(board, links.as_slice());
+            drop(links);
         }
+        Err(_) => {}
+    }
+}
+
+/// Notes the gateways at the other ends of these links.
+fn note_linked(board: &Board, links: &[LinkNumbers]) {
+    for link in links {
+        board.note_gateway(link.other);
     }
 }
 
 /// The gateways that were noted since the program began, without a message. Whether there was
 /// memory for them.
-fn find_gateways(shared: &Shared, field: &mut Field) -> bool {
-    let mut is_whole = true;
+fn find_gateways(board: &Board, field: &mut Field) -> bool {
     for number in 1..=u8::MAX {
-        if shared.board.has_gateway(number) && field.known.push((number, 0)).is_err() {
-            is_whole = false;
+        if board.has_gateway(number) && field.known.push((number, 0)).is_err() {
+            return false;
         }
     }
-    is_whole
+    true
 }

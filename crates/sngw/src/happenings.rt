@@ -4,8 +4,8 @@
 //! Links, the clock and the threads that serve only count. What happened is seen here by comparing
 //! two gatherings, so an event is late by a second, or by a glance.
 
-use crate::board::{Number, Shared};
-use crate::counting::{MANY_TOPICS, is_owned, presence_of};
+use crate::board::{Board, Number, Shared};
+use crate::counting::{MANY_TOPICS, is_owned, is_same, presence_of};
 use crate::doors::{outage_line, trouble_line};
 use crate::gathering::{Gathered, KnownLink, seen_in};
 use crate::lines::Said;
@@ -47,12 +47,12 @@ const NEAR_FULL: usize = MAX_CLIENTS / 4 * 3;
 const DEBUG: u8 = 7;
 
 /// What was told, or seen, at the last gathering.
-#[derive(Drop)]
+#[derive(Clone, Copy)]
 pub struct Happened {
     reopened: u64,
     not_compacted: u64,
     shift: u64,
-    is_halted: bool,
+    halted: u64,
     stood: u64,
     /// How many datagrams were told as dropped, and when.
     dropped: u64,
@@ -60,39 +60,29 @@ pub struct Happened {
     /// How many clients there were, and when it was last told again who is at a limit.
     clients: usize,
     again: u64,
-    /// The greatest place of a link that was told as made.
-    made: Option<u64>,
-    /// Up to which place links that are gone were told.
-    gone: Vec<u64>,
 }
 
 /// Nothing has happened.
-pub(crate) fn nothing_happened(alloc: Global) -> Happened {
+pub(crate) fn nothing_happened() -> Happened {
     Happened {
         reopened: 0,
         not_compacted: 0,
         shift: 0,
-        is_halted: false,
+        halted: 0,
         stood: 0,
         dropped: 0,
         told: 0,
         clients: 0,
         again: 0,
-        made: None,
-        gone: Vec::new(alloc),
     }
 }
 
-/// How events are told.
-#[derive(Clone, Copy)]
-struct Log<'a> {
-    /// The lines that wait to be printed.
-    said: Said<'a>,
-    /// The greatest number of a level whose events are written; 0 for none.
-    level: u8,
-    /// The moment, in seconds since the program began.
-    moment: u64,
-    /// How many events could not be told.
+/// What is to be told.
+#[derive(Drop)]
+struct News {
+    alloc: Global,
+    told: Vec<What>,
+    /// For how much of it there was no memory.
     lost: u64,
 }
 
@@ -111,133 +101,124 @@ where
     T: Wait + Clock + Print + Eprint,
 {
     let now = millisecond(rt);
-    let mut log = Log {
-        said,
-        level: settings.log,
-        moment: now.saturating_sub(gathered.began) / 1_000,
+    let mut news = News {
+        alloc,
+        told: Vec::new(alloc),
         lost: 0,
     };
-    tell_links(rt, alloc, gathered, happened, &mut log, report);
-    tell_troubles(rt, alloc, shared, &mut log, report);
-    tell_gateway(rt, alloc, shared, gathered, happened, &mut log, report);
-    tell_dropped(rt, alloc, shared, happened, &mut log, report);
+    find_links(&mut news, gathered.links.as_mut_slice());
+    find_troubles(rt, &mut news, shared, settings.log == 0, said);
+    find_gateway(&mut news, &shared.board, gathered.stood, happened);
+    find_dropped(&mut news, &shared.board, happened, now);
     if gathered.is_new {
-        tell_clients(rt, alloc, settings, gathered, happened, &mut log, report);
+        let clients = report.clients.as_slice();
+        find_clients(&mut news, settings, gathered, happened, clients, now);
     }
-    gathered.lost = gathered.lost.saturating_add(log.lost);
+    gathered.lost = gathered.lost.saturating_add(news.lost);
+    let moment = now.saturating_sub(gathered.began) / 1_000;
+    let unsaid = tell(rt, alloc, settings.log, said, moment, news.told, report);
+    gathered.lost = gathered.lost.saturating_add(unsaid);
 }
 
-/// Puts an event to those of the page, and says it if it is bad enough.
-fn add<T: Wait + Print + Eprint>(
+/// Says what is bad enough, and puts all of it to the events of the page. How many could not be
+/// told.
+fn tell<T: Wait + Print + Eprint>(
     rt: &T,
     alloc: Global,
-    log: &mut Log<'_>,
+    level: u8,
+    said: Said<'_>,
+    moment: u64,
+    told: Vec<What>,
     report: &mut Report,
-    what: What,
-) {
-    let event = Event {
-        moment: log.moment,
-        what,
-    };
-    if event.level().number() <= log.level {
-        say(rt, log, entry(alloc, &event).ok());
+) -> u64 {
+    let mut events = mem::replace(&mut report.events, Sequence::empty(alloc)).into_vec();
+    let mut lost = 0u64;
+    for what in told {
+        let event = Event { moment, what };
+        count_unless(&mut lost, say(rt, alloc, level, said, &event));
+        count_unless(&mut lost, keep(&mut events, event));
     }
-    keep(alloc, log, report, event);
+    drop(mem::replace(&mut report.events, Sequence::new(events)));
+    lost
 }
 
-/// Says a line on standard error. One that is left out counts as lost.
-fn say<T: Wait + Print + Eprint>(rt: &T, log: &mut Log<'_>, line: Option<String>) {
-    if !log.said.err.try_say(rt, line) {
-        log.lost = log.lost.saturating_add(1);
+/// One more, unless this holds.
+fn count_unless(count: &mut u64, holds: bool) {
+    if !holds {
+        *count = count.saturating_add(1);
     }
 }
 
-/// Keeps an event for the page. The oldest gives way.
-fn keep(alloc: Global, log: &mut Log<'_>, report: &mut Report, event: Event) {
-    let events = mem::replace(&mut report.events, Sequence::empty(alloc));
-    let mut events = events.into_vec();
+/// Says an event on standard error, if it is of this level or worse. Whether its line was not left
+/// out.
+fn say<T: Wait + Print + Eprint>(
+    rt: &T,
+    alloc: Global,
+    level: u8,
+    said: Said<'_>,
+    event: &Event,
+) -> bool {
+    if event.level().number() > level {
+        return true;
+    }
+    said.err.try_say(rt, entry(alloc, event).ok())
+}
+
+/// Keeps an event for the page, where the oldest gives way. Whether there was memory for it.
+fn keep(events: &mut Vec<Event>, event: Event) -> bool {
     if events.len() >= MOST_EVENTS {
         drop(events.remove(0));
     }
-    if events.push(event).is_err() {
-        log.lost = log.lost.saturating_add(1);
-    }
-    report.events = Sequence::new(events);
+    events.push(event).is_ok()
 }
 
-/// Tells which links were made, and which are gone.
-fn tell_links<T: Wait + Print + Eprint>(
-    rt: &T,
-    alloc: Global,
-    gathered: &Gathered,
-    happened: &mut Happened,
-    log: &mut Log<'_>,
-    report: &mut Report,
-) {
-    for known in gathered.links.as_slice() {
-        if let Some(what) = change_of(happened, known) {
-            add(rt, alloc, log, report, what);
+/// This is to be told.
+fn note(news: &mut News, what: What) {
+    count_unless(&mut news.lost, news.told.push(what).is_ok());
+}
+
+/// This warning is to be told.
+fn warn(news: &mut News, warning: Warning) {
+    note(news, What::Warning(warning));
+}
+
+/// Which links were made, and which are gone.
+fn find_links(news: &mut News, links: &mut [KnownLink]) {
+    for known in links {
+        let number = known.numbers.other;
+        if known.is_up && !known.is_told_made {
+            known.is_told_made = true;
+            note(news, What::Note(Note::LinkMade { number }));
+        }
+        if !known.is_up && !known.is_told_gone {
+            known.is_told_gone = true;
+            warn(news, Warning::LinkLost { number });
         }
     }
-    if happened.gone.len() > MOST_EVENTS {
-        let _ = happened.gone.remove(0);
-    }
 }
 
-/// What is to be told of a link, if anything is.
-fn change_of(happened: &mut Happened, known: &KnownLink) -> Option<What> {
-    let place = known.numbers.place;
-    let number = known.numbers.other;
-    if known.is_up {
-        if is_later(happened.made, place) {
-            happened.made = Some(place);
-            return Some(What::Note(Note::LinkMade { number }));
-        }
-        return None;
-    }
-    if is_gone(happened, place) {
-        return None;
-    }
-    Some(What::Warning(Warning::LinkLost { number }))
-}
-
-/// Whether it was told that the link of this place is gone. From now on it was; if memory runs out
-/// it is not told.
-fn is_gone(happened: &mut Happened, place: u64) -> bool {
-    happened.gone.as_slice().contains(&place) || happened.gone.push(place).is_err()
-}
-
-/// Whether a place was given after the last one.
-fn is_later(last: Option<u64>, place: u64) -> bool {
-    match last {
-        None => true,
-        Some(last) => place > last,
-    }
-}
-
-/// Tells the troubles of links, and that nothing can be sent.
-fn tell_troubles<T: Wait + Clock + Print + Eprint>(
+/// The troubles of links, and that nothing can be sent. If they are to be printed, each has a line.
+fn find_troubles<T: Wait + Clock + Print + Eprint>(
     rt: &T,
-    alloc: Global,
+    news: &mut News,
     shared: &Shared,
-    log: &mut Log<'_>,
-    report: &mut Report,
+    is_printed: bool,
+    said: Said<'_>,
 ) {
     if shared.pool.outage.is_to_tell(rt) {
-        if log.level == 0 {
-            log.said.err.say(rt, outage_line(alloc));
+        if is_printed {
+            said.err.say(rt, outage_line(news.alloc));
         }
-        add(rt, alloc, log, report, What::Warning(Warning::NothingSent));
+        warn(news, Warning::NothingSent);
     }
     for _ in 0..MOST_TROUBLES {
         let Some(told) = shared.pool.relay.report(rt, moment(rt)) else {
             return;
         };
-        if log.level == 0 {
-            log.said.err.say(rt, trouble_line(alloc, told));
+        if is_printed {
+            said.err.say(rt, trouble_line(news.alloc, told));
         }
-        let what = event_of(told.trouble, told.number, told.count);
-        add(rt, alloc, log, report, what);
+        note(news, event_of(told.trouble, told.number, told.count));
     }
 }
 
@@ -253,142 +234,82 @@ fn event_of(trouble: Trouble, number: u8, times: u64) -> What {
     }
 }
 
-/// Tells what happened to the gateway.
-fn tell_gateway<T: Wait + Print + Eprint>(
-    rt: &T,
-    alloc: Global,
-    shared: &Shared,
-    gathered: &Gathered,
-    happened: &mut Happened,
-    log: &mut Log<'_>,
-    report: &mut Report,
-) {
-    let is_halted = shared.board.get(Number::Halted) > 0;
-    if is_halted && !happened.is_halted {
-        add(rt, alloc, log, report, What::Alarm(Alarm::Halted));
+/// What happened to the gateway, whose clock stood still for so many seconds in all.
+fn find_gateway(news: &mut News, board: &Board, stood: u64, happened: &mut Happened) {
+    if growth(&mut happened.halted, board.get(Number::Halted)) > 0 {
+        note(news, What::Alarm(Alarm::Halted));
     }
-    happened.is_halted = is_halted;
-    let reopened = reopenings(shared);
-    if reopened > happened.reopened {
-        add(rt, alloc, log, report, What::Warning(Warning::Reopened));
+    if growth(&mut happened.reopened, reopenings(board)) > 0 {
+        warn(news, Warning::Reopened);
     }
-    happened.reopened = reopened;
-    let not_compacted = shared.board.get(Number::NotCompacted);
-    if not_compacted > happened.not_compacted {
-        add(rt, alloc, log, report, What::Warning(Warning::NotCompacted));
+    if growth(&mut happened.not_compacted, board.get(Number::NotCompacted)) > 0 {
+        warn(news, Warning::NotCompacted);
     }
-    happened.not_compacted = not_compacted;
-    tell_stood(rt, alloc, gathered.stood, happened, log, report);
-    tell_shift(rt, alloc, shared, happened, log, report);
+    let seconds = growth(&mut happened.stood, stood);
+    if seconds > 0 {
+        warn(news, Warning::StoodStill { seconds });
+    }
+    find_turn(news, board, happened);
+}
+
+/// By how much a number has grown since it was last looked at.
+fn growth(last: &mut u64, now: u64) -> u64 {
+    let growth = now.saturating_sub(*last);
+    *last = now;
+    growth
 }
 
 /// How often the gateway was opened again.
-fn reopenings(shared: &Shared) -> u64 {
-    let between = shared.board.get(Number::ReopenedBetween);
-    shared.board.get(Number::Reopened).saturating_add(between)
+fn reopenings(board: &Board) -> u64 {
+    let between = board.get(Number::ReopenedBetween);
+    board.get(Number::Reopened).saturating_add(between)
 }
 
-/// Tells that the clock stood still for so many seconds in all.
-fn tell_stood<T: Wait + Print + Eprint>(
-    rt: &T,
-    alloc: Global,
-    stood: u64,
-    happened: &mut Happened,
-    log: &mut Log<'_>,
-    report: &mut Report,
-) {
-    if stood > happened.stood {
-        let seconds = stood.saturating_sub(happened.stood);
-        let still = Warning::StoodStill { seconds };
-        happened.stood = stood;
-        add(rt, alloc, log, report, What::Warning(still));
-    }
-}
-
-/// Tells of a shift that took long to turn.
-fn tell_shift<T: Wait + Print + Eprint>(
-    rt: &T,
-    alloc: Global,
-    shared: &Shared,
-    happened: &mut Happened,
-    log: &mut Log<'_>,
-    report: &mut Report,
-) {
-    let shift = shared.board.get(Number::Shift);
-    let thousandths = shared.board.get(Number::Turn);
-    if shift > happened.shift && thousandths > LONG_TURN {
+/// A shift that took long to turn.
+fn find_turn(news: &mut News, board: &Board, happened: &mut Happened) {
+    let shift = board.get(Number::Shift);
+    let thousandths = board.get(Number::Turn);
+    if growth(&mut happened.shift, shift) > 0 && thousandths > LONG_TURN {
+        let calls = board.get(Number::ShiftCalls);
         let closed = Note::ShiftClosed {
             shift,
-            calls: shared.board.get(Number::ShiftCalls),
+            calls,
             thousandths,
         };
-        add(rt, alloc, log, report, What::Note(closed));
+        note(news, What::Note(closed));
     }
-    happened.shift = shift;
 }
 
-/// Tells how many datagrams were dropped, once in a minute.
-fn tell_dropped<T: Wait + Clock + Print + Eprint>(
-    rt: &T,
-    alloc: Global,
-    shared: &Shared,
-    happened: &mut Happened,
-    log: &mut Log<'_>,
-    report: &mut Report,
-) {
-    let now = millisecond(rt);
-    let dropped = shared.board.get(Number::Dropped);
+/// How many datagrams were dropped, once in a minute.
+fn find_dropped(news: &mut News, board: &Board, happened: &mut Happened, now: u64) {
+    let dropped = board.get(Number::Dropped);
     if dropped > happened.dropped && now.saturating_sub(happened.told) > A_MINUTE {
-        let times = dropped.saturating_sub(happened.dropped);
-        happened.dropped = dropped;
+        let times = growth(&mut happened.dropped, dropped);
         happened.told = now;
-        add(
-            rt,
-            alloc,
-            log,
-            report,
-            What::Warning(Warning::Dropped { times }),
-        );
+        warn(news, Warning::Dropped { times });
     }
 }
 
-/// Tells what happened to clients between two glances, and once in an hour again who is at a limit.
-fn tell_clients<T: Wait + Clock + Print + Eprint>(
-    rt: &T,
-    alloc: Global,
+/// What happened to clients between two glances, and once in an hour again who is at a limit.
+fn find_clients(
+    news: &mut News,
     settings: &Settings,
     gathered: &mut Gathered,
     happened: &mut Happened,
-    log: &mut Log<'_>,
-    report: &mut Report,
+    clients: &[Seen],
+    now: u64,
 ) {
-    let is_again = has_passed(millisecond(rt), happened);
-    let count = report.clients.len();
+    let is_again = has_passed(now, happened);
+    let count = clients.len();
     if count >= NEAR_FULL && (is_again || happened.clients < NEAR_FULL) {
-        let near = Warning::ClientsNearFull {
-            clients: count as u64,
-        };
-        add(rt, alloc, log, report, What::Warning(near));
+        let clients = count as u64;
+        warn(news, Warning::ClientsNearFull { clients });
     }
     happened.clients = count;
-    let mut news = News {
-        alloc,
-        told: Vec::new(alloc),
-        lost: 0,
-    };
-    find_news(
-        &mut news,
-        settings,
-        gathered,
-        report.clients.as_slice(),
-        is_again,
-    );
-    let News { told, lost, .. } = news;
-    log.lost = log.lost.saturating_add(lost);
-    for what in told {
-        add(rt, alloc, log, report, what);
+    for seen in clients {
+        find_client(news, settings, gathered, seen, is_again);
     }
-    drop(mem::replace(&mut gathered.before, Vec::new(alloc)));
+    drop(mem::replace(&mut gathered.before, Vec::new(news.alloc)));
 }
 
 /// Whether it is to be told again who is at a limit. From now on it was.
@@ -398,15 +319,6 @@ fn has_passed(now: u64, happened: &mut Happened) -> bool {
         happened.again = now;
     }
     has_passed
-}
-
-/// What is to be told of single clients.
-#[derive(Drop)]
-struct News {
-    alloc: Global,
-    told: Vec<What>,
-    /// For how much of it there was no memory.
-    lost: u64,
 }
 
 /// What happened to a client.
@@ -419,36 +331,27 @@ enum Fate {
     Taken(u8),
 }
 
-/// Finds what is to be told of single clients.
-fn find_news(
+/// What is to be told of a client.
+fn find_client(
     news: &mut News,
     settings: &Settings,
     gathered: &Gathered,
-    clients: &[Seen],
+    seen: &Seen,
     is_again: bool,
 ) {
-    for seen in clients {
-        let before = seen_in(gathered.before.as_slice(), &seen.glimpse.client);
-        let known = if is_again { (0, 0) } else { limits_of(before) };
-        find_limits(news, seen, known);
-        if settings.log >= DEBUG && gathered.has_before {
-            find_presence(news, settings.gateway, seen, before);
-        }
+    let before = seen_in(gathered.before.as_slice(), &seen.glimpse.client);
+    let limits = if is_again { (0, 0) } else { limits_of(before) };
+    find_limits(news, seen, limits);
+    if settings.log >= DEBUG && gathered.has_before {
+        find_presence(news, settings.gateway, seen, before);
     }
 }
 
 /// Something is to be told of a client.
-fn tell(news: &mut News, client: &ClientId, fate: Fate) {
+fn befall(news: &mut News, client: &ClientId, fate: Fate) {
     match client.copied(news.alloc) {
-        Ok(client) => keep_news(news, what_of(client, fate)),
-        Err(_) => news.lost = news.lost.saturating_add(1),
-    }
-}
-
-/// This is to be told.
-fn keep_news(news: &mut News, what: What) {
-    if news.told.push(what).is_err() {
-        news.lost = news.lost.saturating_add(1);
+        Ok(client) => note(news, what_of(client, fate)),
+        Err(_) => count_unless(&mut news.lost, false),
     }
 }
 
@@ -473,13 +376,13 @@ fn limits_of(before: Option<&Seen>) -> (usize, usize) {
 
 /// A client at a limit at which it was not before.
 fn find_limits(news: &mut News, seen: &Seen, before: (usize, usize)) {
-    let (had, knew) = before;
+    let (waited, knew) = before;
     let topics = topics_of(seen);
-    if seen.glimpse.waiting >= MAX_PENDING && had < MAX_PENDING {
-        tell(news, &seen.glimpse.client, Fate::Full);
+    if seen.glimpse.waiting >= MAX_PENDING && waited < MAX_PENDING {
+        befall(news, &seen.glimpse.client, Fate::Full);
     }
     if topics >= MANY_TOPICS && knew < MANY_TOPICS {
-        tell(news, &seen.glimpse.client, Fate::Topics(topics as u64));
+        befall(news, &seen.glimpse.client, Fate::Topics(topics as u64));
     }
 }
 
@@ -497,12 +400,13 @@ fn find_presence(news: &mut News, gateway: u8, seen: &Seen, before: Option<&Seen
         None => (None, false),
         Some(before) => (presence_of(before), is_owned(gateway, &before.glimpse)),
     };
+    let client = &seen.glimpse.client;
     let is_now = presence_of(seen);
-    if is_now == Some(Presence::Active) && !is_here(was) {
-        tell(news, &seen.glimpse.client, Fate::Connected);
+    if is_same(is_now, Some(Presence::Active)) && !is_here(was) {
+        befall(news, client, Fate::Connected);
     }
-    if is_now == Some(Presence::Lost) && was != Some(Presence::Lost) {
-        tell(news, &seen.glimpse.client, Fate::Lost);
+    if is_lost(is_now) && !is_lost(was) {
+        befall(news, client, Fate::Lost);
     }
     if was_owned {
         find_taken(news, gateway, seen);
@@ -513,9 +417,14 @@ fn find_presence(news: &mut News, gateway: u8, seen: &Seen, before: Option<&Seen
 fn find_taken(news: &mut News, gateway: u8, seen: &Seen) {
     if let Some(stamp) = seen.glimpse.stamp {
         if stamp.gateway != gateway {
-            tell(news, &seen.glimpse.client, Fate::Taken(stamp.gateway));
+            befall(news, &seen.glimpse.client, Fate::Taken(stamp.gateway));
         }
     }
+}
+
+/// Whether a client was taken for lost.
+fn is_lost(presence: Option<Presence>) -> bool {
+    is_same(presence, Some(Presence::Lost))
 }
 
 /// Whether a client is connected, or asleep.

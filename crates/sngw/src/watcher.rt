@@ -59,37 +59,59 @@ where
         if over.phase(rt) != Phase::Serving {
             return;
         }
-        if let Some(mut watcher) = watcher_of(rt, alloc) {
-            shared.board.set(Number::Watcher, 1);
-            watch(
-                rt,
-                alloc,
-                settings,
-                listener,
-                shared,
-                over,
-                said,
-                &mut watcher,
-            );
-            drop(watcher);
-            return;
+        match watcher_of(rt, alloc) {
+            Some(watcher) => {
+                show(rt, alloc, settings, listener, shared, over, said, watcher);
+                return;
+            }
+            None => over.wait(rt, Phase::Serving, A_SECOND),
         }
-        over.wait(rt, Phase::Serving, A_SECOND);
     }
     unreachable!()
 }
 
 /// What the thread holds before it has gathered anything. `None` if memory ran out.
 fn watcher_of<T: Clock>(rt: &T, alloc: Global) -> Option<Watcher> {
-    let piece = room_for_piece(alloc)?;
-    Some(Watcher {
-        report: no_report(alloc),
-        gathered: none_gathered(rt, alloc),
-        happened: nothing_happened(alloc),
-        callers: Vec::new(alloc),
-        piece,
-        looked: 0,
-    })
+    match room_for_piece(alloc) {
+        Some(piece) => Some(Watcher {
+            looked: 0,
+            happened: nothing_happened(),
+            piece,
+            callers: Vec::new(alloc),
+            gathered: none_gathered(rt, alloc),
+            report: no_report(alloc),
+        }),
+        None => None,
+    }
+}
+
+/// Shows the gateway, by what the thread holds.
+fn show<T>(
+    rt: &T,
+    alloc: Global,
+    settings: &Settings,
+    listener: &Option<TcpListener>,
+    shared: &Shared,
+    over: &Stage,
+    said: Said<'_>,
+    watcher: Watcher,
+)
+where
+    T: Wait + Clock + Print + Eprint + Files<File = File>,
+{
+    let mut watcher = watcher;
+    shared.board.set(Number::Watcher, 1);
+    watch(
+        rt,
+        alloc,
+        settings,
+        listener,
+        shared,
+        over,
+        said,
+        &mut watcher,
+    );
+    drop(watcher);
 }
 
 /// Gathers once in a second, and serves those who call meanwhile.

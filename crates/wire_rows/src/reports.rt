@@ -42,24 +42,23 @@ pub(crate) fn be_ill(page: &mut Page, sketch: &mut Sketch, words: &mut Words) {
     }
 }
 
-/// `client OCTETS`: a client that is asleep, of which all is known.
-pub(crate) fn add_client(page: &mut Page, sketch: &mut Sketch, words: &mut Words) {
+/// `client OCTETS`: a client that is asleep, of which all is known. `stranger OCTETS`: one of which
+/// nothing is known but its id.
+pub(crate) fn add_client(
+    page: &mut Page,
+    sketch: &mut Sketch,
+    words: &mut Words,
+    is_stranger: bool,
+) {
     let octets = words.octets();
     if words.end(page) {
-        if let Some(client) = client_id(page, octets.as_slice()) {
-            add_seen(page, sketch, known(client));
+        match client_id(page, octets.as_slice()) {
+            Some(client) if is_stranger => add_seen(page, sketch, unknown(client)),
+            Some(client) => add_seen(page, sketch, known(client)),
+            None => {}
         }
     }
-}
-
-/// `stranger OCTETS`: a client of which nothing is known but its id.
-pub(crate) fn add_stranger(page: &mut Page, sketch: &mut Sketch, words: &mut Words) {
-    let octets = words.octets();
-    if words.end(page) {
-        if let Some(client) = client_id(page, octets.as_slice()) {
-            add_seen(page, sketch, unknown(client));
-        }
-    }
+    drop(octets);
 }
 
 /// One client more.
@@ -152,11 +151,19 @@ fn at_home() -> LocalGlimpse {
 /// The report that a row says, whose clients go with it.
 pub(crate) fn report_of(page: &mut Page, sketch: &mut Sketch) -> Report {
     let clients = mem::replace(&mut sketch.clients, Vec::new(page.alloc()));
-    let is_ill = sketch.is_ill;
+    let mut report = blank(page.alloc(), Sequence::new(clients), sketch.is_ill);
+    add_numbers(page, &mut report.numbers);
+    add_links(page, &mut report.numbers);
+    add_events(page, &mut report.events);
+    report
+}
+
+/// A report without a number that has a label, and without an event.
+fn blank(alloc: Global, clients: Sequence<Seen>, is_ill: bool) -> Report {
     Report {
-        numbers: numbers(page),
-        clients: Sequence::new(clients),
-        events: events(page),
+        numbers: numbers(alloc),
+        clients,
+        events: Sequence::empty(alloc),
         health: Health {
             is_late: is_ill,
             is_halted: is_ill,
@@ -198,57 +205,81 @@ fn singles() -> Singles {
     }
 }
 
-/// The numbers of a report: some labels of each name.
-fn numbers(page: &mut Page) -> Numbers {
+/// Those, and none that has a label.
+fn numbers(alloc: Global) -> Numbers {
     Numbers {
         singles: singles(),
-        frames_received: samples(page, &[Label::Frame(MsgType::Connect), Label::OtherFrame]),
-        datagrams_sent: samples(page, &[Label::Frame(MsgType::PingResp)]),
-        calls: calls(page),
-        compactions: samples(page, &[Label::Done, Label::Failed]),
-        reopenings: samples(page, &[Label::InPlace, Label::BetweenShifts]),
-        clients: samples(page, &[Label::Presence(Presence::Asleep), Label::NoSession]),
-        journal_octets: samples(page, &[Label::FirstSlot, Label::SecondSlot]),
-        links: links(page),
-        link_refused: refusals(page),
-        messages_known: samples(page, &[Label::Origin(1), Label::Origin(255)]),
+        frames_received: Sequence::empty(alloc),
+        datagrams_sent: Sequence::empty(alloc),
+        calls: Sequence::empty(alloc),
+        compactions: Sequence::empty(alloc),
+        reopenings: Sequence::empty(alloc),
+        clients: Sequence::empty(alloc),
+        journal_octets: Sequence::empty(alloc),
+        links: Sequence::empty(alloc),
+        link_refused: Sequence::empty(alloc),
+        messages_known: Sequence::empty(alloc),
     }
 }
 
-/// Two kinds of calls.
-fn calls(page: &mut Page) -> Sequence<Sample> {
+/// Some labels of each name, two at most.
+fn add_numbers(page: &mut Page, numbers: &mut Numbers) {
+    let frame = Label::Frame(MsgType::Connect);
     let done = Label::Call(CallKind::Frame, CallAnswer::Done);
     let refused = Label::Call(CallKind::Take, CallAnswer::Conflict);
-    samples(page, &[done, refused])
+    let asleep = Label::Presence(Presence::Asleep);
+    let reply = Label::Frame(MsgType::PingResp);
+    add_two(page, &mut numbers.frames_received, frame, Label::OtherFrame);
+    add_one(page, &mut numbers.datagrams_sent, reply, 40);
+    add_two(page, &mut numbers.calls, done, refused);
+    add_two(page, &mut numbers.compactions, Label::Done, Label::Failed);
+    add_two(
+        page,
+        &mut numbers.reopenings,
+        Label::InPlace,
+        Label::BetweenShifts,
+    );
+    add_two(page, &mut numbers.clients, asleep, Label::NoSession);
+    add_two(
+        page,
+        &mut numbers.journal_octets,
+        Label::FirstSlot,
+        Label::SecondSlot,
+    );
+    add_two(
+        page,
+        &mut numbers.messages_known,
+        Label::Origin(1),
+        Label::Origin(255),
+    );
 }
 
-/// Two kinds of refused deltas.
-fn refusals(page: &mut Page) -> Sequence<Sample> {
-    let dialled = Label::Fault(Place::Dialled(0), DeltaFault::Conflict);
-    let accepted = Label::Fault(Place::Accepted(7), DeltaFault::Other);
-    samples(page, &[dialled, accepted])
+/// The numbers of these two labels, counting up.
+fn add_two(page: &mut Page, samples: &mut Sequence<Sample>, first: Label, second: Label) {
+    add_one(page, samples, first, 40);
+    add_one(page, samples, second, 41);
 }
 
-/// A number for each label, counting up.
-fn samples(page: &mut Page, labels: &[Label]) -> Sequence<Sample> {
-    let mut samples = Vec::new(page.alloc());
-    let mut value = 40u64;
-    for label in labels {
-        let label = *label;
-        let is_short = samples.push(Sample { label, value }).is_err();
-        page.stop_if_short(is_short);
-        value = value.saturating_add(1);
-    }
-    Sequence::new(samples)
+/// The number of this label.
+fn add_one(page: &mut Page, samples: &mut Sequence<Sample>, label: Label, value: u64) {
+    let is_short = samples.push(Sample { label, value }).is_err();
+    page.stop_if_short(is_short);
 }
 
-/// Two places of links.
-fn links(page: &mut Page) -> Sequence<Link> {
-    let mut links = Vec::new(page.alloc());
-    let dialled = links.push(link(Place::Dialled(0), 1)).is_err();
-    let accepted = links.push(link(Place::Accepted(7), 0)).is_err();
-    page.stop_if_short(dialled || accepted);
-    Sequence::new(links)
+/// Two places of links, and two kinds of refused deltas.
+fn add_links(page: &mut Page, numbers: &mut Numbers) {
+    let (dialled, accepted) = (Place::Dialled(0), Place::Accepted(7));
+    add_link(page, &mut numbers.links, link(dialled, 1));
+    add_link(page, &mut numbers.links, link(accepted, 0));
+    let conflict = Label::Fault(dialled, DeltaFault::Conflict);
+    let other = Label::Fault(accepted, DeltaFault::Other);
+    add_two(page, &mut numbers.link_refused, conflict, other);
+}
+
+/// One place of a link more.
+fn add_link(page: &mut Page, links: &mut Sequence<Link>, link: Link) {
+    let is_short = links.push(link).is_err();
+    page.stop_if_short(is_short);
 }
 
 /// A place of a link.
@@ -270,24 +301,22 @@ fn link(place: Place, up: u64) -> Link {
 }
 
 /// Each event once.
-fn events(page: &mut Page) -> Sequence<Event> {
-    let mut events = Vec::new(page.alloc());
-    add_alarms(page, &mut events);
-    add_warnings(page, &mut events);
-    add_counts(page, &mut events);
-    add_notes(page, &mut events);
-    add_details(page, &mut events);
-    Sequence::new(events)
+fn add_events(page: &mut Page, events: &mut Sequence<Event>) {
+    add_alarms(page, events);
+    add_warnings(page, events);
+    add_counts(page, events);
+    add_notes(page, events);
+    add_details(page, events);
 }
 
 /// One event more.
-fn add(page: &mut Page, events: &mut Vec<Event>, what: What) {
+fn add(page: &mut Page, events: &mut Sequence<Event>, what: What) {
     let is_short = events.push(Event { moment: 5, what }).is_err();
     page.stop_if_short(is_short);
 }
 
 /// One warning more.
-fn warn(page: &mut Page, events: &mut Vec<Event>, warning: Warning) {
+fn warn(page: &mut Page, events: &mut Sequence<Event>, warning: Warning) {
     add(page, events, What::Warning(warning));
 }
 
@@ -302,9 +331,10 @@ enum Fate {
 }
 
 /// One event more, of the client `s"1`.
-fn befall(page: &mut Page, events: &mut Vec<Event>, fate: Fate) {
-    if let Some(client) = client_id(page, b"s\"1") {
-        add(page, events, what_of(client, fate));
+fn befall(page: &mut Page, events: &mut Sequence<Event>, fate: Fate) {
+    match client_id(page, b"s\"1") {
+        Some(client) => add(page, events, what_of(client, fate)),
+        None => {}
     }
 }
 
@@ -323,7 +353,7 @@ fn what_of(client: ClientId, fate: Fate) -> What {
 }
 
 /// Events on which somebody must act.
-fn add_alarms(page: &mut Page, events: &mut Vec<Event>) {
+fn add_alarms(page: &mut Page, events: &mut Sequence<Event>) {
     let (number, times) = (2, 3);
     add(
         page,
@@ -335,7 +365,7 @@ fn add_alarms(page: &mut Page, events: &mut Vec<Event>) {
 }
 
 /// Events at which somebody should look.
-fn add_warnings(page: &mut Page, events: &mut Vec<Event>) {
+fn add_warnings(page: &mut Page, events: &mut Sequence<Event>) {
     befall(page, events, Fate::Full);
     befall(page, events, Fate::Topics);
     warn(page, events, Warning::ClientsNearFull { clients: 768 });
@@ -344,7 +374,7 @@ fn add_warnings(page: &mut Page, events: &mut Vec<Event>) {
 }
 
 /// Warnings of links, of datagrams and of the clock.
-fn add_counts(page: &mut Page, events: &mut Vec<Event>) {
+fn add_counts(page: &mut Page, events: &mut Sequence<Event>) {
     let (number, times) = (2, 3);
     warn(page, events, Warning::Stranger { number, times });
     warn(page, events, Warning::DeltaFull { number, times });
@@ -357,7 +387,7 @@ fn add_counts(page: &mut Page, events: &mut Vec<Event>) {
 }
 
 /// Events of a field as it should be.
-fn add_notes(page: &mut Page, events: &mut Vec<Event>) {
+fn add_notes(page: &mut Page, events: &mut Sequence<Event>) {
     add(page, events, What::Note(Note::LinkMade { number: 2 }));
     let closed = Note::ShiftClosed {
         shift: 2,
@@ -368,7 +398,7 @@ fn add_notes(page: &mut Page, events: &mut Vec<Event>) {
 }
 
 /// Events of single clients.
-fn add_details(page: &mut Page, events: &mut Vec<Event>) {
+fn add_details(page: &mut Page, events: &mut Sequence<Event>) {
     befall(page, events, Fate::Connected);
     befall(page, events, Fate::Lost);
     befall(page, events, Fate::Taken);

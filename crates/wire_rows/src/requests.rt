@@ -14,10 +14,19 @@ pub(crate) fn ask(page: &mut Page, sketch: &mut Sketch, words: &mut Words) {
     let path = words.word();
     if words.end(page) {
         let mut request = String::new(page.alloc());
-        let is_short = write!(request, "{method} {path} HTTP/1.0\r\n\r\n").is_err();
-        page.stop_if_short(is_short);
+        add(page, &mut request, method);
+        add(page, &mut request, " ");
+        add(page, &mut request, path);
+        add(page, &mut request, " HTTP/1.0\r\n\r\n");
         show(page, sketch, request.as_bytes());
+        drop(request);
     }
+}
+
+/// A text more.
+fn add(page: &mut Page, request: &mut String, text: &str) {
+    let is_short = request.push_str(text).is_err();
+    page.stop_if_short(is_short);
 }
 
 /// `request OCTETS`: the answer to these octets.
@@ -26,6 +35,7 @@ pub(crate) fn ask_octets(page: &mut Page, sketch: &mut Sketch, words: &mut Words
     if words.end(page) {
         show(page, sketch, request.as_slice());
     }
+    drop(request);
 }
 
 /// The answer to a request, and whether more of the request may change it.
@@ -34,10 +44,18 @@ fn show(page: &mut Page, sketch: &mut Sketch, request: &[u8]) {
         page.text("may grow\n");
     }
     let report = report_of(page, sketch);
-    match &answer_to(page.alloc(), request, &report) {
+    show_answer(page, request, &report);
+    drop(report);
+}
+
+/// The answer to a request.
+fn show_answer(page: &mut Page, request: &[u8], report: &Report) {
+    let answered = answer_to(page.alloc(), request, report);
+    match &answered {
         Ok(answer) => print_answer(page, answer.as_slice()),
         Err(_) => page.stop(Stop::Memory),
     }
+    drop(answered);
 }
 
 /// What is answered to a request.
@@ -69,19 +87,27 @@ fn print_parts(page: &mut Page, answer: &str) {
 pub(crate) fn entries(page: &mut Page, sketch: &mut Sketch, words: &mut Words) {
     if words.end(page) {
         let report = report_of(page, sketch);
-        for event in report.events.as_slice() {
-            print_entry(page, event);
-        }
+        print_entries(page, report.events.as_slice());
+        drop(report);
+    }
+}
+
+/// The lines of events.
+fn print_entries(page: &mut Page, events: &[Event]) {
+    for event in events {
+        print_entry(page, event);
+        page.end();
     }
 }
 
 /// The line of an event.
 fn print_entry(page: &mut Page, event: &Event) {
-    match &entry_of(page.alloc(), event) {
+    let written = entry_of(page.alloc(), event);
+    match &written {
         Ok(line) => page.text(line.as_str()),
         Err(_) => page.stop(Stop::Memory),
     }
-    page.end();
+    drop(written);
 }
 
 /// The line of an event for the journal of the system.

@@ -6,7 +6,7 @@ use crate::options::{begin_on, files, lose, name, show};
 use crate::outside::{Hold, Outside};
 use crate::page::Page;
 use crate::printing::{print_calls, print_count, print_notes, print_outcome, print_over};
-use crate::reports::{Sketch, add_client, add_stranger, be_ill};
+use crate::reports::{Sketch, add_client, be_ill};
 use crate::requests::{ask, ask_octets, entries};
 use crate::serving::{Gateway, Outcome, Shared, close, serve_all, shift_of};
 use crate::stop::Stop;
@@ -109,21 +109,21 @@ fn play_settings<T: Files<File = File>>(
     }
 }
 
-/// Lines about a report, and about the page that shows it.
+/// Lines about the page of a gateway.
 fn play_page(page: &mut Page, row: &mut Row, first: &str, words: &mut Words) {
     match first {
         "page" => ask(page, &mut row.sketch, words),
         "request" => ask_octets(page, &mut row.sketch, words),
         "entries" => entries(page, &mut row.sketch, words),
-        "client" => add_client(page, &mut row.sketch, words),
-        "stranger" => add_stranger(page, &mut row.sketch, words),
-        first => play_ill(page, row, first, words),
+        first => play_report(page, row, first, words),
     }
 }
 
-/// The line that says that the gateway is not well, and those of the plan.
-fn play_ill(page: &mut Page, row: &mut Row, first: &str, words: &mut Words) {
+/// Lines about its report, and those of the plan.
+fn play_report(page: &mut Page, row: &mut Row, first: &str, words: &mut Words) {
     match first {
+        "client" => add_client(page, &mut row.sketch, words, false),
+        "stranger" => add_client(page, &mut row.sketch, words, true),
         "ill" => be_ill(page, &mut row.sketch, words),
         first => play_plan(page, &mut row.plan, first, words),
     }
