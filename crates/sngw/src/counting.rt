@@ -70,19 +70,38 @@ pub(crate) fn renew_numbers<T: Files<File = File>>(
     now: u64,
 ) {
     let mut numbers = no_numbers(alloc);
-    count_singles(rt, &mut numbers.singles, &shared.board, gathered, now);
-    count_clients(
-        &mut numbers.singles,
-        settings.gateway,
-        report.clients.as_slice(),
-    );
-    let is_whole = count_parts(rt, alloc, settings, shared, gathered, report, &mut numbers)
-        && count_links(settings, &shared.board, gathered, &mut numbers, now);
-    if is_whole {
+    if count_all(
+        rt,
+        alloc,
+        settings,
+        shared,
+        gathered,
+        report,
+        &mut numbers,
+        now,
+    ) {
         drop(mem::replace(&mut report.numbers, numbers));
     } else {
         drop(numbers);
     }
+}
+
+/// Counts all numbers. Whether there was memory for them.
+fn count_all<T: Files<File = File>>(
+    rt: &T,
+    alloc: Global,
+    settings: &Settings,
+    shared: &Shared,
+    gathered: &Gathered,
+    report: &Report,
+    numbers: &mut Numbers,
+    now: u64,
+) -> bool {
+    let seen = report.clients.as_slice();
+    count_singles(rt, &mut numbers.singles, &shared.board, gathered, now);
+    count_clients(&mut numbers.singles, settings.gateway, seen);
+    count_parts(rt, alloc, settings, shared, gathered, seen, numbers)
+        && count_links(settings, &shared.board, gathered, numbers, now)
 }
 
 /// The numbers with a label, without those of links. Whether there was memory for them.
@@ -92,7 +111,7 @@ fn count_parts<T: Files<File = File>>(
     settings: &Settings,
     shared: &Shared,
     gathered: &Gathered,
-    report: &Report,
+    seen: &[Seen],
     numbers: &mut Numbers,
 ) -> bool {
     let board = &shared.board;
@@ -101,7 +120,7 @@ fn count_parts<T: Files<File = File>>(
         && add_all(&mut numbers.calls, gathered.calls.as_slice())
         && add_compactions(&mut numbers.compactions, board)
         && add_reopenings(&mut numbers.reopenings, board)
-        && add_presences(&mut numbers.clients, report.clients.as_slice())
+        && add_presences(&mut numbers.clients, seen)
         && add_lengths(rt, alloc, &mut numbers.journal_octets, settings)
         && add_origins(&mut numbers.messages_known, gathered.known.as_slice())
 }

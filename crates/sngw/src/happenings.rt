@@ -101,6 +101,7 @@ where
     T: Wait + Clock + Print + Eprint,
 {
     let now = millisecond(rt);
+    let moment = now.saturating_sub(gathered.began) / 1_000;
     let mut news = News {
         alloc,
         told: Vec::new(alloc),
@@ -108,31 +109,42 @@ where
     };
     find_links(&mut news, gathered.links.as_mut_slice());
     find_troubles(rt, &mut news, shared, settings.log == 0, said);
-    find_gateway(&mut news, &shared.board, gathered.stood, happened);
-    find_dropped(&mut news, &shared.board, happened, now);
+    find_all(&mut news, settings, shared, gathered, happened, report, now);
+    let lost = tell(rt, settings.log, said, moment, news, report);
+    gathered.lost = gathered.lost.saturating_add(lost);
+}
+
+/// What is to be told of the gateway and of clients.
+fn find_all(
+    news: &mut News,
+    settings: &Settings,
+    shared: &Shared,
+    gathered: &mut Gathered,
+    happened: &mut Happened,
+    report: &Report,
+    now: u64,
+) {
+    find_gateway(news, &shared.board, gathered.stood, happened);
+    find_dropped(news, &shared.board, happened, now);
     if gathered.is_new {
         let clients = report.clients.as_slice();
-        find_clients(&mut news, settings, gathered, happened, clients, now);
+        find_clients(news, settings, gathered, happened, clients, now);
     }
-    gathered.lost = gathered.lost.saturating_add(news.lost);
-    let moment = now.saturating_sub(gathered.began) / 1_000;
-    let unsaid = tell(rt, alloc, settings.log, said, moment, news.told, report);
-    gathered.lost = gathered.lost.saturating_add(unsaid);
 }
 
 /// Says what is bad enough, and puts all of it to the events of the page. How many could not be
 /// told.
 fn tell<T: Wait + Print + Eprint>(
     rt: &T,
-    alloc: Global,
     level: u8,
     said: Said<'_>,
     moment: u64,
-    told: Vec<What>,
+    news: News,
     report: &mut Report,
 ) -> u64 {
+    let News { alloc, told, lost } = news;
+    let mut lost = lost;
     let mut events = mem::replace(&mut report.events, Sequence::empty(alloc)).into_vec();
-    let mut lost = 0u64;
     for what in told {
         let event = Event { moment, what };
         count_unless(&mut lost, say(rt, alloc, level, said, &event));
