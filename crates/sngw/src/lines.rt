@@ -109,11 +109,13 @@ impl Lines {
         if !self.is_alone(rt) {
             return self.wait_with(rt, line, most);
         }
-        let Some(line) = line else {
-            return false;
-        };
-        self.print(rt, line);
-        true
+        match line {
+            Some(line) => {
+                self.print(rt, line);
+                true
+            }
+            None => false,
+        }
     }
 
     /// Whether no thread prints.

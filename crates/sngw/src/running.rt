@@ -113,13 +113,21 @@ fn socket_of<T: Eprint + Net>(rt: &T, alloc: Global, settings: &Settings) -> Res
 
 /// What the threads of the program share.
 fn shared_of(alloc: Global, settings: &Settings) -> Result<Shared, Stop> {
-    let Some(pool) = Pool::new(alloc, settings.peers.len(), settings.numbers.as_slice()) else {
-        return Err(Stop::Memory);
-    };
-    let Some(board) = Board::of(alloc, settings) else {
-        return Err(Stop::Memory);
-    };
-    Ok(Shared { pool, board })
+    match Pool::new(alloc, settings.peers.len(), settings.numbers.as_slice()) {
+        Some(pool) => shared_by(alloc, settings, pool),
+        None => Err(Stop::Memory),
+    }
+}
+
+/// The same, once there is a pool.
+fn shared_by(alloc: Global, settings: &Settings, pool: Pool<TcpStream>) -> Result<Shared, Stop> {
+    match Board::of(alloc, settings) {
+        Some(board) => Ok(Shared { pool, board }),
+        None => {
+            drop(pool);
+            Err(Stop::Memory)
+        }
+    }
 }
 
 /// The listeners of links and of the page.
@@ -127,18 +135,36 @@ fn listeners_of<T>(rt: &T, settings: &Settings) -> Result<Listeners, Stop>
 where
     T: Eprint + Net<Listener = TcpListener, Stream = TcpStream>,
 {
-    let link = listener_at(rt, "link", settings.link)?;
-    match settings.status {
-        None => Ok(Listeners { link, status: None }),
+    match listener_at(rt, "link", settings.link) {
+        Ok(link) => listeners_with(rt, settings, link),
+        Err(stop) => Err(stop),
+    }
+}
+
+/// The same, once there is that of links.
+fn listeners_with<T>(rt: &T, settings: &Settings, link: TcpListener) -> Result<Listeners, Stop>
+where
+    T: Eprint + Net<Listener = TcpListener, Stream = TcpStream>,
+{
+    match status_listener(rt, settings.status) {
+        Ok(status) => Ok(Listeners { link, status }),
+        Err(stop) => {
+            drop(link);
+            Err(stop)
+        }
+    }
+}
+
+/// The listener of the page, if the settings name its address.
+fn status_listener<T>(rt: &T, at: Option<Addr>) -> Result<Option<TcpListener>, Stop>
+where
+    T: Eprint + Net<Listener = TcpListener, Stream = TcpStream>,
+{
+    match at {
+        None => Ok(None),
         Some(at) => match listener_at(rt, "status", at) {
-            Ok(status) => Ok(Listeners {
-                link,
-                status: Some(status),
-            }),
-            Err(stop) => {
-                drop(link);
-                Err(stop)
-            }
+            Ok(listener) => Ok(Some(listener)),
+            Err(stop) => Err(stop),
         },
     }
 }
@@ -148,14 +174,19 @@ fn listener_at<T>(rt: &T, key: &str, at: Addr) -> Result<TcpListener, Stop>
 where
     T: Eprint + Net<Listener = TcpListener, Stream = TcpStream>,
 {
-    let listener = match TcpListener::bind(rt, address(at)) {
-        Ok(listener) => listener,
-        Err(error) => return Err(no_socket(rt, key, error.kind())),
-    };
-    if listener.set_nonblocking(true).is_err() {
-        return Err(Stop::Socket);
+    match TcpListener::bind(rt, address(at)) {
+        Ok(listener) => without_waiting(listener),
+        Err(error) => Err(no_socket(rt, key, error.kind())),
     }
-    Ok(listener)
+}
+
+/// A listener that waits for nobody.
+fn without_waiting(listener: TcpListener) -> Result<TcpListener, Stop> {
+    if listener.set_nonblocking(true).is_ok() {
+        return Ok(listener);
+    }
+    drop(listener);
+    Err(Stop::Socket)
 }
 
 /// Where datagrams come from, and go to.

@@ -457,8 +457,9 @@ where
 /// Counts the calls of a closed shift, if anybody watches. If memory runs out they are not counted.
 fn count_calls<T: Wait>(rt: &T, alloc: Global, history: &[Entry], shared: &Shared) {
     if shared.board.is_watched {
-        if let Ok(calls) = tally(alloc, history) {
-            shared.board.put_calls(rt, calls);
+        match tally(alloc, history) {
+            Ok(calls) => shared.board.put_calls(rt, calls),
+            Err(_) => {}
         }
     }
 }
