@@ -55,7 +55,7 @@ pub struct Findings {
 }
 
 impl Findings {
-    /// Nothing yet. `asked` is the number of the gateway, where one was given.
+    /// Nothing yet. `asked` is the number of the gateway, if one was given.
     pub(crate) fn none(asked: Option<u8>) -> Findings {
         Findings {
             gateway: asked,
@@ -116,7 +116,7 @@ fn keep_fault(seen: &mut Findings, fault: Fault) {
     drop(mem::replace(&mut seen.fault, Some(fault)));
 }
 
-/// What can be shown where a record is bad; nothing where the fault is another.
+/// What can be shown if a record is bad; nothing if the fault is another.
 fn front(
     alloc: Global,
     gateway: u8,
@@ -143,7 +143,7 @@ fn front(
     }
 }
 
-/// What can be shown where a record is bad: the other slot where that is sound and newer, or where
+/// What can be shown if a record is bad: the other slot if that is sound and newer, or if
 /// the bad record stands in front of its slot's seal, so that nothing there counts yet; else the
 /// records in front of it, which are in these octets.
 fn newest(
@@ -176,7 +176,7 @@ fn is_newer(other: &Option<Reading>, own: &Option<Reading>) -> bool {
     }
 }
 
-/// What an opening reads of a slot, where the other one is empty and this one has records.
+/// What an opening reads of a slot, if the other one is empty and this one has records.
 fn sound(alloc: Global, gateway: u8, slot: Slot, octets: &[u8]) -> Option<Reading> {
     let found = alone(alloc, gateway, slot, octets);
     if has_records(&found) {

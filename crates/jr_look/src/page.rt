@@ -30,7 +30,7 @@ impl Page {
         }
     }
 
-    /// All that is printed; nothing where memory ran out.
+    /// All that is printed; nothing if memory ran out.
     pub(crate) fn whole(&self) -> Option<&str> {
         if self.is_short {
             None
@@ -60,7 +60,7 @@ impl Page {
         }
     }
 
-    /// Prints a name after a text: in quotes where it is text too, else in hexadecimal digits.
+    /// Prints a name after a text: in quotes if it is text too, else in hexadecimal digits.
     pub(crate) fn name(&mut self, front: &str, name: &[u8]) {
         self.text(front);
         match str::from_utf8(name) {

@@ -140,7 +140,7 @@ fn altered(page: &mut Page, octets: &[u8], words: &mut Words<'_>) {
     }
 }
 
-/// What octets are read as where one of them is another.
+/// What octets are read as if one of them is another.
 fn count_altered(page: &mut Page, mut octets: Vec<u8>, words: &mut Words<'_>) {
     set(&mut octets, words);
     if words.end() {

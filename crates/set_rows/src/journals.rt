@@ -142,7 +142,7 @@ fn open(page: &mut Page, store: &mut Store, words: &mut Words<'_>) {
     }
 }
 
-/// The line is wrong where a journal is open.
+/// The line is wrong if a journal is open.
 fn want_closed(store: &Store, words: &mut Words<'_>) {
     if store.journal.is_some() {
         words.fail(Stop::Line);

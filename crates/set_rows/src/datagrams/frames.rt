@@ -106,7 +106,7 @@ fn string_of(frame: &mut Frame) -> Option<&mut Octets> {
     }
 }
 
-/// The topic of a will, where there is a will.
+/// The topic of a will, if there is a will.
 fn topic_of(will: &mut Option<Will>) -> Option<&mut Octets> {
     match will {
         Some(will) => Some(&mut will.topic),
