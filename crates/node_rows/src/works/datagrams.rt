@@ -10,53 +10,59 @@ const COUNT: usize = 10_000;
 /// octets of the body, and how many more it may have.
 type Shape = (u8, u8, u8, u8);
 
-/// Each message of MQTT-SN 1.2, and those that publish more than once.
-const SHAPES: [Shape; 32] = [
-    (0x00, 0x01, 3, 0),
-    (0x01, 0x01, 1, 0),
-    (0x02, 0x01, 1, 4),
-    (0x04, 0x0c, 5, 22),
-    (0x05, 0x00, 1, 0),
-    (0x06, 0x00, 0, 0),
-    (0x07, 0x30, 2, 60),
-    (0x08, 0x00, 0, 0),
-    (0x09, 0x41, 0, 250),
-    (0x0a, 0x00, 5, 60),
-    (0x0b, 0x00, 5, 0),
-    (0x0c, 0x00, 5, 250),
-    (0x0c, 0x21, 5, 250),
-    (0x0c, 0x22, 5, 250),
-    (0x0c, 0x40, 5, 40),
-    (0x0d, 0x00, 5, 0),
-    (0x0e, 0x00, 2, 0),
-    (0x0f, 0x00, 2, 0),
-    (0x10, 0x00, 2, 0),
-    (0x12, 0x20, 4, 60),
-    (0x12, 0x21, 5, 0),
-    (0x13, 0x20, 6, 0),
-    (0x14, 0x20, 4, 60),
-    (0x15, 0x00, 2, 0),
-    (0x16, 0x73, 0, 23),
-    (0x17, 0x00, 0, 0),
-    (0x18, 0x00, 0, 0),
-    (0x18, 0x00, 2, 0),
-    (0x1a, 0x10, 2, 60),
-    (0x1b, 0x00, 1, 0),
-    (0x1c, 0x41, 0, 250),
-    (0x1d, 0x00, 1, 0),
-];
+/// Each message of MQTT-SN 1.2, and those that publish more than once: a kind in four octets.
+const SHAPES: &[u8; 128] = b"\
+    \x00\x01\x03\x00\
+    \x01\x01\x01\x00\
+    \x02\x01\x01\x04\
+    \x04\x0c\x05\x16\
+    \x05\x00\x01\x00\
+    \x06\x00\x00\x00\
+    \x07\x30\x02\x3c\
+    \x08\x00\x00\x00\
+    \x09\x41\x00\xfa\
+    \x0a\x00\x05\x3c\
+    \x0b\x00\x05\x00\
+    \x0c\x00\x05\xfa\
+    \x0c\x21\x05\xfa\
+    \x0c\x22\x05\xfa\
+    \x0c\x40\x05\x28\
+    \x0d\x00\x05\x00\
+    \x0e\x00\x02\x00\
+    \x0f\x00\x02\x00\
+    \x10\x00\x02\x00\
+    \x12\x20\x04\x3c\
+    \x12\x21\x05\x00\
+    \x13\x20\x06\x00\
+    \x14\x20\x04\x3c\
+    \x15\x00\x02\x00\
+    \x16\x73\x00\x17\
+    \x17\x00\x00\x00\
+    \x18\x00\x00\x00\
+    \x18\x00\x02\x00\
+    \x1a\x10\x02\x3c\
+    \x1b\x00\x01\x00\
+    \x1c\x41\x00\xfa\
+    \x1d\x00\x01\x00";
 
 /// The stream. One datagram in four has the long form of Length where the short one would do.
 pub(crate) fn stream(page: &mut Page) -> Vec<Vec<u8>> {
     let mut numbers = Numbers::new();
     let mut made = Vec::new(page.alloc());
     for _ in 0..COUNT {
-        let shape = SHAPES[usize::from(numbers.next() % 32)];
+        let shape = shape(numbers.next());
         let datagram = datagram(page, &mut numbers, shape);
         let is_short = made.push(datagram).is_err();
         page.stop_if_short(is_short);
     }
     made
+}
+
+/// The kind of datagram that a number picks.
+fn shape(number: u16) -> Shape {
+    let shapes = SHAPES;
+    let at = usize::from(number % 32) * 4;
+    (shapes[at], shapes[at + 1], shapes[at + 2], shapes[at + 3])
 }
 
 /// A datagram of this kind.
