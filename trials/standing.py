@@ -16,7 +16,7 @@ The parts, all where none is named, with about the seconds that each takes. An u
   idle      30  a gateway that has nothing to do wakes at most 140 times a second, and a quiet link costs no more at the end of a long shift than at its begin
   unread    30  nobody reads what the program prints: it serves on, tells later how many lines were left out, and ends when it is to end, also by a fault
   threads   20  no thread is made for eight seconds: afterwards clients are served within 15
-  slow      15  a shift does not wait for what the network has not taken yet; it needs root, and tc
+  slow      15  a shift does not wait for what the network has not taken yet; it needs root, tc, and net.core.wmem_max of 376832
   listens   40  20 sleepers whose messages came to a peer wake right after a start: none is told that nothing waits; where the peer tells what it made in its shift,
                 where it answers a digest eleven seconds after its last answer, and where each sync of the gateway takes half a second
   alone      7  a gateway whose peer is away answers nobody after a start, and everybody within six seconds
@@ -571,13 +571,13 @@ def threads(program: str, folder: str) -> str:
 
 
 def behind_a_radio(program: str, folder: str) -> tuple:
-    """A network beyond this one, what starts a program there, and who keeps it. What comes from there comes at 128 kbit/s."""
+    """A network beyond this one, what starts a program there, and who keeps it. What comes from there comes at 1 Mbit/s."""
     keeper = subprocess.Popen(["unshare", "-n", "sleep", "300"])
     time.sleep(0.5)
     there = f"nsenter -t {keeper.pid} -n"
     for words in (f"ip link add here type veth peer name there netns {keeper.pid}", "ip addr add 10.9.9.2/24 dev here", "ip link set here up",
                   f"{there} ip link set lo up", f"{there} ip addr add 10.9.9.1/24 dev there", f"{there} ip link set there up",
-                  f"{there} tc qdisc add dev there root tbf rate 128kbit burst 4kb limit 2mb"):
+                  f"{there} tc qdisc add dev there root tbf rate 1mbit burst 4kb limit 2mb"):
         subprocess.run(words.split(), check=True)
     start = os.path.join(folder, "start")
     with open(start, "w", encoding="ascii") as text:
@@ -590,6 +590,9 @@ def slow(program: str, folder: str) -> str:
     if not os.environ.get("OWN_NETWORK"):
         if os.geteuid() != 0 or not shutil.which("tc"):
             raise LeftOut("it needs root, and tc")
+        with open("/proc/sys/net/core/wmem_max", encoding="ascii") as most:
+            if int(most.read()) < 376_832:
+                raise LeftOut("it needs net.core.wmem_max of 376832")
         words = f"ip link set lo up && exec {sys.executable} {os.path.abspath(__file__)} {program} slow"
         found = subprocess.run(["unshare", "-n", "sh", "-c", words], env={**os.environ, "OWN_NETWORK": "1"}, capture_output=True, text=True, check=False)
         said = found.stdout.strip().split(": ", 1)[-1] or found.stderr.strip()[-200:]
@@ -601,23 +604,31 @@ def slow(program: str, folder: str) -> str:
     try:
         with Gateway(start, folder, 1, ports, steps="1010", workers="2") as gateway:
             gateway.start()
-            crowd = [Client(b"c-%d" % one, gateway) for one in range(480)]
-            for client in crowd:
-                client.connect()
-                client.ask(subscribe(b"sl", 1, 0x02), b"\x08\x13")
-            with Client(b"teller", gateway) as teller, Client(b"asker", gateway) as asker:
+            with Client(b"sleeper", gateway) as sleeper, Client(b"teller", gateway) as teller, Client(b"asker", gateway) as asker:
+                sleeper.connect()
+                sleeper.ask(subscribe(b"sl", 1, 0x02), b"\x08\x13")
+                sleeper.sleep(600)
                 teller.connect()
+                for one in range(900):
+                    teller.send(publish(b"sl", b"." * 100, 0, 0x02))
+                    if one % 10 == 9:
+                        asker.ask(search(), b"\x03\x02")
+                before = len(gateway.shifts())
+                while len(gateway.shifts()) == before:
+                    asker.ask(search(), b"\x03\x02")
+                for _ in range(950):
+                    asker.ask(search(), b"\x03\x02")
                 shifts = len(gateway.shifts())
-                teller.send(publish(b"sl", b"." * 100, 0, 0x02))
+                sleeper.send(ping(b"sleeper"))
                 began = time.monotonic()
                 while len(gateway.shifts()) == shifts and time.monotonic() - began < 20:
                     asker.send(search())
-                    time.sleep(0.00005)
+                    time.sleep(0.0005)
                 took = time.monotonic() - began
     finally:
         keeper.kill()
         keeper.wait()
-    said = f"a shift of which some 40 calls were left was over {took:.2f} seconds after a message of 100 octets was published to 480 clients at 128 kbit/s"
+    said = f"a shift of which some 50 calls were left was over {took:.2f} seconds after a client woke for which 900 messages of 100 octets waited, at 1 Mbit/s"
     expect(took < 0.3, said)
     return said
 
