@@ -263,16 +263,15 @@ where
     T: Threads + Wait + Sync + Clock + Print + Eprint + Files<File = File>,
     T: Net<Listener = TcpListener, Stream = TcpStream>,
 {
-    let Listeners { link, status } = listeners;
     if !shared.board.is_watched {
-        keep_all(rt, alloc, doors, link, shared, over, said);
+        keep_all(rt, alloc, doors, &listeners.link, shared, over, said);
         return;
     }
     let mut showing = || {
-        show_all(rt, alloc, settings, status, shared, over, said);
+        show_all(rt, alloc, settings, &listeners.status, shared, over, said);
     };
     let mut keeping = || {
-        keep_all(rt, alloc, doors, link, shared, over, said);
+        keep_all(rt, alloc, doors, &listeners.link, shared, over, said);
     };
     let ((), ()) = thread::join_mut(rt, &mut showing, &mut keeping);
 }
