@@ -68,6 +68,7 @@ pub(crate) fn told(
     let config = Config {
         gateway,
         advertise,
+        lifetime: 0,
         field,
         predefined,
     };

@@ -8,7 +8,7 @@ use std::io::Write;
 use toml::{Table, Value};
 
 /// The keys that mean something.
-const KEYS: [Key; 15] = [
+const KEYS: [Key; 16] = [
     Key::Gateway,
     Key::Listen,
     Key::Link,
@@ -16,6 +16,7 @@ const KEYS: [Key; 15] = [
     Key::Workers,
     Key::Steps,
     Key::Advertise,
+    Key::Lifetime,
     Key::Field,
     Key::Peers,
     Key::Predefined,

@@ -16,6 +16,7 @@
 //! - `stop`: why the program ends early (`Stop`).
 //! - `running`: shifts one after the other.
 //! - `lines`: lines that are printed beside the work.
+//! - `dates`: the date of the machine, by which moments go.
 //! - `keeping`: when the journal is written anew, and when a gateway that cannot write tries again.
 //! - `doors`: how links are made: peers are dialled, others are accepted.
 //! - `working`: the threads of one shift.
@@ -33,6 +34,7 @@ mod admission;
 mod board;
 mod callers;
 mod counting;
+mod dates;
 mod doors;
 mod gathering;
 mod glancing;
@@ -50,6 +52,7 @@ mod watcher;
 mod words;
 mod working;
 
+use crate::dates::hold_lifetime;
 use crate::lines::{Lines, Output, Said};
 use crate::reading::settings_at;
 use crate::running::run;
@@ -59,6 +62,7 @@ use file_disk::{FileDisk, FileDiskFault};
 use gw_main::begin;
 use gw_main::options::Settings;
 use gw_node::Node;
+use gw_wire::date;
 use jr_disk::{Disk, Slot};
 use rep_state::Folded;
 use std::alloc::Global;
@@ -150,17 +154,18 @@ where
     let settings = settings_at(rt, alloc, asked.config.as_str(), err);
     let shifts = asked.shifts;
     drop(asked);
-    let settings = settings?;
-    let done = start_by(rt, alloc, &settings, shifts, said, out, err);
+    let mut settings = settings?;
+    let done = start_by(rt, alloc, &mut settings, shifts, said, out, err);
     drop(settings);
     done
 }
 
-/// Opens a gateway by its settings, and works so many shifts.
+/// Opens a gateway by its settings, and works so many shifts. While the machine has no date, it is
+/// opened without a lifetime.
 fn start_by<T, O: Write, E: Write>(
     rt: &T,
     alloc: Global,
-    settings: &Settings,
+    settings: &mut Settings,
     shifts: u64,
     said: Said<'_>,
     out: &mut O,
@@ -171,7 +176,10 @@ where
     T: Net<Listener = TcpListener, Stream = TcpStream>,
 {
     let disk = disk_at(rt, alloc, settings, err)?;
+    let today = date(rt);
+    let lifetime = hold_lifetime(settings, today, err);
     let opened = begin::<Folded, FileDisk, O, E>(alloc, settings, disk, out, err).ok();
+    settings.lifetime = lifetime;
     let Some(node) = opened else {
         return Err(Stop::Opening);
     };
@@ -179,7 +187,7 @@ where
         drop(node);
         return Ok(());
     }
-    run(rt, alloc, settings, node, shifts, said)
+    run(rt, alloc, settings, node, shifts, today, said)
 }
 
 /// The words of the command line. `None` if memory ran out.
