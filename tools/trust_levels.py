@@ -39,7 +39,7 @@ SENTENCES = [
      "to its set: `HasCome`. By `promise_laws::exchanged_field` it has what it took, and what a peer had whose answer it took.",
      "That a PUBLISH is answered. Recipients are those that this gateway's set shows: a subscription made at another gateway counts once "
      "its operations have come. If a client is neither Active, Asleep nor Awake, it is a recipient only at quality of service 1 and 2. "
-     "At 2 an id that is used again soon counts as received: see `received_laws::received_in_a_run`."),
+     "At 2 an id that is used again soon counts as received: see `promise_laws::received_in_a_run`."),
     ("Sets only grow.",
      "Take any run of a field, and two moments of it. What a gateway has made and taken by the first moment, it has at the second, "
      "whatever came and whatever failed in between.",

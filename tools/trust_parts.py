@@ -43,7 +43,7 @@ PARTS = [
       "field_laws::one_run", "field_laws::answered_field", "row_laws::own_names", "row_laws::fresh_names", "field_laws::own_full",
       "field_laws::takes_at_zero", "promise_laws::nothing_accepted_vanishes", "promise_laws::accepted_stays", "promise_laws::asked_is_served",
       "promise_laws::acknowledged_in_a_run", "promise_laws::exchanged_field",
-      "received_laws::received_in_a_run"],
+      "promise_laws::received_in_a_run"],
      []),
     ("The step table",
      "What a gateway does with each frame of MQTT-SN 1.2, and when time goes by: what it sends, what it writes and what it notes. "

@@ -6,3 +6,9 @@ mod Acking
 mod Had
 mod Promising
 mod Exchanging
+mod Bringing
+mod Carrying
+mod Following
+mod Settling
+mod Admitting
+mod Tracing

@@ -2,3 +2,4 @@ pub mod Accepted
 pub mod Asked
 pub mod Acknowledged
 pub mod Promised
+pub mod Received

@@ -34,9 +34,9 @@ use Rattle.sn_tick.specs.Due.{first_due}
 use Rattle.sn_tick.specs.Ticking.{is_old, dialog_ended, dialogs_ended, needs_timer, timer_begun, cleaned, may_advertise, advertised, published, lost, retried, plan_due, plan_if_due, tick}
 use Rattle.row_laws.proofs.Planned.{IsNumbered, planned-parts, parts-more}
 use Rattle.step_laws.proofs.Keeping.{fold_keeps}
-use Rattle.received_laws.proofs.Bringing.{HasOne, applied-brings}
-use Rattle.received_laws.proofs.Carrying.{IsNewPublish, IsCarried, Carried, CarriedFor, CarriedRow, carried-more, row-carried}
-use Rattle.received_laws.proofs.Following.{for-carried}
+use Rattle.promise_laws.proofs.Bringing.{HasOne, applied-brings}
+use Rattle.promise_laws.proofs.Carrying.{IsNewPublish, IsCarried, Carried, CarriedFor, CarriedRow, carried-more, row-carried}
+use Rattle.promise_laws.proofs.Following.{for-carried}
 
 module _ (seen : Seen) (A : List ℕ → ℕ → Type 0) where
   -- a session operation brings no other id than those that were received, or are accepted

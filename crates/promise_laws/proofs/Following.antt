@@ -27,7 +27,7 @@ use Rattle.sn_exchange.specs.Exchanges.{left, put_left, message_of, open_exchang
 use Rattle.sn_exchange.specs.Delivery.{next_after, Stop, begun, entry_or_fresh, id_to_tell, register_first, deliver_by, none_left, and_then, deliver, deliver_left, deliver_if}
 use Rattle.sn_exchange.specs.Resending.{register_by, register_again, publish_by, publish_again, resend_in, resend_if}
 use Rattle.sn_exchange.specs.Following.{peer_at, followed_by, followed_for}
-use Rattle.received_laws.proofs.Carrying.{IsCarried, Carried, CarriedFor, carried-more, carried-if, choose-carried}
+use Rattle.promise_laws.proofs.Carrying.{IsCarried, Carried, CarriedFor, carried-more, carried-if, choose-carried}
 
 module _ (seen : Seen) (A : List ℕ → ℕ → Type 0) (c : List ℕ) where
   abbrev Holds : Drafted → Type 0

@@ -1,5 +1,5 @@
-use Rattle.received_laws.proofs.Tracing.{field-received}
-use Rattle.received_laws.proofs.laws.received_in_a_run.Goals as goal
+use Rattle.promise_laws.proofs.Tracing.{field-received}
+use Rattle.promise_laws.proofs.received.received_in_a_run.Goals as goal
 
 pub returns : goal.returns
 returns c = record {

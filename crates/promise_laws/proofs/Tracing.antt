@@ -41,11 +41,11 @@ use Rattle.gw_world.proofs.Alone.{delta-stands}
 use Rattle.gw_world.proofs.Answering.{Answered, answered}
 use Rattle.gw_world.proofs.Each.{set-cases}
 use Rattle.promise_laws.specs.Acknowledged.{EndsWith}
-use Rattle.received_laws.specs.Received.{AcceptsPublish, Accepts, IsAcceptedBy}
-use Rattle.received_laws.proofs.Bringing.{HasOne, seen-brings}
-use Rattle.received_laws.proofs.Carrying.{IsNewPublish}
-use Rattle.received_laws.proofs.Settling.{step-brings, tick-brings}
-use Rattle.received_laws.proofs.Accepting.{new-published, new-answered}
+use Rattle.promise_laws.specs.Received.{AcceptsPublish, Accepts, IsAcceptedBy}
+use Rattle.promise_laws.proofs.Bringing.{HasOne, seen-brings}
+use Rattle.promise_laws.proofs.Carrying.{IsNewPublish}
+use Rattle.promise_laws.proofs.Settling.{step-brings, tick-brings}
+use Rattle.promise_laws.proofs.Admitting.{new-published, new-answered}
 
 -- the field has an operation that brings the id: a gateway has taken it, or refused it when its disk failed, or the deltas of the
 -- list have it

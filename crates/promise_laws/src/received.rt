@@ -14,7 +14,7 @@ ghost use Rattle.gw_world.specs.declared.event.Event.{Event};
 ghost use Rattle.gw_world.specs.declared.event.Answer.{Answer};
 ghost use Rattle.gw_world.specs.Field.{Field, new_field, Run};
 ghost use Rattle.promise_laws.specs.Accepted.{HasAnswered};
-ghost use Rattle.received_laws.specs.Received.{IsAcceptedBy};
+ghost use Rattle.promise_laws.specs.Received.{IsAcceptedBy};
 
 /// An id counts as received only after a PUBLISH with it was accepted. If a gateway's session of a
 /// client has received a message id, an event of the run accepted a PUBLISH of that client with the

@@ -68,7 +68,7 @@ use Rattle.sn_deliver.specs.Acknowledging.{awaiting, put_awaiting, over, done, t
 use Rattle.sn_deliver.specs.Serving.{publish_of, publish_in_at, pubrel_of, ack_of}
 use Rattle.sn_deliver.specs.Waking.{claimed, has_nothing, answered, woken_by, woken_if, woken, wake_of, wake}
 use Rattle.sn_deliver.specs.Steps.{row_for}
-use Rattle.received_laws.proofs.Bringing.{Brings}
+use Rattle.promise_laws.proofs.Bringing.{Brings}
 
 -- The frame is a PUBLISH at quality of service 2 of the client that is bound to the address, with this id, about a topic. The
 -- session has not received the id, and has room for it.

@@ -31,7 +31,7 @@ use Rattle.cause_laws.proofs.Acked.{plan-sends}
 use Rattle.cause_laws.proofs.Grown.{follows-stay}
 use Rattle.put_laws.specs.Puts.{puts_of, puts_at, puts_bound, puts_by_level, IsAnswered, IsPublished}
 use Rattle.put_laws.proofs.Putting.{step-messages}
-use Rattle.received_laws.proofs.Carrying.{IsNewPublish}
+use Rattle.promise_laws.proofs.Carrying.{IsNewPublish}
 
 module _ (g : ℕ) (predefined : Entries) (seen : Seen) (local : Local) (a : Addr) (frame : Frame) (now : ℕ) (plan : Plan) (is : step g predefined seen local a frame now ≡ Some plan)
     (c : List ℕ) (id : ℕ) (new : IsNewPublish predefined seen local a frame c id) where

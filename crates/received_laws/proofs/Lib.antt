@@ -1,6 +1,0 @@
-mod Bringing
-mod Carrying
-mod Following
-mod Settling
-mod Accepting
-mod Tracing
