@@ -275,14 +275,18 @@ fn arg<'a>(alloc: Global, word: Word) -> Arg<'a> {
     let arg = Arg::new(alloc, name).help(help);
     match form {
         Form::Flag => arg.long(name).action(ArgAction::SetTrue),
-        Form::Needed => arg.required(true).value_name(value),
-        Form::NeededText => arg
-            .required(true)
-            .value_name(value)
-            .allow_negative_numbers(true),
-        Form::NeededNumber => number(arg.required(true), value),
-        Form::LastNumber(default) => number(arg, value).default_value(default),
-        _ => option(arg.long(name).value_name(value), form),
+        _ => valued(arg.value_name(value), name, form),
+    }
+}
+
+/// A word with a value.
+fn valued<'a>(arg: Arg<'a>, name: &'a str, form: Form) -> Arg<'a> {
+    match form {
+        Form::Needed => arg.required(true),
+        Form::NeededText => arg.required(true).allow_negative_numbers(true),
+        Form::NeededNumber => number(arg.required(true)),
+        Form::LastNumber(default) => number(arg).default_value(default),
+        _ => option(arg.long(name), form),
     }
 }
 
@@ -290,17 +294,17 @@ fn arg<'a>(alloc: Global, word: Word) -> Arg<'a> {
 fn option<'a>(arg: Arg<'a>, form: Form) -> Arg<'a> {
     match form {
         Form::Lettered(letter) => arg.short(letter),
-        Form::Number => arg.value_parser(value_parser!(u16)),
-        Form::NumberOr(default) => arg.value_parser(value_parser!(u16)).default_value(default),
+        Form::Number => number(arg),
+        Form::NumberOr(default) => number(arg).default_value(default),
         Form::Level => level(arg, OF_OTHERS.as_slice()),
         Form::AnyLevel => level(arg, OF_PUBLISH.as_slice()),
         _ => arg,
     }
 }
 
-/// A number, which help calls so.
-fn number<'a>(arg: Arg<'a>, value: &'a str) -> Arg<'a> {
-    arg.value_name(value).value_parser(value_parser!(u16))
+/// A number.
+fn number<'a>(arg: Arg<'a>) -> Arg<'a> {
+    arg.value_parser(value_parser!(u16))
 }
 
 /// A quality of service.
