@@ -10,7 +10,7 @@ use Rattle.rep_op.specs.ClientIds.{IsClientId}
 use Rattle.rep_op.specs.declared.op.Put.{Put}
 use Rattle.rep_op.specs.declared.op.Op.{Op}
 use Rattle.rep_op.specs.declared.op.Op.TheVariants.{Session as OfSession, Put as OfPut, Ack, Retain as OfRetain}
-use Rattle.rep_read.specs.Reading.{Reader, both, by_first, ranged, octet_at, number_at, is_counted, client_at, topic_at, flag_at, qos_at, body_at, change_at, session_op_of, session_op_at, expires_at, later_at, put_op_of, put_op_at, ack_of, range_at, ack_at, retain_op_of, retain_op_at, is_kind, of_kind_at, op_at}
+use Rattle.rep_read.specs.Reading.{Reader, both, by_first, ranged, octet_at, number_at, is_counted, client_at, topic_at, flag_at, qos_at, body_at, change_at, session_op_of, session_op_at, expires_at, later_at, put_op_of, content_at, put_op_at, ack_of, range_at, ack_at, retain_op_of, retain_op_at, is_kind, of_kind_at, op_at}
 use Rattle.rep_op.specs.Spelling.{client_octets, later_octets, put_octets, retained_octets, op_octets}
 use Rattle.rep_op.specs.Sessions.{text_octets, flag_octet, change_octets}
 use Rattle.rep_op.specs.Values.{IsValue}
@@ -206,7 +206,7 @@ put_back v (OfPut c p) h =
     (x, refl, fits, refl)
 
 put_op_law : (v : Version) → Law (put_op_at v) (tail_octets v) (FitsPutOp v)
-unfolding put_op_at
+unfolding put_op_at content_at
 put_op_law v =
     made_law put_op_of (both client_at (both (ranged is_counted octet_at) (both (ranged is_counted (number_at w64)) (both topic_at (both qos_at (both (later_at v) body_at)))))) (put_text v) (FitsPutParts v)
     (both_law client_at client_octets IsClientId client_law

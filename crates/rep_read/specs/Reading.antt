@@ -350,14 +350,17 @@ put_op_of x =
       body = x.1.1.1.1.1.1;
     })
 
--- a message: client, origin, sequence number, topic, quality of service, what version 2 says,
--- octets
+-- what stands after the topic of a message: quality of service, what version 2 says, octets
+unfoldable pub content_at : Version → Reader (ℕ × ((Bool × ℕ) × List ℕ))
+content_at version = both qos_at (both (later_at version) body_at)
+
+-- a message: client, origin, sequence number, topic, content
 unfoldable pub put_op_at : Version → Reader Op
 put_op_at version =
     made put_op_of (both client_at
     (both (ranged is_counted octet_at)
     (both (ranged is_counted (number_at w64))
-    (both topic_at (both qos_at (both (later_at version) body_at))))))
+    (both topic_at (content_at version)))))
 
 -- a range of acknowledgements of its client, origin, first and last sequence number
 abbrev pub ack_of : List ℕ × (ℕ × (ℕ × ℕ)) → Op

@@ -1,7 +1,7 @@
 //! Operations.
 
 ghost use Rattle.std.specs.Prelude.{◌≡◌, nat_le};
-ghost use Rattle.rep_read.specs.Reading.{Gives, session_op_at, expires_at, later_at, put_op_at, range_at, ack_at, retain_op_at, last_kind, op_at};
+ghost use Rattle.rep_read.specs.Reading.{Gives, session_op_at, expires_at, later_at, content_at, put_op_at, range_at, ack_at, retain_op_at, last_kind, op_at};
 
 use super::field::{
     read_body, read_client, read_counted_eight, read_counted_octet, read_eight, read_octet,
@@ -10,6 +10,8 @@ use super::field::{
 use super::part::{level_of, read_flag};
 use super::session::read_change;
 use rep_op::{Op, OpsFault, Put, Retained, Stamp, Version};
+use sn_session::Message;
+use sn_tables::QosLevel;
 use std::alloc::Global;
 
 /// The session operation after its kind.
@@ -57,8 +59,24 @@ fn read_later(version: Version, bytes: &[u8]) -> Result<((bool, u64), &[u8]), Op
     }
 }
 
+/// The quality of service of a message, what version 2 says of it, and its octets.
+type Content = (QosLevel, (bool, u64), Message);
+
+/// What stands after the topic of a message.
+#[tactic(auto, unfolding(crate::specs::Reading::content_at, crate::specs::Reading::qos_at))]
+fn read_content(alloc: Global, version: Version, bytes: &[u8]) -> Result<(Content, &[u8]), OpsFault>
+    ensures { Gives (λ x. ((x.0.0, (x.0.1, x.0.2)), x.1.now)) result
+        (content_at version bytes.now) }
+{
+    let (number, rest) = read_octet(bytes)?;
+    let qos = level_of(number)?;
+    let (later, rest) = read_later(version, rest)?;
+    let (body, rest) = read_body(alloc, rest)?;
+    Ok(((qos, later, body), rest))
+}
+
 /// The put after its kind.
-#[tactic(auto, unfolding(crate::specs::Reading::put_op_at, crate::specs::Reading::qos_at))]
+#[tactic(auto, unfolding(crate::specs::Reading::put_op_at))]
 fn read_put(alloc: Global, version: Version, bytes: &[u8]) -> Result<(Op, &[u8]), OpsFault>
     ensures { Gives (λ x. (x.0, x.1.now)) result (put_op_at version bytes.now) }
 {
@@ -66,10 +84,7 @@ fn read_put(alloc: Global, version: Version, bytes: &[u8]) -> Result<(Op, &[u8])
     let (origin, rest) = read_counted_octet(rest)?;
     let (seq, rest) = read_counted_eight(rest)?;
     let (topic, rest) = read_topic(alloc, rest)?;
-    let (number, rest) = read_octet(rest)?;
-    let qos = level_of(number)?;
-    let ((retain, expires), rest) = read_later(version, rest)?;
-    let (body, rest) = read_body(alloc, rest)?;
+    let ((qos, (retain, expires), body), rest) = read_content(alloc, version, rest)?;
     let put = Put {
         origin,
         seq,

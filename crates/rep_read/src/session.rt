@@ -10,8 +10,8 @@ use super::part::{
 };
 use super::table::{read_received, read_subscriptions, read_topics};
 use rep_op::OpsFault;
-use sn_session::{Presence, Session, SessionOp};
-use sn_tables::{Subscription, TopicEntry};
+use sn_session::{Outbound, Presence, Session, SessionOp, Will};
+use sn_tables::{Received, Subscription, Subscriptions, TopicEntry, Topics};
 use std::alloc::Global;
 
 /// Where the client is, whether its session is clean, how long, and the next message id.
@@ -26,17 +26,36 @@ fn read_head(bytes: &[u8]) -> Result<((Presence, bool, u16, u16), &[u8]), OpsFau
     Ok(((presence, clean, duration, next_id), rest))
 }
 
-/// A session.
-#[tactic(auto, unfolding(crate::specs::Reading::session_at, crate::specs::Reading::parts_at))]
-fn read_session(alloc: Global, bytes: &[u8]) -> Result<(Session, &[u8]), OpsFault>
-    ensures { Gives (λ x. (x.0, x.1.now)) result (session_at bytes.now) }
+/// The parts of a session that differ in size: its tables, its will and its exchange.
+type Parts = (
+    Topics,
+    Subscriptions,
+    Option<Will>,
+    Received,
+    Option<Outbound>,
+);
+
+/// The tables of a session, its will and its exchange.
+#[tactic(auto, unfolding(crate::specs::Reading::parts_at))]
+fn read_parts(alloc: Global, bytes: &[u8]) -> Result<(Parts, &[u8]), OpsFault>
+    ensures { Gives (λ x. ((x.0.0, (x.0.1, (x.0.2, (x.0.3, x.0.4)))), x.1.now)) result
+        (parts_at bytes.now) }
 {
-    let ((presence, clean, duration, next_id), rest) = read_head(bytes)?;
-    let (topics, rest) = read_topics(alloc, rest)?;
+    let (topics, rest) = read_topics(alloc, bytes)?;
     let (subscriptions, rest) = read_subscriptions(alloc, rest)?;
     let (will, rest) = read_some_will(alloc, rest)?;
     let (received, rest) = read_received(alloc, rest)?;
     let (outbound, rest) = read_some_exchange(rest)?;
+    Ok(((topics, subscriptions, will, received, outbound), rest))
+}
+
+/// A session.
+#[tactic(auto, unfolding(crate::specs::Reading::session_at))]
+fn read_session(alloc: Global, bytes: &[u8]) -> Result<(Session, &[u8]), OpsFault>
+    ensures { Gives (λ x. (x.0, x.1.now)) result (session_at bytes.now) }
+{
+    let ((presence, clean, duration, next_id), rest) = read_head(bytes)?;
+    let ((topics, subscriptions, will, received, outbound), rest) = read_parts(alloc, rest)?;
     let session = Session {
         presence,
         clean,

@@ -17,3 +17,6 @@ keeps_through old text mid new e keeps =
 pub three_parts : (old head a b x y z : List ℕ) → x ≡ old ++ head → y ≡ x ++ a → z ≡ y ++ b → z ≡ old ++ (head ++ (a ++ b))
 three_parts old head a b x y z ex ey ez =
     ez ∙ (ap (λ (t : List ℕ). t ++ b) ey ∙ (ap (λ (t : List ℕ). (t ++ a) ++ b) ex ∙ simp append_assoc))
+
+pub two_parts : (old a b x z : List ℕ) → x ≡ old ++ a → z ≡ x ++ b → z ≡ old ++ (a ++ b)
+two_parts old a b x z ex ez = ez ∙ (ap (λ (t : List ℕ). t ++ b) ex ∙ append_assoc old a b)

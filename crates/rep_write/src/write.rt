@@ -3,14 +3,17 @@
 #![tactic(auto, using(crate::proofs::Writing::keeps_itself, crate::proofs::Writing::keeps_more, crate::proofs::Writing::keeps_through))]
 
 ghost use Rattle.std.specs.Prelude.{IsTrue, ◌∷◌, ◌++◌};
+ghost use Rattle.byteorder.specs.Endian.{big_bytes};
+ghost use Rattle.rep_op.specs.Ranges.{is_change};
 ghost use Rattle.rep_op.specs.WellMade as spec;
-ghost use Rattle.rep_op.specs.Sessions.{text_octets};
+ghost use Rattle.rep_op.specs.Sessions.{text_octets, change_octets};
 ghost use Rattle.rep_op.specs.Spelling.{client_octets, later_octets, put_octets, retained_octets, op_octets};
 ghost use Rattle.rep_write.specs.Writing.{Writes};
 
 use super::write_session::{write_change, write_text};
 use octets::{NoMemory, append_u64};
-use rep_op::{ClientId, Op, Put, Retained, Version};
+use rep_op::{ClientId, Op, Put, Retained, Stamp, Version};
+use sn_session::SessionOp;
 
 /// Writes a client.
 pub fn write_client(out: &mut Vec<u8>, client: &ClientId) -> Result<(), NoMemory>
@@ -76,6 +79,44 @@ fn write_retained(out: &mut Vec<u8>, kept: &Retained) -> Result<(), NoMemory>
     Ok(())
 }
 
+/// Writes of what kind an operation is, and of which client.
+fn write_kind(out: &mut Vec<u8>, kind: u8, client: &ClientId) -> Result<(), NoMemory>
+    ensures { Writes (kind ∷ client_octets client.now) out.old.items out.new.items result }
+{
+    out.push(kind)?;
+    write_client(out, client)?;
+    Ok(())
+}
+
+/// Writes a change of a session with its stamp and its counter.
+fn write_stamped(
+    out: &mut Vec<u8>,
+    stamp: &Stamp,
+    counter: u8,
+    change: &SessionOp,
+) -> Result<(), NoMemory>
+    requires { IsTrue (is_change change.now) }
+    ensures { Writes (big_bytes 8 stamp.now.epoch
+        ++ stamp.now.gateway ∷ counter ∷ change_octets change.now)
+        out.old.items out.new.items result }
+{
+    append_u64(out, stamp.epoch)?;
+    out.extend_from_slice(&[stamp.gateway, counter])?;
+    write_change(out, change)?;
+    Ok(())
+}
+
+/// Writes whose messages are acknowledged, from the first to the last.
+fn write_range(out: &mut Vec<u8>, origin: u8, first: u64, last: u64) -> Result<(), NoMemory>
+    ensures { Writes ((origin ∷ big_bytes 8 first) ++ big_bytes 8 last)
+        out.old.items out.new.items result }
+{
+    out.push(origin)?;
+    append_u64(out, first)?;
+    append_u64(out, last)?;
+    Ok(())
+}
+
 /// Writes an operation as this version spells it.
 pub fn write_op(out: &mut Vec<u8>, version: Version, op: &Op) -> Result<(), NoMemory>
     requires { IsTrue (spec.is_well_made op.now) }
@@ -88,15 +129,11 @@ pub fn write_op(out: &mut Vec<u8>, version: Version, op: &Op) -> Result<(), NoMe
             counter,
             change,
         } => {
-            out.push(1)?;
-            write_client(out, client)?;
-            append_u64(out, stamp.epoch)?;
-            out.extend_from_slice(&[stamp.gateway, *counter])?;
-            write_change(out, change)?;
+            write_kind(out, 1, client)?;
+            write_stamped(out, stamp, *counter, change)?;
         }
         Op::Put { client, put } => {
-            out.push(2)?;
-            write_client(out, client)?;
+            write_kind(out, 2, client)?;
             write_put(out, version, put)?;
         }
         Op::Ack {
@@ -105,11 +142,8 @@ pub fn write_op(out: &mut Vec<u8>, version: Version, op: &Op) -> Result<(), NoMe
             first,
             last,
         } => {
-            out.push(3)?;
-            write_client(out, client)?;
-            out.push(*origin)?;
-            append_u64(out, *first)?;
-            append_u64(out, *last)?;
+            write_kind(out, 3, client)?;
+            write_range(out, *origin, *first, *last)?;
         }
         Op::Retain { topic, retained } => {
             out.push(4)?;

@@ -11,7 +11,8 @@ ghost use Rattle.rep_write.specs.Writing.{Writes};
 
 use octets::{NoMemory, append_u16, append_u64};
 use sn_session::{Outbound, Phase, Presence, Session, SessionOp, Will, WillTopic};
-use sn_tables::{Received, Subscription, Subscriptions, TopicEntry, Topics};
+use sn_tables::{QosLevel, Received, Subscription, Subscriptions, TopicEntry, Topics};
+use sn_topic::{Filter, TopicName};
 
 /// The octet of a presence.
 fn presence_code(presence: Presence) -> u8
@@ -47,14 +48,22 @@ pub fn write_text(out: &mut Vec<u8>, text: &[u8]) -> Result<(), NoMemory>
     Ok(())
 }
 
+/// Writes a topic id, whether the client knows it, and its name.
+fn write_named(out: &mut Vec<u8>, id: u16, known: bool, name: &TopicName) -> Result<(), NoMemory>
+    ensures { Writes (big_bytes 2 id ++ flag_octet known ∷ text_octets name.now)
+        out.old.items out.new.items result }
+{
+    append_u16(out, id)?;
+    out.push(known as u8)?;
+    write_text(out, name.bytes())?;
+    Ok(())
+}
+
 /// Writes a topic id.
 fn write_entry(out: &mut Vec<u8>, entry: &TopicEntry) -> Result<(), NoMemory>
     ensures { Writes (topic_octets entry.now) out.old.items out.new.items result }
 {
-    append_u16(out, entry.id)?;
-    out.push(entry.known as u8)?;
-    write_text(out, entry.name.bytes())?;
-    Ok(())
+    write_named(out, entry.id, entry.known, &entry.name)
 }
 
 /// Writes topic ids one after the other.
@@ -76,13 +85,20 @@ fn write_topics(out: &mut Vec<u8>, topics: &Topics) -> Result<(), NoMemory>
     Ok(())
 }
 
+/// Writes a filter and a quality of service.
+fn write_filter(out: &mut Vec<u8>, filter: &Filter, qos: QosLevel) -> Result<(), NoMemory>
+    ensures { Writes (text_octets filter.now ++ qos ∷ []) out.old.items out.new.items result }
+{
+    write_text(out, filter.bytes())?;
+    out.push(qos.number())?;
+    Ok(())
+}
+
 /// Writes a subscription.
 fn write_subscription(out: &mut Vec<u8>, entry: &Subscription) -> Result<(), NoMemory>
     ensures { Writes (subscription_octets entry.now) out.old.items out.new.items result }
 {
-    write_text(out, entry.filter.bytes())?;
-    out.push(entry.qos.number())?;
-    Ok(())
+    write_filter(out, &entry.filter, entry.qos)
 }
 
 /// Writes subscriptions one after the other.
@@ -214,14 +230,11 @@ pub fn write_change(out: &mut Vec<u8>, change: &SessionOp) -> Result<(), NoMemor
         }
         SessionOp::Register { id, name, known } => {
             out.push(2)?;
-            append_u16(out, *id)?;
-            out.push(*known as u8)?;
-            write_text(out, name.bytes())?;
+            write_named(out, *id, *known, name)?;
         }
         SessionOp::Subscribe { filter, qos } => {
             out.push(3)?;
-            write_text(out, filter.bytes())?;
-            out.push(qos.number())?;
+            write_filter(out, filter, *qos)?;
         }
         SessionOp::Unsubscribe { filter } => {
             out.push(4)?;
