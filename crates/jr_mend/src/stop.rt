@@ -5,36 +5,51 @@ ghost use Rattle.jr_mend.specs.declared.stop.Stop.TheVariants.{Memory};
 ghost use Rattle.jr_mend.specs.inner.Stopping as spec;
 
 use std::alloc::{AllocError, AllocFailed};
+use std::fmt;
 use std::io::ErrorKind;
-use thiserror::Error;
 
 /// Why nothing was mended. What the program prints of that is after `jr_mend: `.
-#[derive(Clone, Copy, Debug, PartialEq, Eq, Error)]
+#[derive(Clone, Copy)]
 pub enum Stop {
     /// The command line is not one path.
-    #[error("arguments")]
     Arguments,
     /// A file cannot be opened.
-    #[error("the file PATH.{0} cannot be opened: {1}")]
     File(u8, ErrorKind),
     /// Another program has the journal open.
-    #[error("another program has the journal open")]
     InUse,
     /// A file cannot be read, or is too long.
-    #[error("a file cannot be read")]
     Read,
     /// The copies cannot be written.
-    #[error("the copies cannot be written")]
     Copy,
     /// The file cannot be cut.
-    #[error("the file cannot be cut")]
     Write,
     /// A gateway would refuse the journal for the fault of this number, without zeros too.
-    #[error("journal J{0}")]
     Journal(u8),
     /// Memory ran out.
-    #[error("out of memory")]
     Memory,
+}
+
+impl fmt::Display for Stop {
+    fn fmt<W: fmt::Write>(&self, f: &mut fmt::Formatter<W>) -> fmt::Result {
+        match self {
+            Stop::File(file, kind) => write!(f, "the file PATH.{file} cannot be opened: {kind}"),
+            Stop::Journal(fault) => write!(f, "journal J{fault}"),
+            stop => f.write_str(words(*stop)),
+        }
+    }
+}
+
+/// What is said of a reason, but for what stands in it.
+fn words(stop: Stop) -> &'static str {
+    match stop {
+        Stop::Arguments => "arguments",
+        Stop::File(_, _) | Stop::Journal(_) => "",
+        Stop::InUse => "another program has the journal open",
+        Stop::Read => "a file cannot be read",
+        Stop::Copy => "the copies cannot be written",
+        Stop::Write => "the file cannot be cut",
+        Stop::Memory => "out of memory",
+    }
 }
 
 impl Stop {

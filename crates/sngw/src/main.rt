@@ -100,7 +100,7 @@ where
     let status = match started {
         Ok(()) => ExitCode::SUCCESS,
         Err(stop) => {
-            if stop != Stop::Opening {
+            if !matches!(stop, Stop::Opening) {
                 said.err.say_end(rt, stop);
             }
             ExitCode::from(stop.status())
