@@ -19,7 +19,9 @@ use super::gathering::copies;
 use super::locked::Locked;
 use super::pass::{Pass, passes_of};
 use gw_node::{Node, Out, Step};
+use gw_report::Glimpse;
 use jr_journal::Disk;
+use octets::NoMemory;
 use rep_model::Replica;
 use rep_ops::Delta;
 use std::alloc::Global;
@@ -159,6 +161,36 @@ impl<R: Replica, D: Disk + Drop> Shift<R, D> {
             Ok(shares) => Ok(copies(alloc, shares.as_slice())?),
             Err(fault) => Err(fault),
         }
+    }
+
+    /// The clients of the gateway at a glance whose ids are above these octets: the first of them,
+    /// at most so many. It is no call: nothing stands in the history, and no pass is asked for. The
+    /// lock is held for these clients alone. The contract says only how many there are at most;
+    /// `Node::glance` says the rest of the gateway as it was then.
+    pub fn glance(
+        &self,
+        rt: &impl Wait,
+        alloc: Global,
+        above: &[u8],
+        most: usize,
+    ) -> Result<Vec<Glimpse>, NoMemory>
+        ensures most { IfOk result (λ all. length all.items ≤ most) }
+    {
+        self.locked.lock(rt).glance(alloc, above, most)
+    }
+
+    /// For each of these clients, how many messages a gateway has put for it, as far as this one
+    /// knows (`Node::messages_known`). It is no call, and the lock is held for these clients alone.
+    pub fn messages_known(
+        &self,
+        rt: &impl Wait,
+        alloc: Global,
+        clients: &[Glimpse],
+        origin: u8,
+    ) -> Result<Vec<u64>, NoMemory>
+        ensures { IfOk result (λ all. length all.items ≡ length clients.now) }
+    {
+        self.locked.lock(rt).messages_known(alloc, clients, origin)
     }
 
     /// Ends the shift: the gateway comes back, with what it had to keep at the opening and the

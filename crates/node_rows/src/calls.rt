@@ -2,6 +2,7 @@
 //! in view of who makes the call, and no row needs it.
 
 use gw_node::{Answer, Node, NodeFault, Step};
+use gw_report::Glimpse;
 use gw_shift::{CallFault, CloseFault, Closed, Ended, Pass, Shift};
 use jr_journal::{Disk, Journal, JournalFault, MemoryDisk, Slot};
 use octets::{NoMemory, Sequence};
@@ -154,6 +155,25 @@ pub(crate) fn clients<R: Replica>(
     node: &Node<R, MemoryDisk>,
 ) -> Result<Vec<ClientId>, NoMemory> {
     node.clients(alloc)
+}
+
+/// The clients above these octets at a glance, at most so many.
+pub(crate) fn glimpses<R: Replica>(
+    alloc: Global,
+    node: &Node<R, MemoryDisk>,
+    above: &[u8],
+    most: usize,
+) -> Result<Vec<Glimpse>, NoMemory> {
+    node.glance(alloc, above, most)
+}
+
+/// How many messages of a gateway are known for a client.
+pub(crate) fn messages_known<R: Replica>(
+    node: &Node<R, MemoryDisk>,
+    client: &ClientId,
+    origin: u8,
+) -> u64 {
+    node.messages_known(client, origin)
 }
 
 /// The deltas of the calls of a shift above a number, at most so many.

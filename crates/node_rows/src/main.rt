@@ -29,6 +29,8 @@
 //!   sync fails.
 //! - `slots`: the octets of both slots.
 //! - `state`: the records of its opening, whether it has halted, and how many clients it knows.
+//! - `glance MOST OCTETS ..`: the clients above these octets at a glance, at most so many.
+//! - `known CLIENT GATEWAY`: how many messages of a gateway are known for a client.
 //!
 //! Calls of the gateway, each with its answer:
 //!
@@ -103,7 +105,8 @@
 //! - `row`: what the lines of a row have brought about (`Row`), and the play of one more.
 //! - `words`, `names`: lines that are read, by a cursor over their words.
 //! - `page`, `printing`, `passing`: what is printed, and why no more is.
-//! - `gateways`, `steps`, `asking`, `deliveries`, `links`: lines that are played on both replicas.
+//! - `gateways`, `steps`, `asking`, `glances`, `deliveries`, `links`: lines that are played on both
+//!   replicas.
 //! - `shifts`, `works`: those that are played once.
 //! - `seats`: passes in their seats, and calls by threads.
 //! - `calls`: calls of the libraries.
@@ -114,6 +117,7 @@ mod asking;
 mod calls;
 mod deliveries;
 mod gateways;
+mod glances;
 mod links;
 mod names;
 mod page;

@@ -3,6 +3,7 @@
 use crate::asking::ask;
 use crate::deliveries;
 use crate::gateways::{Store, fail, open, slots, state};
+use crate::glances::{glance, known};
 use crate::links::{beginnings, digest, feed, say, within};
 use crate::page::Page;
 use crate::steps::{call_as_value, call_once};
@@ -78,6 +79,20 @@ fn play_node<R: Replica>(
         "ask" => ask(page, node, words),
         "thrice" => call_as_value(page, node, words),
         "deliver" | "resend" | "hear" | "meaning" => deliveries::play(page, node, first, words),
+        first => play_glance(page, node, first, words),
+    }
+}
+
+/// Lines about its clients at a glance, and calls of it.
+fn play_glance<R: Replica>(
+    page: &mut Page,
+    node: &mut Node<R, MemoryDisk>,
+    first: &str,
+    words: &mut Words,
+) {
+    match first {
+        "glance" => glance(page, node, words),
+        "known" => known(page, node, words),
         first => call_once(page, node, first, words),
     }
 }

@@ -16,6 +16,7 @@ const TWICE: &str = "
     LinkIn::feed
     link_out
     settings
+    page
 ";
 
 /// The calls of some rows, with what they need.

@@ -125,6 +125,10 @@ impl<R: Replica> Calls for Gateways<R> {
                 let retained = self.node.retained(said.alloc);
                 given(said, retained, NoMemory);
             }
+            "Node::glance" => {
+                let found = self.node.glance(said.alloc, b"", 9);
+                given(said, found, NoMemory);
+            }
             call => self.answer_once(said, call),
         }
     }

@@ -29,6 +29,7 @@ mod links;
 mod locals;
 mod page;
 mod replicas;
+mod reports;
 mod rows;
 mod said;
 mod serving;

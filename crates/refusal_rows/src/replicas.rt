@@ -4,6 +4,7 @@ use crate::calls::{Calls, Made, Shown, beside, given};
 use crate::deltas::{FIRST, client, delta, spelled};
 use crate::said::{Said, Stop};
 use crate::topics::filter;
+use gw_report::Glimpse;
 use rep_model::{ClientView, Replica, TakeFault};
 use rep_ops::{ClientId, Delta, OpsFault, Retained};
 use sn_topic::TopicName;
@@ -119,6 +120,15 @@ impl Shown for Vec<(TopicName, Retained)> {
         for (topic, retained) in self.as_slice() {
             said.octets(topic.bytes());
             said.octets(retained.body.as_slice());
+        }
+    }
+}
+
+/// Prints the ids of clients at a glance.
+impl Shown for Vec<Glimpse> {
+    fn show(&self, said: &mut Said) {
+        for glimpse in self.as_slice() {
+            said.octets(glimpse.client.bytes());
         }
     }
 }

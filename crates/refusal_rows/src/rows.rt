@@ -10,6 +10,7 @@ use crate::journals::{Disks, Journals};
 use crate::links::Links;
 use crate::locals::Locals;
 use crate::replicas::Replicas;
+use crate::reports::Reports;
 use crate::said::{Said, Stop};
 use crate::sessions::Sessions;
 use crate::steps::Steps;
@@ -93,13 +94,19 @@ pub(crate) const ROWS: &str = "
     gw_node::Node::held
     gw_node::Node::clients
     gw_node::Node::retained
+    gw_node::Node::glance
     gw_world::run
     gw_play::play
     gw_shift::Shift::open
     gw_shift::Shift::call
     gw_shift::Shift::after
+    gw_shift::Shift::glance
+    gw_shift::Shift::messages_known
+    gw_tally::tally
     gw_net::LinkIn::feed
     gw_net::link_out
+    gw_page::page
+    gw_page::entry
     gw_main::settings
     gw_main::begin
     file_disk::FileDisk::at
@@ -153,12 +160,13 @@ fn play_format(said: &mut Said, home: &str, call: &str) {
     }
 }
 
-/// Rows of journals, links, settings and scripts.
+/// Rows of journals, links, pages, settings and scripts.
 fn play_part(said: &mut Said, home: &str, call: &str) {
     match home {
         "jr_journal" if call == "Journal::open" => play::<Disks>(said, call),
         "jr_journal" => play::<Journals>(said, call),
         "gw_net" => play::<Links>(said, call),
+        "gw_page" | "gw_tally" => play::<Reports>(said, call),
         "gw_main" => play::<Starts>(said, call),
         "gw_world" | "gw_play" => play::<Worlds>(said, call),
         home => play_state(said, home, call),

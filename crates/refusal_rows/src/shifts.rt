@@ -4,6 +4,7 @@ use crate::calls::{Calls, beside, play_call};
 use crate::gateways::{Gateway, NOT_SUBSCRIBED, SUBSCRIBE, frame, gateway, is_excuse, show_out};
 use crate::said::{Said, Stop};
 use gw_node::{NodeFault, Step};
+use gw_report::Glimpse;
 use gw_shift::{CallFault, Pass, Shift, ShiftFault};
 use jr_journal::MemoryDisk;
 use rep_state::Folded;
@@ -81,8 +82,8 @@ fn subscribe(said: &mut Said) -> Option<Arc<Step>> {
     beside(said, made)
 }
 
-/// Plays a row of a shift without calls, which has had one of this step when its deltas are asked
-/// for.
+/// Plays a row of a shift without calls. It has had one of this step when something is asked of
+/// it.
 fn play_in_shift<W: Wait>(rt: &W, said: &mut Said, step: Arc<Step>, call: &str) {
     if let Some((shift, mut passes)) = begun(said) {
         let mut work = Work {
@@ -108,8 +109,12 @@ impl<'a, W: Wait> Calls for Work<'a, W> {
             if let Some(pass) = self.pass.take() {
                 self.call(said, pass);
             }
-        } else if let Some(pass) = &self.pass {
-            show_made(self.rt, said, &self.shift, pass);
+        } else if call == "Shift::after" {
+            if let Some(pass) = &self.pass {
+                show_made(self.rt, said, &self.shift, pass);
+            }
+        } else {
+            look_at(self.rt, said, &self.shift, call);
         }
     }
 }
@@ -179,6 +184,53 @@ fn show_made<W: Wait>(rt: &W, said: &mut Said, shift: &Shared, pass: &Pass) {
         }
         Err(fault) => said.refuse(matches!(fault, CallFault::Memory)),
     }
+}
+
+/// Looks at the gateway without a call.
+fn look_at<W: Wait>(rt: &W, said: &mut Said, shift: &Shared, call: &str) {
+    if call == "Shift::glance" {
+        show_glimpses(rt, said, shift);
+    } else {
+        show_known(rt, said, shift);
+    }
+}
+
+/// Asks for the clients at a glance, and prints how many there are.
+fn show_glimpses<W: Wait>(rt: &W, said: &mut Said, shift: &Shared) {
+    let glimpses = shift.glance(rt, said.alloc, b"", 9);
+    match &glimpses {
+        Ok(found) => {
+            said.number("clients", found.len());
+            said.answer();
+        }
+        Err(_) => said.refuse(true),
+    }
+    drop(glimpses);
+}
+
+/// Asks how many messages are known for each client, and prints for how many clients that is.
+fn show_known<W: Wait>(rt: &W, said: &mut Said, shift: &Shared) {
+    let glimpses = shift.glance(rt, said.alloc, b"", 9);
+    match beside(said, glimpses) {
+        Some(clients) => {
+            show_known_of(rt, said, shift, clients.as_slice());
+            drop(clients);
+        }
+        None => {}
+    }
+}
+
+/// The same for these clients.
+fn show_known_of<W: Wait>(rt: &W, said: &mut Said, shift: &Shared, clients: &[Glimpse]) {
+    let known = shift.messages_known(rt, said.alloc, clients, 1);
+    match &known {
+        Ok(counts) => {
+            said.number("counts", counts.len());
+            said.answer();
+        }
+        Err(_) => said.refuse(true),
+    }
+    drop(known);
 }
 
 /// Ends a shift: its pass has all calls.

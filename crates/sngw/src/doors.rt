@@ -1,5 +1,6 @@
 //! How links are made: peers are dialled, others are accepted.
 
+use crate::board::{Number, Shared};
 use crate::lines::Said;
 use gw_link::{Link, Origin, Phase, Report, Stage, Trouble};
 use gw_main::options::Settings;
@@ -70,7 +71,7 @@ pub(crate) fn keep_all<T>(
     alloc: Global,
     doors: &mut [Door],
     listener: &TcpListener,
-    pool: &Pool<TcpStream>,
+    shared: &Shared,
     over: &Stage,
     said: Said<'_>,
 )
@@ -82,8 +83,8 @@ where
     if count > 0 {
         let at = |_place: usize, door: &mut Door| {
             match door.origin {
-                Origin::Accepted => accept_all(rt, alloc, listener, pool, over, said),
-                Origin::Dialled(_) => dial_all(rt, alloc, *door, pool, over),
+                Origin::Accepted => accept_all(rt, alloc, listener, shared, over, said),
+                Origin::Dialled(_) => dial_all(rt, alloc, *door, shared, over),
             }
         };
         thread::for_each_mut(rt, doors, count, &at);
@@ -92,10 +93,11 @@ where
 
 /// Dials a peer wherever no link to it is open: at once where the last one worked, and with growing
 /// pauses where it takes the call and does not say its number.
-fn dial_all<T>(rt: &T, alloc: Global, door: Door, pool: &Pool<TcpStream>, over: &Stage)
+fn dial_all<T>(rt: &T, alloc: Global, door: Door, shared: &Shared, over: &Stage)
 where
     T: Wait + Clock + Net<Listener = TcpListener, Stream = TcpStream>,
 {
+    let pool = &shared.pool;
     let mut pause = 0u64;
     let mut left = 0u64;
     let mut has_called = false;
@@ -111,6 +113,9 @@ where
             }
             if left == 0 {
                 has_called = dial(rt, alloc, door, pool);
+                if !has_called {
+                    note_no_dial(shared, door.origin);
+                }
             }
             left = left.saturating_sub(1);
         }
@@ -134,25 +139,36 @@ where
     }
 }
 
-/// Accepts those who dial, as many as may be, and tells the troubles.
+/// Counts a dial of a peer that did not take the call.
+fn note_no_dial(shared: &Shared, origin: Origin) {
+    if let Origin::Dialled(peer) = origin {
+        shared.board.note_no_dial(peer);
+    }
+}
+
+/// Accepts those who dial, as many as may be, and tells the troubles, unless the watcher does.
 fn accept_all<T: Wait + Clock + Print + Eprint>(
     rt: &T,
     alloc: Global,
     listener: &TcpListener,
-    pool: &Pool<TcpStream>,
+    shared: &Shared,
     over: &Stage,
     said: Said<'_>,
 ) {
+    let pool = &shared.pool;
     for _ in rt.forever() {
         if over.phase(rt) != Phase::Serving {
             return;
         }
-        tell_all(rt, alloc, pool, said);
+        if shared.board.get(Number::Watcher) == 0 {
+            tell_all(rt, alloc, pool, said);
+        }
         match listener.accept() {
             Ok((stream, _)) => {
                 if pool.may_open(rt, Origin::Accepted) {
                     open(rt, alloc, stream, Origin::Accepted, pool);
                 } else {
+                    shared.board.add(Number::TurnedAway);
                     pool.relay.note_trouble(rt, Trouble::TurnedAway, 0);
                 }
             }
@@ -184,21 +200,26 @@ where
     T: Wait + Clock + Print + Eprint,
 {
     if pool.outage.is_to_tell(rt) {
-        let line = format!(in alloc;
-            "listen: for a minute nothing could be sent; no time passes for clients"
-        );
-        said.err.say(rt, line.ok());
+        said.err.say(rt, outage_line(alloc));
     }
     for _ in 0..MOST_LINES {
         match pool.relay.report(rt, moment(rt)) {
             None => return,
-            Some(report) => said.err.say(rt, line_of(alloc, report)),
+            Some(report) => said.err.say(rt, trouble_line(alloc, report)),
         }
     }
 }
 
+/// The line that tells that nothing could be sent. `None` if memory runs out.
+pub(crate) fn outage_line(alloc: Global) -> Option<String> {
+    let line = format!(in alloc;
+        "listen: for a minute nothing could be sent; no time passes for clients"
+    );
+    line.ok()
+}
+
 /// The line that tells a trouble. `None` if memory runs out.
-fn line_of(alloc: Global, report: Report) -> Option<String> {
+pub(crate) fn trouble_line(alloc: Global, report: Report) -> Option<String> {
     let Report {
         trouble,
         number,

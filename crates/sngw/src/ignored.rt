@@ -8,7 +8,7 @@ use std::io::Write;
 use toml::{Table, Value};
 
 /// The keys that mean something.
-const KEYS: [Key; 13] = [
+const KEYS: [Key; 15] = [
     Key::Gateway,
     Key::Listen,
     Key::Link,
@@ -22,6 +22,8 @@ const KEYS: [Key; 13] = [
     Key::Numbers,
     Key::Clients,
     Key::Newcomers,
+    Key::Status,
+    Key::Log,
 ];
 
 /// Tells which keys of the settings in a file are ignored. Where memory runs out, or the lines

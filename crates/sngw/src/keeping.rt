@@ -101,7 +101,12 @@ pub(crate) fn is_written(tended: Tended) -> bool {
 }
 
 /// The length of a file of a journal, in octets.
-fn length_of<R: Files<File = File>>(rt: &R, alloc: Global, path: &str, slot: u8) -> Option<u64> {
+pub(crate) fn length_of<R: Files<File = File>>(
+    rt: &R,
+    alloc: Global,
+    path: &str,
+    slot: u8,
+) -> Option<u64> {
     let name = format!(in alloc; "{path}.{slot}").ok()?;
     match metadata(rt, name.as_str()) {
         Ok(found) => Some(found.len()),

@@ -23,10 +23,20 @@
 //! - `late`: a datagram that came when its shift had no call left for it.
 //! - `posting`: how replies go out.
 //! - `admission`: which datagrams become calls, and which clients are let in.
+//! - `board`: what is counted for whoever watches the gateway.
+//! - `glancing`: the clients at a glance, once in some seconds.
+//! - `watcher`: the thread that shows the gateway: `gathering` and `counting` are what is reported,
+//!   `happenings` are the events, and `callers` ask the page.
 #![tactic(auto)]
 
 mod admission;
+mod board;
+mod callers;
+mod counting;
 mod doors;
+mod gathering;
+mod glancing;
+mod happenings;
 mod ignored;
 mod keeping;
 mod late;
@@ -36,6 +46,7 @@ mod reading;
 mod running;
 mod stop;
 mod watched;
+mod watcher;
 mod words;
 mod working;
 
@@ -43,7 +54,7 @@ use crate::lines::{Lines, Output, Said};
 use crate::reading::settings_at;
 use crate::running::run;
 use crate::stop::Stop;
-use crate::words::{Asked, asked_by};
+use crate::words::{VERSION, asked_by, asks_version};
 use file_disk::{FileDisk, FileDiskFault};
 use gw_main::begin;
 use gw_main::options::Settings;
@@ -123,7 +134,17 @@ where
     T: Env + Files<File = File> + Print + Eprint + Threads + Wait + Sync + Clock,
     T: Net<Listener = TcpListener, Stream = TcpStream>,
 {
-    let Some(asked) = asked_of(rt, alloc) else {
+    let Some(words) = words_of(rt, alloc) else {
+        return Err(Stop::Arguments);
+    };
+    if asks_version(words.as_slice()) {
+        drop(words);
+        let _ = writeln!(out, "sngw {VERSION}");
+        return Ok(());
+    }
+    let asked = asked_by(alloc, words.as_slice());
+    drop(words);
+    let Some(asked) = asked else {
         return Err(Stop::Arguments);
     };
     let settings = settings_at(rt, alloc, asked.config.as_str(), err);
@@ -161,13 +182,13 @@ where
     run(rt, alloc, settings, node, shifts, said)
 }
 
-/// What the command line asks for.
-fn asked_of<T: Env>(rt: &T, alloc: Global) -> Option<Asked> {
+/// The words of the command line. `None` if memory ran out.
+fn words_of<T: Env>(rt: &T, alloc: Global) -> Option<Vec<String>> {
     let mut words = Vec::new(alloc);
     for word in env::args(&(rt, alloc)).ok()? {
         words.push(word).ok()?;
     }
-    asked_by(alloc, words.as_slice())
+    Some(words)
 }
 
 /// Whether both files are known to have no octets: then there is no journal, and an opening begins

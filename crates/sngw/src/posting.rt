@@ -4,12 +4,11 @@
 ghost use Rattle.std.specs.Prelude.{◌≡◌, ◌<◌, ◌≤◌, ◌+◌, ◌*◌, ◌%◌};
 ghost use Rattle.sngw.specs.inner.Posting as spec;
 
+use crate::board::Shared;
 use gw_link::Stage;
-use gw_run::Pool;
 use gw_wire::{Post, Unsent};
 use sn_local::Addr;
 use std::alloc::Global;
-use std::net::TcpStream;
 use std::sync::{Mutex, Wait};
 
 /// How many groups of addresses are counted apart.
@@ -122,7 +121,7 @@ pub struct Outlet<'a, T: Wait, P: Post> {
     post: &'a P,
     stage: &'a Stage,
     fence: &'a Fence,
-    pool: &'a Pool<TcpStream>,
+    shared: &'a Shared,
 }
 
 impl<'a, T: Wait, P: Post> Outlet<'a, T, P> {
@@ -133,7 +132,7 @@ impl<'a, T: Wait, P: Post> Outlet<'a, T, P> {
         post: &'a P,
         stage: &'a Stage,
         fence: &'a Fence,
-        pool: &'a Pool<TcpStream>,
+        shared: &'a Shared,
     ) -> Outlet<'a, T, P> {
         Outlet {
             rt,
@@ -141,17 +140,21 @@ impl<'a, T: Wait, P: Post> Outlet<'a, T, P> {
             post,
             stage,
             fence,
-            pool,
+            shared,
         }
     }
 
     /// Notes whether a datagram was sent. One that is no try says nothing of the network if it was
     /// not: whoever asked may have named an address that is nobody's.
     fn note(&self, to: Addr, bytes: &[u8], is_sent: bool) {
+        self.shared.board.note_sent(bytes, is_sent);
         if is_sent {
-            self.pool.outage.note_sent();
+            self.shared.pool.outage.note_sent();
         } else if is_try(bytes) {
-            self.pool.outage.note_unsent(self.rt, self.alloc, to, bytes);
+            self.shared
+                .pool
+                .outage
+                .note_unsent(self.rt, self.alloc, to, bytes);
         }
     }
 }
@@ -159,7 +162,8 @@ impl<'a, T: Wait, P: Post> Outlet<'a, T, P> {
 impl<'a, T: Wait, P: Post> Post for Outlet<'a, T, P> {
     /// What it sends is in an answer, which the shift's history keeps.
     fn send(&self, to: Addr, bytes: &[u8]) -> Result<(), Unsent> {
-        if is_disconnect(bytes) && !self.fence.may_say(self.rt, self.pool.clock.second(), to) {
+        let second = self.shared.pool.clock.second();
+        if is_disconnect(bytes) && !self.fence.may_say(self.rt, second, to) {
             return Err(Unsent);
         }
         self.stage.keep(self.rt, bytes.len().saturating_add(A_SEND));

@@ -3,6 +3,9 @@
 use clap::{Arg, ArgAction, ArgMatches, Command};
 use std::alloc::Global;
 
+/// The version of the program: the newest one in CHANGELOG, or 0 if none is released.
+pub(crate) const VERSION: &str = "0";
+
 /// What was asked for.
 #[derive(Drop)]
 pub struct Asked {
@@ -10,6 +13,14 @@ pub struct Asked {
     pub config: String,
     /// How many shifts there are to be.
     pub shifts: u64,
+}
+
+/// Whether nothing but the version is asked for.
+pub(crate) fn asks_version(words: &[String]) -> bool {
+    match words {
+        [_, word] => word.as_str() == "--version",
+        _ => false,
+    }
 }
 
 /// Reads the words, the program's name first. Nothing where they do not parse, `--help` among them,

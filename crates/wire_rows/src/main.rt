@@ -59,6 +59,17 @@
 //! are, why a link stopped before the shift's end, whether 1 may dial again, and of a closed shift
 //! the number of calls and the clients.
 //!
+//! The page of a gateway. The report is made up: its numbers count up, and each event is there once
+//! (`reports`). After a `page` its clients are gone:
+//!
+//! - `client OCTETS`, `stranger OCTETS`: it has a client of this id, of which all is known, or
+//!   nothing.
+//! - `ill`: its clock is late, it is halted, and a write failed.
+//! - `page METHOD PATH`: what is answered to `METHOD PATH HTTP/1.0` and an empty line, with `\r`
+//!   for a carriage return; before it `may grow`, if further octets may change the answer.
+//! - `request OCTETS`: the same to these octets.
+//! - `entries`: each event, for the journal of the system.
+//!
 //! - `row`: what the lines of a row have brought about (`Row`), and the play of one more.
 //! - `page`: what is printed, and why no more is (`Page`); no function hands a reason on.
 //! - `words`: the words of a line, read one after the other (`Words`).
@@ -70,6 +81,7 @@
 //! - `printing`: what is printed of that.
 //! - `meeting`: gateways that meet.
 //! - `pipe`: the stream between two of them.
+//! - `requests`, `reports`: requests for the page of a gateway, and its report.
 //! - `stop`: why a line is not played.
 #![tactic(auto)]
 
@@ -80,6 +92,8 @@ mod outside;
 mod page;
 mod pipe;
 mod printing;
+mod reports;
+mod requests;
 mod row;
 mod serving;
 mod stop;

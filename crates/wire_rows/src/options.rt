@@ -79,7 +79,18 @@ fn print_others(page: &mut Page, read: &Settings) {
     for number in read.numbers.as_slice() {
         page.shown(" number ", number);
     }
+    print_watched(page, read);
     page.end();
+}
+
+/// How the gateway is watched, if it is.
+fn print_watched(page: &mut Page, read: &Settings) {
+    if let Some(at) = read.status {
+        print_address(page, " status ", at);
+    }
+    if read.log > 0 {
+        page.shown(" log ", &read.log);
+    }
 }
 
 /// Addresses, each after a text.

@@ -6,6 +6,8 @@ use crate::options::{begin_on, files, lose, name, show};
 use crate::outside::{Hold, Outside};
 use crate::page::Page;
 use crate::printing::{print_calls, print_count, print_notes, print_outcome, print_over};
+use crate::reports::{Sketch, add_client, be_ill};
+use crate::requests::{ask, ask_octets, entries};
 use crate::serving::{Gateway, Outcome, Shared, close, serve_all, shift_of};
 use crate::stop::Stop;
 use crate::wire::{Coming, Told};
@@ -29,6 +31,8 @@ pub(crate) struct Row {
     /// The gateway, where one is open.
     node: Option<Gateway>,
     plan: Plan,
+    /// What the report of the next page says.
+    sketch: Sketch,
 }
 
 /// What the next serving is given.
@@ -52,6 +56,7 @@ impl Row {
             toml: String::new(alloc),
             node: None,
             plan: Plan::new(alloc),
+            sketch: Sketch::new(alloc),
         }
     }
 }
@@ -100,6 +105,26 @@ fn play_settings<T: Files<File = File>>(
         "settings" => show(page, row.toml.as_str(), words),
         "files" => files(rt, page, row.toml.as_str(), words),
         "lose" => lose(rt, page, words),
+        first => play_page(page, row, first, words),
+    }
+}
+
+/// Lines about the page of a gateway.
+fn play_page(page: &mut Page, row: &mut Row, first: &str, words: &mut Words) {
+    match first {
+        "page" => ask(page, &mut row.sketch, words),
+        "request" => ask_octets(page, &mut row.sketch, words),
+        "entries" => entries(page, &mut row.sketch, words),
+        first => play_report(page, row, first, words),
+    }
+}
+
+/// Lines about its report, and those of the plan.
+fn play_report(page: &mut Page, row: &mut Row, first: &str, words: &mut Words) {
+    match first {
+        "client" => add_client(page, &mut row.sketch, words, false),
+        "stranger" => add_client(page, &mut row.sketch, words, true),
+        "ill" => be_ill(page, &mut row.sketch, words),
         first => play_plan(page, &mut row.plan, first, words),
     }
 }
