@@ -98,7 +98,10 @@
 //! - `close PLACE ..`: it is closed with the passes at these places: how many calls it has, and the
 //!   gateway is open again. If it is refused, the passes sit down behind the others.
 //!
-//! Behind the heading `=== benchmarks` each line is a work; the head of `works.rt` has them.
+//! After the heading `=== wires` rows are of settings, of serving and of links; the head of
+//! `wires.rt` has their words.
+//!
+//! After the heading `=== benchmarks` each line is a work; the head of `works.rt` has them.
 //!
 //! The files:
 //!
@@ -107,7 +110,7 @@
 //! - `page`, `printing`, `passing`: what is printed, and why no more is.
 //! - `gateways`, `steps`, `asking`, `glances`, `deliveries`, `links`: lines that are played on both
 //!   replicas.
-//! - `shifts`, `works`: those that are played once.
+//! - `shifts`, `wires`, `works`: those that are played once.
 //! - `seats`: passes in their seats, and calls by threads.
 //! - `calls`: calls of the libraries.
 //! - `stop`: why a line is not played.
@@ -128,6 +131,7 @@ mod seats;
 mod shifts;
 mod steps;
 mod stop;
+mod wires;
 mod words;
 mod works;
 
@@ -141,7 +145,9 @@ use rep_model::Replica;
 use rep_plain::Plain;
 use rep_state::Folded;
 use std::alloc::{AllocError, Global};
+use std::fs::{File, Files};
 use std::io::{self, Input, Write};
+use std::net::Net;
 use std::process::ExitCode;
 use std::sync::Wait;
 use std::thread::Threads;
@@ -154,6 +160,8 @@ enum Part {
     Rows,
     /// These, and lines about shifts.
     Shifts,
+    /// Lines about settings, serving and links.
+    Wires,
     /// Works of the benchmarks.
     Works,
 }
@@ -165,6 +173,7 @@ struct Play<R: Replica> {
     names: Names,
     row: Row<R>,
     shifts: Shifts<R>,
+    wires: wires::row::Row,
 }
 
 fn main(rt: HostRuntime) -> ExitCode {
@@ -183,7 +192,7 @@ fn main(rt: HostRuntime) -> ExitCode {
 /// Plays all lines of standard input.
 fn play_input<T>(rt: &T, page: &mut Page)
 where
-    T: Threads + Wait + Sync + Clock + Input + Eprint + AllocGlobal,
+    T: Threads + Wait + Sync + Clock + Net + Files<File = File> + Input + Eprint + AllocGlobal,
 {
     let mut lines = Vec::new(rt.alloc());
     match read_lines(rt, &mut lines) {
@@ -222,7 +231,7 @@ fn write<T: Print>(rt: &T, page: &mut Page) {
 /// it on once.
 fn play_parts<T>(rt: &T, page: &mut Page, lines: &[String])
 where
-    T: Threads + Wait + Sync + Clock + Eprint + AllocGlobal,
+    T: Threads + Wait + Sync + Clock + Net + Files<File = File> + Eprint + AllocGlobal,
 {
     let (rows, others) = lines.split_at(front(lines).min(lines.len()));
     if !rows.is_empty() {
@@ -245,7 +254,7 @@ fn front(lines: &[String]) -> usize {
 /// so; where it is not, what each prints.
 fn play_both<T>(rt: &T, page: &mut Page, lines: &[String])
 where
-    T: Threads + Wait + Sync + Clock + Eprint + AllocGlobal,
+    T: Threads + Wait + Sync + Clock + Net + Files<File = File> + Eprint + AllocGlobal,
 {
     let mut plain = Page::new(rt.alloc());
     play_lines::<T, Folded>(rt, page, lines);
@@ -269,7 +278,7 @@ fn print_difference(page: &mut Page, plain: &str) {
 /// Plays lines on a replica, one after the other, until something else than a line ends the play.
 fn play_lines<T, R>(rt: &T, page: &mut Page, lines: &[String])
 where
-    T: Threads + Wait + Sync + Clock + Eprint + AllocGlobal,
+    T: Threads + Wait + Sync + Clock + Net + Files<File = File> + Eprint + AllocGlobal,
     R: Replica + Send,
     R::Staged: Send,
 {
@@ -289,13 +298,14 @@ fn begin<R: Replica>(alloc: Global) -> Play<R> {
         names: Names::new(alloc),
         row: Row::new(alloc),
         shifts: Shifts::new(alloc),
+        wires: wires::row::Row::new(alloc),
     }
 }
 
 /// Plays a line; empty ones and explanations say nothing.
 fn answer<T, R>(rt: &T, page: &mut Page, play: &mut Play<R>, line: &str)
 where
-    T: Threads + Wait + Sync + Clock + Eprint + AllocGlobal,
+    T: Threads + Wait + Sync + Clock + Net + Files<File = File> + Eprint + AllocGlobal,
     R: Replica + Send,
     R::Staged: Send,
 {
@@ -312,6 +322,7 @@ fn begin_row<R: Replica>(page: &mut Page, play: &mut Play<R>, name: &str) {
     leave(page, &mut play.shifts);
     play.row = Row::new(page.alloc());
     play.shifts = Shifts::new(page.alloc());
+    play.wires = wires::row::Row::new(page.alloc());
     page.text("== ");
     page.text(name);
     page.end();
@@ -320,14 +331,15 @@ fn begin_row<R: Replica>(page: &mut Page, play: &mut Play<R>, name: &str) {
 /// Plays a heading or a line of words; tells a line that is none of the language.
 fn answer_words<T, R>(rt: &T, page: &mut Page, play: &mut Play<R>, line: &str)
 where
-    T: Threads + Wait + Sync + Clock + Eprint + AllocGlobal,
+    T: Threads + Wait + Sync + Clock + Net + Files<File = File> + Eprint + AllocGlobal,
     R: Replica + Send,
     R::Staged: Send,
 {
     match line {
         "=== shifts" => play.part = Part::Shifts,
+        "=== wires" => play.part = Part::Wires,
         "=== benchmarks" => play.part = Part::Works,
-        line => play_words(rt, page, play, line),
+        line => play_text(rt, page, play, line),
     }
     if page.forgive() {
         page.text("no such line: ");
@@ -336,10 +348,23 @@ where
     }
 }
 
+/// Plays a line of the text of settings, or one of words.
+fn play_text<T, R>(rt: &T, page: &mut Page, play: &mut Play<R>, line: &str)
+where
+    T: Threads + Wait + Sync + Clock + Net + Files<File = File> + Eprint + AllocGlobal,
+    R: Replica + Send,
+    R::Staged: Send,
+{
+    match line.strip_prefix("toml ") {
+        Some(more) => wires::add(page, &mut play.wires, more),
+        None => play_words(rt, page, play, line),
+    }
+}
+
 /// Plays a line of words.
 fn play_words<T, R>(rt: &T, page: &mut Page, play: &mut Play<R>, line: &str)
 where
-    T: Threads + Wait + Sync + Clock + Eprint + AllocGlobal,
+    T: Threads + Wait + Sync + Clock + Net + Files<File = File> + Eprint + AllocGlobal,
     R: Replica + Send,
     R::Staged: Send,
 {
@@ -353,7 +378,7 @@ where
 /// Plays a line that is about names, or one of the part.
 fn play_line<T, R>(rt: &T, page: &mut Page, play: &mut Play<R>, words: &[&str])
 where
-    T: Threads + Wait + Sync + Clock + Eprint + AllocGlobal,
+    T: Threads + Wait + Sync + Clock + Net + Files<File = File> + Eprint + AllocGlobal,
     R: Replica + Send,
     R::Staged: Send,
 {
@@ -373,6 +398,7 @@ where
                     first,
                     &mut words,
                 ),
+                Part::Wires => wires::row::play(rt, page, &mut play.wires, first, &mut words),
                 Part::Works => works::play(rt, page, first, &mut words),
             }
         }

@@ -123,6 +123,25 @@ impl<'a, 'n> Words<'a, 'n> {
         }
     }
 
+    /// A number below 2^64.
+    pub(crate) fn whole(&mut self) -> u64 {
+        match self.word().parse::<u64>() {
+            Ok(number) => number,
+            Err(_) => {
+                self.fail(Stop::Line);
+                0
+            }
+        }
+    }
+
+    /// The octets of the next word, which is hexadecimal digits.
+    pub(crate) fn digits(&mut self) -> Vec<u8> {
+        let word = self.word();
+        let mut octets = Vec::new(self.alloc);
+        self.add_digits(&mut octets, word);
+        octets
+    }
+
     /// A number below 65,536 that counts something.
     pub(crate) fn count(&mut self) -> usize {
         usize::from(self.number())

@@ -1,16 +1,16 @@
 //! A row: what its lines have brought about so far, and the play of one more.
 
-use crate::loopback::{Questions, over_sockets};
-use crate::meeting::{Deed, meet, read_deed};
-use crate::options::{begin_on, files, lose, name, show};
-use crate::outside::{Hold, Outside};
+use crate::wires::loopback::{Questions, over_sockets};
+use crate::wires::meeting::{Deed, meet, read_deed};
+use crate::wires::options::{begin_on, files, lose, name, show};
+use crate::wires::outside::{Hold, Outside};
 use crate::page::Page;
-use crate::printing::{print_calls, print_count, print_notes, print_outcome, print_over};
-use crate::reports::{Sketch, add_client, be_ill};
-use crate::requests::{ask, ask_octets, entries};
-use crate::serving::{Gateway, Outcome, Shared, close, serve_all, shift_of};
+use crate::wires::printing::{print_calls, print_count, print_notes, print_outcome, print_over};
+use crate::wires::reports::{Sketch, add_client, be_ill};
+use crate::wires::requests::{ask, ask_octets, entries};
+use crate::wires::serving::{Gateway, Outcome, Shared, close, serve_all, shift_of};
 use crate::stop::Stop;
-use crate::wire::{Coming, Told};
+use crate::wires::wire::{Coming, Told};
 use crate::words::Words;
 use gw_shift::Pass;
 use gw_wire::{Gate, Post};
@@ -158,7 +158,7 @@ fn play_happening(page: &mut Page, plan: &mut Plan, first: &str, words: &mut Wor
 
 /// `workers COUNT`, `steps COUNT`, `turns COUNT`.
 fn set(page: &mut Page, count: &mut u64, words: &mut Words) {
-    let number = words.number();
+    let number = words.whole();
     if words.end(page) {
         *count = number;
     }
@@ -175,8 +175,8 @@ fn set_post(page: &mut Page, fails: &mut bool, words: &mut Words) {
 
 /// `hold FIRST SECOND`.
 fn set_hold(page: &mut Page, hold: &mut Option<Hold>, words: &mut Words) {
-    let first = words.number();
-    let second = words.number();
+    let first = words.whole();
+    let second = words.whole();
     if words.end(page) {
         *hold = Some(Hold { first, second });
     }
@@ -184,9 +184,9 @@ fn set_hold(page: &mut Page, hold: &mut Option<Hold>, words: &mut Words) {
 
 /// `datagram HOST MOMENT OCTETS`.
 fn add_datagram(page: &mut Page, coming: &mut Vec<Coming>, words: &mut Words) {
-    let host = words.host();
-    let moment = words.number();
-    let bytes = words.octets();
+    let host = words.large();
+    let moment = words.whole();
+    let bytes = words.digits();
     if words.end(page) {
         let datagram = Coming::Datagram {
             host,
@@ -316,8 +316,8 @@ fn play_loopback<T: Threads + Wait + Sync + Clock + Net>(
     words: &mut Words,
 ) {
     let questions = Questions {
-        first: words.octets(),
-        second: words.octets(),
+        first: words.digits(),
+        second: words.digits(),
     };
     if words.end(page) {
         let plan = mem::replace(&mut row.plan, Plan::new(page.alloc()));

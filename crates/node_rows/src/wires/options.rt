@@ -1,8 +1,8 @@
 //! The settings of the row, and gateways that are opened as they say.
 
 use crate::page::Page;
-use crate::printing::print_answer;
-use crate::serving::Gateway;
+use crate::wires::printing::print_answer;
+use crate::wires::serving::Gateway;
 use crate::stop::{Stop, missing};
 use crate::words::Words;
 use file_disk::{FileDisk, FileDiskFault};
@@ -181,7 +181,7 @@ fn print_octets(page: &mut Page, octets: &[u8], short: &[u8]) {
 /// `files OCTETS`: opens a gateway on the two files that the settings name, gives it a datagram
 /// from port 1 of host 7, and closes it.
 pub(crate) fn files<T: Files<File = File>>(rt: &T, page: &mut Page, toml: &str, words: &mut Words) {
-    let octets = words.octets();
+    let octets = words.digits();
     if words.end(page) {
         if let Some(read) = read(page, toml) {
             files_of(rt, page, &read, octets.as_slice());

@@ -1,10 +1,10 @@
 //! What is printed of a shift that was served.
 
-use crate::outside::Note;
+use crate::wires::outside::Note;
 use crate::page::Page;
-use crate::serving::{Gateway, Outcome, Over};
+use crate::wires::serving::{Gateway, Outcome, Over};
 use crate::stop::Stop;
-use crate::wire::Coming;
+use crate::wires::wire::Coming;
 use gw_node::{Answer, NodeFault, Step};
 use gw_serve::{Cause, Taken};
 use gw_shift::Entry;

@@ -50,7 +50,7 @@ pub(crate) fn add_client(
     words: &mut Words,
     is_stranger: bool,
 ) {
-    let octets = words.octets();
+    let octets = words.digits();
     if words.end(page) {
         match client_id(page, octets.as_slice()) {
             Some(client) if is_stranger => add_seen(page, sketch, unknown(client)),

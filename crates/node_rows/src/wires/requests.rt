@@ -1,7 +1,7 @@
 //! Requests for the page of a gateway, whose report is made up.
 
 use crate::page::Page;
-use crate::reports::{Sketch, report_of};
+use crate::wires::reports::{Sketch, report_of};
 use crate::stop::Stop;
 use crate::words::Words;
 use gw_report::{Event, Report};
@@ -31,7 +31,7 @@ fn add(page: &mut Page, request: &mut String, text: &str) {
 
 /// `request OCTETS`: the answer to these octets.
 pub(crate) fn ask_octets(page: &mut Page, sketch: &mut Sketch, words: &mut Words) {
-    let request = words.octets();
+    let request = words.digits();
     if words.end(page) {
         show(page, sketch, request.as_slice());
     }

@@ -1,7 +1,7 @@
 //! A datagram over UDP sockets of this machine.
 
 use crate::page::Page;
-use crate::serving::{Outcome, Shared, serve_all, unserved};
+use crate::wires::serving::{Outcome, Shared, serve_all, unserved};
 use crate::stop::{Stop, missing};
 use gw_shift::{Pass, Shift};
 use gw_wire::{FieldClock, OpenGate, Post, Socket, Wire, address};

@@ -1,10 +1,10 @@
 //! Gateways that have links: two, or a chain of three.
 
-use crate::options::{add, begin_on};
+use crate::wires::options::{add, begin_on};
 use crate::page::Page;
-use crate::pipe::{Pipe, Place};
-use crate::printing::{print_answer, print_over};
-use crate::serving::{Gateway, Shared, close, shift_of};
+use crate::wires::pipe::{Pipe, Place};
+use crate::wires::printing::{print_answer, print_over};
+use crate::wires::serving::{Gateway, Shared, close, shift_of};
 use crate::stop::Stop;
 use crate::words::Words;
 use gw_link::{End, Link, Origin, Phase, Stage, call, talk};
@@ -90,7 +90,7 @@ struct Places {
 
 /// What a line says of the meeting.
 pub(crate) fn read_deed(first: &str, words: &mut Words) -> Deed {
-    let gateway = words.number();
+    let gateway = words.whole();
     let act = read_act(first, words);
     Deed { gateway, act }
 }
@@ -98,8 +98,8 @@ pub(crate) fn read_deed(first: &str, words: &mut Words) -> Deed {
 /// What the first word and those after the gateway say.
 fn read_act(first: &str, words: &mut Words) -> Act {
     match first {
-        "ask" => Act::Ask(words.host(), words.octets()),
-        "come" => Act::Come(words.octets()),
+        "ask" => Act::Ask(words.large(), words.digits()),
+        "come" => Act::Come(words.digits()),
         "talk" => Act::Talk(Phase::Serving),
         "last" => Act::Talk(Phase::Quiet),
         first => read_other(first, words),
@@ -109,8 +109,8 @@ fn read_act(first: &str, words: &mut Words) -> Act {
 /// The same of the other words.
 fn read_other(first: &str, words: &mut Words) -> Act {
     match first {
-        "idle" => Act::Idle(words.number()),
-        "takes" => Act::Takes(words.number()),
+        "idle" => Act::Idle(words.whole()),
+        "takes" => Act::Takes(words.whole()),
         "sit" => Act::Sit,
         first => {
             words.require(first == "turn");
