@@ -1,8 +1,8 @@
 //! A datagram over UDP sockets of this machine.
 
 use crate::page::Page;
-use crate::wires::serving::{Outcome, Shared, serve_all, unserved};
 use crate::stop::{Stop, missing};
+use crate::wires::serving::{Outcome, Shared, serve_all, unserved};
 use gw_shift::{Pass, Shift};
 use gw_wire::{FieldClock, OpenGate, Post, Socket, Wire, address};
 use jr_disk::Disk;
@@ -10,6 +10,7 @@ use mio::net::UdpSocket;
 use rep_model::Replica;
 use sn_local::Addr;
 use std::alloc::Global;
+use std::io;
 use std::net::{Net, SocketAddr};
 use std::sync::Wait;
 use std::sync::atomic::{AtomicBool, Ordering};
@@ -57,12 +58,20 @@ pub(crate) fn over_sockets<T: Threads + Wait + Sync + Clock + Net>(
     questions: &Questions,
 ) -> Outcome {
     match Socket::bind(rt, page.alloc(), HOME) {
-        Ok(mut socket) => over_socket(rt, page, shift, passes, &mut socket, questions),
-        Err(error) => {
-            page.stop(missing(&error));
-            unserved(page.alloc(), passes, None)
+        Ok(mut socket) => {
+            let outcome = over_socket(rt, page, shift, passes, &mut socket, questions);
+            drop(socket);
+            outcome
         }
+        Err(error) => unasked(page, passes, error),
     }
+}
+
+/// The outcome where there is no socket.
+fn unasked(page: &mut Page, passes: Vec<Pass>, error: io::Error) -> Outcome {
+    page.stop(missing(&error));
+    drop(error);
+    unserved(page.alloc(), passes, None)
 }
 
 /// The same once the gateway has its socket.
@@ -81,12 +90,11 @@ fn over_socket<T: Threads + Wait + Sync + Clock + Net>(
                 at: socket.local,
                 is_over: AtomicBool::new(false),
             };
-            over_both(rt, page, shift, passes, socket, &asker, questions)
+            let outcome = over_both(rt, page, shift, passes, socket, &asker, questions);
+            drop(asker);
+            outcome
         }
-        Err(error) => {
-            page.stop(missing(&error));
-            unserved(page.alloc(), passes, None)
-        }
+        Err(error) => unasked(page, passes, error),
     }
 }
 
@@ -112,6 +120,7 @@ fn over_both<T: Threads + Wait + Sync + Clock>(
         room,
     );
     print_answer(page, &answer);
+    drop(answer);
     if outcome.cause.is_none() && came(&outcome) < 2 {
         page.stop(Stop::TooLate);
     }

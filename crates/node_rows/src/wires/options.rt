@@ -1,18 +1,19 @@
 //! The settings of the row, and gateways that are opened as they say.
 
 use crate::page::Page;
+use crate::stop::{Stop, missing};
 use crate::wires::printing::print_answer;
 use crate::wires::serving::Gateway;
-use crate::stop::{Stop, missing};
 use crate::words::Words;
 use file_disk::{FileDisk, FileDiskFault};
 use gw_main::options::Settings;
 use gw_main::{SettingsFault, begin, settings};
-use gw_node::Node;
+use gw_node::{Answer, Node};
 use gw_wire::address;
 use jr_journal::{Disk, MemoryDisk};
 use rep_plain::Plain;
 use sn_local::Addr;
+use std::alloc::Global;
 use std::fs::{File, Files, remove_file};
 use std::io::ErrorKind;
 
@@ -49,6 +50,7 @@ pub(crate) fn show(page: &mut Page, toml: &str, words: &mut Words) {
         if let Some(read) = read(page, toml) {
             print_needed(page, &read);
             print_others(page, &read);
+            drop(read);
         }
     }
 }
@@ -100,6 +102,19 @@ fn print_addresses(page: &mut Page, text: &str, all: &[Addr]) {
     }
 }
 
+/// The text of the settings of a gateway of this number, which nobody reaches.
+pub(crate) fn text_of(page: &mut Page, number: u8) -> String {
+    let mut toml = String::new(page.alloc());
+    let is_short = writeln!(toml, "gateway = {number}").is_err();
+    page.stop_if_short(is_short);
+    add(
+        page,
+        &mut toml,
+        "listen = \"127.0.0.1:1\"\nlink = \"127.0.0.1:2\"\njournal = \"j\"",
+    );
+    toml
+}
+
 /// `gateway NUMBER`: the settings are what a gateway must be told.
 pub(crate) fn name(page: &mut Page, toml: &mut String, words: &mut Words) {
     let number = words.word();
@@ -122,8 +137,15 @@ pub(crate) fn add(page: &mut Page, toml: &mut String, line: &str) {
 /// Opens a gateway on a disk in memory, as a text says. No row arranges that its opening fails.
 pub(crate) fn begin_on(page: &mut Page, toml: &str, disk: MemoryDisk) -> Option<Gateway> {
     match read(page, toml) {
-        Some(read) => begun(page, &read, disk, NO_DISK),
-        None => None,
+        Some(read) => {
+            let node = begun(page, &read, disk, NO_DISK);
+            drop(read);
+            node
+        }
+        None => {
+            drop(disk);
+            None
+        }
     }
 }
 
@@ -139,7 +161,9 @@ fn begun<D: Disk + Drop>(
     let mut err = room(page);
     let node = begin(page.alloc(), read, disk, &mut out, &mut err);
     print_octets(page, out.as_slice(), short);
+    drop(out);
     print_octets(page, err.as_slice(), short);
+    drop(err);
     started(page, node)
 }
 
@@ -185,8 +209,10 @@ pub(crate) fn files<T: Files<File = File>>(rt: &T, page: &mut Page, toml: &str, 
     if words.end(page) {
         if let Some(read) = read(page, toml) {
             files_of(rt, page, &read, octets.as_slice());
+            drop(read);
         }
     }
+    drop(octets);
 }
 
 /// A gateway on the two files of these settings is opened, and asked once.
@@ -210,11 +236,23 @@ fn print_fault(page: &mut Page, fault: FileDiskFault) {
 /// A gateway on a disk is opened, and asked once.
 fn ask_on<D: Disk + Drop>(page: &mut Page, read: &Settings, disk: D, octets: &[u8]) {
     if let Some(mut node) = begun(page, read, disk, NO_MEMORY) {
-        let answer = node.frame(page.alloc(), Addr { host: 7, port: 1 }, octets, 0);
-        page.text("answered");
-        print_answer(page, &answer);
-        page.end();
+        let answer = answer_of(page.alloc(), &mut node, octets);
+        print_answered(page, &answer);
+        drop(answer);
+        drop(node);
     }
+}
+
+/// What a gateway answers to a datagram from port 1 of host 7.
+fn answer_of<D: Disk + Drop>(alloc: Global, node: &mut Node<Plain, D>, octets: &[u8]) -> Answer {
+    node.frame(alloc, Addr { host: 7, port: 1 }, octets, 0)
+}
+
+/// What was answered to a datagram.
+fn print_answered(page: &mut Page, answer: &Answer) {
+    page.text("answered");
+    print_answer(page, answer);
+    page.end();
 }
 
 /// `lose NAME`: the file of this name is not there any more.

@@ -90,6 +90,11 @@ impl Place {
         }
     }
 
+    /// What came first and was not read yet.
+    fn next<T: Wait>(&self, rt: &T) -> Option<Vec<u8>> {
+        self.coming.lock(rt).pop_front()
+    }
+
     /// A read found nothing. The last one ends the shift.
     fn rest<T: Wait>(&self, rt: &T) {
         let idle = self.idle.load(Ordering::SeqCst);
@@ -129,11 +134,13 @@ impl<'a, T: Wait> Pipe<'a, T> {
 
 impl<'a, T: Wait> Read for Pipe<'a, T> {
     fn read(&mut self, buf: &mut [u8]) -> io::Result<usize> {
-        let come = self.here.coming.lock(self.rt).pop_front();
+        let come = self.here.next(self.rt);
         match come {
             Some(octets) if octets.len() <= buf.len() => {
-                buf[..octets.len()].copy_from_slice(octets.as_slice());
-                Ok(octets.len())
+                let size = octets.len();
+                buf[..size].copy_from_slice(octets.as_slice());
+                drop(octets);
+                Ok(size)
             }
             _ => {
                 self.here.rest(self.rt);

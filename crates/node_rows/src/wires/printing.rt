@@ -1,13 +1,17 @@
 //! What is printed of a shift that was served.
 
-use crate::wires::outside::Note;
+use crate::calls::clients;
 use crate::page::Page;
-use crate::wires::serving::{Gateway, Outcome, Over};
 use crate::stop::Stop;
+use crate::wires::outside::Note;
+use crate::wires::serving::{Outcome, Over};
 use crate::wires::wire::Coming;
-use gw_node::{Answer, NodeFault, Step};
+use gw_node::{Answer, Node, NodeFault, Step};
 use gw_serve::{Cause, Taken};
-use gw_shift::Entry;
+use gw_shift::{CloseFault, Entry};
+use jr_journal::MemoryDisk;
+use rep_model::Replica;
+use rep_ops::ClientId;
 use sn_local::{Addr, Send as Sending};
 
 /// How serving ended, and with how many passes, unless memory ran out.
@@ -178,29 +182,40 @@ fn print_note(page: &mut Page, number: u64, host: u32, note: &Note) {
 
 /// Whether the shift was closed, with how many calls, and which clients the gateway knows. The
 /// program ends if memory was refused in the disk, which then did not fail as arranged.
-pub(crate) fn print_over(page: &mut Page, over: &Over) {
+pub(crate) fn print_over<R: Replica>(page: &mut Page, over: &Over<R>) {
     page.stop_if_short(over.node.starved());
-    match &over.fault {
+    print_close(page, &over.fault);
+    page.length(" calls ", over.history.len());
+    page.text(", clients");
+    print_clients(page, &over.node);
+    page.end();
+}
+
+/// Whether a shift was closed.
+fn print_close(page: &mut Page, fault: &Option<CloseFault>) {
+    match fault {
         None => page.text("closed,"),
         Some(fault) => {
             page.shown("not closed: ", fault);
             page.text(";");
         }
     }
-    page.shown(" calls ", &over.history.len());
-    page.text(", clients");
-    print_clients(page, &over.node);
-    page.end();
 }
 
 /// The clients that a gateway knows.
-fn print_clients(page: &mut Page, node: &Gateway) {
-    match &node.clients(page.alloc()) {
+fn print_clients<R: Replica>(page: &mut Page, node: &Node<R, MemoryDisk>) {
+    match clients(page.alloc(), node) {
         Ok(clients) => {
-            for client in clients.as_slice() {
-                page.octets(" ", client.bytes());
-            }
+            print_ids(page, clients.as_slice());
+            drop(clients);
         }
         Err(_) => page.stop(Stop::Memory),
+    }
+}
+
+/// The ids of clients.
+fn print_ids(page: &mut Page, clients: &[ClientId]) {
+    for client in clients {
+        page.octets(" ", client.bytes());
     }
 }

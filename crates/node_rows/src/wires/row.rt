@@ -1,15 +1,17 @@
 //! A row: what its lines have brought about so far, and the play of one more.
 
+use crate::page::Page;
+use crate::stop::Stop;
 use crate::wires::loopback::{Questions, over_sockets};
 use crate::wires::meeting::{Deed, meet, read_deed};
 use crate::wires::options::{begin_on, files, lose, name, show};
 use crate::wires::outside::{Hold, Outside};
-use crate::page::Page;
 use crate::wires::printing::{print_calls, print_count, print_notes, print_outcome, print_over};
 use crate::wires::reports::{Sketch, add_client, be_ill};
 use crate::wires::requests::{ask, ask_octets, entries};
-use crate::wires::serving::{Gateway, Outcome, Shared, close, serve_all, shift_of};
-use crate::stop::Stop;
+use crate::wires::serving::{
+    Gateway, Outcome, Shared, close, node_of, passes_back, serve_all, shift_of,
+};
 use crate::wires::wire::{Coming, Told};
 use crate::words::Words;
 use gw_shift::Pass;
@@ -209,16 +211,33 @@ fn add_failure(page: &mut Page, coming: &mut Vec<Coming>, words: &mut Words) {
 /// `meet`: gateways meet.
 fn play_meet<T: Wait + Clock>(rt: &T, page: &mut Page, row: &mut Row, words: &mut Words) {
     if words.end(page) {
-        let plan = mem::replace(&mut row.plan, Plan::new(page.alloc()));
+        let plan = plan_of(page, row);
         meet(rt, page, plan.deeds.as_slice());
+        drop(plan);
     }
+}
+
+/// The plan of a row, which plans nothing any more.
+fn plan_of(page: &mut Page, row: &mut Row) -> Plan {
+    mem::replace(&mut row.plan, Plan::new(page.alloc()))
+}
+
+/// The open gateway of a row, which has none then.
+fn taken_from(row: &mut Row) -> Option<Gateway> {
+    row.node.take()
+}
+
+/// The open gateway of a row is this one.
+fn give_to(row: &mut Row, node: Option<Gateway>) {
+    drop(mem::replace(&mut row.node, node));
 }
 
 /// `begin`: the gateway is opened on the disk of the one that was open, or on an empty one.
 fn play_begin(page: &mut Page, row: &mut Row, words: &mut Words) {
     if words.end(page) {
-        let disk = disk_of(page.alloc(), row.node.take());
-        row.node = begin_on(page, row.toml.as_str(), disk);
+        let disk = disk_of(page.alloc(), taken_from(row));
+        let node = begin_on(page, row.toml.as_str(), disk);
+        give_to(row, node);
     }
 }
 
@@ -243,17 +262,41 @@ fn play_fail(page: &mut Page, row: &mut Row, words: &mut Words) {
 /// `serve`: serves what comes in a shift of the open gateway, and closes that.
 fn play_serve<T: Threads + Wait + Sync>(rt: &T, page: &mut Page, row: &mut Row, words: &mut Words) {
     if words.end(page) {
-        let plan = mem::replace(&mut row.plan, Plan::new(page.alloc()));
-        if let Some((shift, passes)) = opened(page, row, &plan) {
-            let outcome = serve_noted(rt, page, &shift, passes, &plan);
-            row.node = finish(page, shift, outcome, plan.coming.len());
-        }
+        let plan = plan_of(page, row);
+        let node = serve_on(rt, page, taken_from(row), &plan);
+        give_to(row, node);
+        drop(plan);
     }
 }
 
-/// The open gateway, in a shift of its own.
-fn opened(page: &mut Page, row: &mut Row, plan: &Plan) -> Option<(Shared, Vec<Pass>)> {
-    match row.node.take() {
+/// Serves what comes in a shift of a gateway, which is closed then.
+fn serve_on<T: Threads + Wait + Sync>(
+    rt: &T,
+    page: &mut Page,
+    node: Option<Gateway>,
+    plan: &Plan,
+) -> Option<Gateway> {
+    match opened(page, node, plan) {
+        Some((shift, passes)) => Some(serve_in(rt, page, shift, passes, plan)),
+        None => None,
+    }
+}
+
+/// Serves what comes in a shift, and closes that.
+fn serve_in<T: Threads + Wait + Sync>(
+    rt: &T,
+    page: &mut Page,
+    shift: Shared,
+    passes: Vec<Pass>,
+    plan: &Plan,
+) -> Gateway {
+    let outcome = serve_noted(rt, page, &shift, passes, plan);
+    finish(page, shift, outcome, plan.coming.len())
+}
+
+/// A gateway in a shift of its own.
+fn opened(page: &mut Page, node: Option<Gateway>, plan: &Plan) -> Option<(Shared, Vec<Pass>)> {
+    match node {
         Some(node) => shift_of(page, node, plan.workers, plan.steps),
         None => {
             page.stop(Stop::Line);
@@ -273,9 +316,10 @@ fn serve_noted<T: Threads + Wait + Sync>(
     let outside = Outside::new(rt, page.alloc(), plan.fails, plan.hold);
     let outcome = serve_told(rt, page.alloc(), shift, passes, plan, &outside);
     page.stop_if_short(outside.is_short());
-    let notes = outside.into_notes();
     print_outcome(page, &outcome);
+    let notes = outside.into_notes();
     print_notes(page, plan.coming.as_slice(), notes.as_slice());
+    drop(notes);
     outcome
 }
 
@@ -297,14 +341,15 @@ where
     serve_all(rt, alloc, shift, passes, &mut wire, outside, outside, turns)
 }
 
-/// Closes a shift, and prints what became of so many datagrams. Its gateway is the open one.
-fn finish(page: &mut Page, shift: Shared, outcome: Outcome, count: usize) -> Option<Gateway> {
+/// Closes a shift, and prints what became of so many datagrams. Its gateway comes back.
+fn finish(page: &mut Page, shift: Shared, outcome: Outcome, count: usize) -> Gateway {
     let mut outcome = outcome;
     let passes = mem::replace(&mut outcome.passes, Vec::new(page.alloc()));
     let over = close(shift, passes);
     print_calls(page, &outcome, over.history.as_slice(), count);
+    drop(outcome);
     print_over(page, &over);
-    Some(over.node)
+    node_of(over)
 }
 
 /// `loopback FIRST SECOND`: serves what comes over a socket in a shift of the open gateway, and
@@ -315,31 +360,51 @@ fn play_loopback<T: Threads + Wait + Sync + Clock + Net>(
     row: &mut Row,
     words: &mut Words,
 ) {
-    let questions = Questions {
+    let questions = questions_of(words);
+    if words.end(page) {
+        let plan = plan_of(page, row);
+        let node = ask_on(rt, page, taken_from(row), &plan, &questions);
+        give_to(row, node);
+        drop(plan);
+    }
+    drop(questions);
+}
+
+/// What words say is asked.
+fn questions_of(words: &mut Words) -> Questions {
+    Questions {
         first: words.digits(),
         second: words.digits(),
-    };
-    if words.end(page) {
-        let plan = mem::replace(&mut row.plan, Plan::new(page.alloc()));
-        if let Some((shift, passes)) = opened(page, row, &plan) {
-            row.node = ask_over(rt, page, shift, passes, &questions);
-        }
     }
 }
 
-/// Serves what is asked over a socket, closes the shift, and prints how that went. Its gateway is
-/// the open one.
+/// Serves what is asked over a socket in a shift of a gateway, which is closed then.
+fn ask_on<T: Threads + Wait + Sync + Clock + Net>(
+    rt: &T,
+    page: &mut Page,
+    node: Option<Gateway>,
+    plan: &Plan,
+    questions: &Questions,
+) -> Option<Gateway> {
+    match opened(page, node, plan) {
+        Some((shift, passes)) => Some(ask_over(rt, page, shift, passes, questions)),
+        None => None,
+    }
+}
+
+/// Serves what is asked over a socket, closes the shift, and prints how that went. Its gateway
+/// comes back.
 fn ask_over<T: Threads + Wait + Sync + Clock + Net>(
     rt: &T,
     page: &mut Page,
     shift: Shared,
     passes: Vec<Pass>,
     questions: &Questions,
-) -> Option<Gateway> {
+) -> Gateway {
     let outcome = over_sockets(rt, page, &shift, passes, questions);
     print_outcome(page, &outcome);
     print_count(page, &outcome);
-    let over = close(shift, outcome.passes);
+    let over = close(shift, passes_back(outcome));
     print_over(page, &over);
-    Some(over.node)
+    node_of(over)
 }

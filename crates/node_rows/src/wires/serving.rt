@@ -2,6 +2,7 @@
 
 ghost use Rattle.std.specs.Prelude.{◌<◌, ◌≤◌};
 
+use crate::calls;
 use crate::page::Page;
 use crate::stop::Stop;
 use gw_node::Node;
@@ -35,20 +36,20 @@ pub(crate) struct Outcome {
 
 /// A shift that is over.
 #[derive(Drop)]
-pub(crate) struct Over {
-    pub(crate) node: Gateway,
+pub(crate) struct Over<R: Replica> {
+    pub(crate) node: Node<R, MemoryDisk>,
     pub(crate) history: Vec<Entry>,
     /// Why it is not closed.
     pub(crate) fault: Option<CloseFault>,
 }
 
 /// A shift of a gateway for so many workers and so many calls. There is none if memory ran out.
-pub(crate) fn shift_of(
+pub(crate) fn shift_of<R: Replica>(
     page: &mut Page,
-    node: Gateway,
+    node: Node<R, MemoryDisk>,
     workers: u64,
     steps: u64,
-) -> Option<(Shared, Vec<Pass>)> {
+) -> Option<(Shift<R, MemoryDisk>, Vec<Pass>)> {
     let opened = Shift::open(page.alloc(), node, passes_of(workers), steps_of(steps)).ok();
     if opened.is_none() {
         page.stop(Stop::Memory);
@@ -114,18 +115,46 @@ pub(crate) fn unserved(alloc: Global, passes: Vec<Pass>, cause: Option<Cause>) -
     }
 }
 
+/// The passes that serving handed back.
+pub(crate) fn passes_back(outcome: Outcome) -> Vec<Pass> {
+    let Outcome {
+        passes,
+        taken,
+        left,
+        cause: _,
+    } = outcome;
+    drop(taken);
+    drop(left);
+    passes
+}
+
 /// Ends a shift, and closes it with these passes.
-pub(crate) fn close(shift: Shared, passes: Vec<Pass>) -> Over {
-    match shift.end().close(passes) {
+pub(crate) fn close<R: Replica>(shift: Shift<R, MemoryDisk>, passes: Vec<Pass>) -> Over<R> {
+    match calls::close_by(calls::over(shift), passes) {
         Ok(closed) => Over {
             node: closed.node,
             history: closed.history,
             fault: None,
         },
-        Err((ended, _passes, fault)) => Over {
-            node: ended.node,
-            history: ended.history,
-            fault: Some(fault),
-        },
+        Err((ended, passes, fault)) => {
+            drop(passes);
+            Over {
+                node: ended.node,
+                history: ended.history,
+                fault: Some(fault),
+            }
+        }
     }
+}
+
+/// The gateway of a shift that is over.
+pub(crate) fn node_of<R: Replica>(over: Over<R>) -> Node<R, MemoryDisk> {
+    let Over {
+        node,
+        history,
+        fault,
+    } = over;
+    drop(history);
+    drop(fault);
+    node
 }
