@@ -148,13 +148,18 @@ fn play_happening(page: &mut Page, plan: &mut Plan, first: &str, words: &mut Wor
     match first {
         "datagram" => add_datagram(page, &mut plan.coming, words),
         "failure" => add_failure(page, &mut plan.coming, words),
-        first => {
-            let deed = read_deed(first, words);
-            if words.end(page) {
-                let is_short = plan.deeds.push(deed).is_err();
-                page.stop_if_short(is_short);
-            }
-        }
+        first => add_deed(page, &mut plan.deeds, first, words),
+    }
+}
+
+/// What happens when gateways meet, in a line whose first word this is.
+fn add_deed(page: &mut Page, deeds: &mut Vec<Deed>, first: &str, words: &mut Words) {
+    let deed = read_deed(first, words);
+    if words.end(page) {
+        let is_short = deeds.push(deed).is_err();
+        page.stop_if_short(is_short);
+    } else {
+        drop(deed);
     }
 }
 
@@ -197,6 +202,8 @@ fn add_datagram(page: &mut Page, coming: &mut Vec<Coming>, words: &mut Words) {
         };
         let is_short = coming.push(datagram).is_err();
         page.stop_if_short(is_short);
+    } else {
+        drop(bytes);
     }
 }
 
