@@ -57,6 +57,16 @@ pub(crate) fn is_one_of(word: &str, words: &str) -> bool {
     false
 }
 
+/// Whether a word is this one.
+pub(crate) fn is_word(word: &str, other: &str) -> bool {
+    word == other
+}
+
+/// Whether octets are these.
+pub(crate) fn is_same(octets: &[u8], others: &[u8]) -> bool {
+    octets == others
+}
+
 /// Makes what a call of a row needs, and plays it.
 fn play_made<C: Made>(said: &mut Said, call: &str, is_second: bool) {
     if let Some(mut calls) = C::make(said, call, is_second) {
