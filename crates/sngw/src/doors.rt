@@ -196,10 +196,7 @@ fn accept<T: Wait>(rt: &T, alloc: Global, stream: TcpStream, shared: &Shared) {
         open(rt, alloc, stream, Origin::Accepted, &shared.pool);
     } else {
         shared.board.add(Number::TurnedAway);
-        shared
-            .pool
-            .relay
-            .note_trouble(rt, Trouble::TurnedAway, 0);
+        shared.pool.relay.note_trouble(rt, Trouble::TurnedAway, 0);
         drop(stream);
     }
 }
@@ -251,25 +248,38 @@ pub(crate) fn trouble_line(alloc: Global, report: Report) -> Option<String> {
         number,
         count,
     } = report;
-    let line = match trouble {
-        Trouble::SameNumber => format!(in alloc;
-            "link: another gateway has the number {number} of this one, and is not linked: {count} times"
-        ),
-        Trouble::Stranger => format!(in alloc;
-            "link: gateway {number} is not among numbers, and is not linked: {count} times"
-        ),
-        Trouble::Conflict => format!(in alloc;
-            "link: gateway {number} told what contradicts what is kept, and was refused: {count} times"
-        ),
-        Trouble::TooMuch => format!(in alloc;
-            "link: gateway {number} told more than may be kept, and was refused: {count} times"
-        ),
-        Trouble::TurnedAway => format!(in alloc;
-            "link: {MOST_ACCEPTED} that dialled are linked, and another was turned away: {count} times"
-        ),
-        Trouble::Twice => format!(in alloc;
-            "link: gateway {number} was linked once more while it was linked: {count} times"
-        ),
-    };
+    let number = number_in(trouble, number);
+    let before = words_before(trouble);
+    let after = words_after(trouble);
+    let line = format!(in alloc; "link: {before}{number}{after}: {count} times");
     line.ok()
+}
+
+/// The number in the line that tells a trouble: of links if no more may be, else the gateway's.
+fn number_in(trouble: Trouble, number: u8) -> u64 {
+    match trouble {
+        Trouble::TurnedAway => MOST_ACCEPTED as u64,
+        _ => u64::from(number),
+    }
+}
+
+/// What stands before that number.
+fn words_before(trouble: Trouble) -> &'static str {
+    match trouble {
+        Trouble::SameNumber => "another gateway has the number ",
+        Trouble::TurnedAway => "",
+        _ => "gateway ",
+    }
+}
+
+/// What stands after it.
+fn words_after(trouble: Trouble) -> &'static str {
+    match trouble {
+        Trouble::SameNumber => " of this one, and is not linked",
+        Trouble::Stranger => " is not among numbers, and is not linked",
+        Trouble::Conflict => " told what contradicts what is kept, and was refused",
+        Trouble::TooMuch => " told more than may be kept, and was refused",
+        Trouble::TurnedAway => " that dialled are linked, and another was turned away",
+        Trouble::Twice => " was linked once more while it was linked",
+    }
 }

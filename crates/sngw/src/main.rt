@@ -76,8 +76,7 @@ fn main(rt: HostRuntime) -> ExitCode {
     let errors = rt.stderr();
     let mut err = io::writer(&errors);
     let Some((out, lines)) = outputs(rt.alloc()) else {
-        let _ = writeln!(&mut err, "sngw: {}", Stop::Memory);
-        return ExitCode::from(Stop::Memory.status());
+        return no_memory(&mut err);
     };
     for printed in [&out, &lines] {
         let is_printed = match printed.clone() {
@@ -94,6 +93,12 @@ fn main(rt: HostRuntime) -> ExitCode {
     };
     let started = start(&rt, rt.alloc(), said, &mut io::writer(&rt), &mut err);
     end(&rt, said, started)
+}
+
+/// Tells that there is no memory for lines. The program's status.
+fn no_memory<E: Write>(err: &mut E) -> ExitCode {
+    let _ = writeln!(err, "sngw: {}", Stop::Memory);
+    ExitCode::from(Stop::Memory.status())
 }
 
 /// The lines of both outputs. `None` if memory runs out.

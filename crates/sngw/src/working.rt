@@ -138,9 +138,7 @@ where
 {
     match crew_of(alloc, passes, workers) {
         Some(mut crew) => {
-            let made = work_by(
-                rt, alloc, settings, shift, &mut crew, inlet, shared, number,
-            );
+            let made = work_by(rt, alloc, settings, shift, &mut crew, inlet, shared, number);
             drop(crew);
             made
         }
@@ -372,20 +370,12 @@ where
         admission,
     } = inlet;
     let (mut ears, mouth) = socket.sides(&shared.pool.clock);
-    let mut watched = Watched::new(
+    let mut wire = Watched::new(
         rt, alloc, &mut ears, mouth, stage, late, is_claimed, shared, admission,
     );
     let outlet = Outlet::new(rt, alloc, &mouth, stage, fence, shared);
     let served = serve_beside(
-        rt,
-        alloc,
-        shift,
-        passes,
-        seats,
-        &mut watched,
-        &outlet,
-        shared,
-        stage,
+        rt, alloc, shift, passes, seats, &mut wire, &outlet, shared, stage,
     );
     drop(outlet);
     served
