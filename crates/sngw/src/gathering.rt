@@ -373,11 +373,16 @@ fn see_all(
 ) -> bool {
     let mut is_whole = true;
     for glimpse in clients {
-        if seen.push(seen_now(old, glimpse, second, passed)).is_err() {
+        if !see(seen, seen_now(old, glimpse, second, passed)) {
             is_whole = false;
         }
     }
     is_whole
+}
+
+/// Puts a client after others. Whether there was memory for it.
+fn see(seen: &mut Vec<Seen>, one: Seen) -> bool {
+    seen.push(one).is_ok()
 }
 
 /// A client, with what earlier glances add to it.

@@ -113,7 +113,8 @@ where
         Ok(found) => {
             let known = field.known.as_mut_slice();
             let is_counted = count_known(rt, alloc, shift, found.as_slice(), known);
-            keep_all(&mut field.clients, found) && is_counted
+            let is_kept = keep_all(&mut field.clients, found);
+            is_kept && is_counted
         }
     }
 }
@@ -130,11 +131,16 @@ fn last_of(clients: &[Glimpse]) -> &[u8] {
 fn keep_all(clients: &mut Vec<Glimpse>, found: Vec<Glimpse>) -> bool {
     let mut is_kept = true;
     for glimpse in found {
-        if clients.push(glimpse).is_err() {
+        if !keep(clients, glimpse) {
             is_kept = false;
         }
     }
     is_kept
+}
+
+/// Puts a client after others. Whether there was memory for it.
+fn keep(clients: &mut Vec<Glimpse>, glimpse: Glimpse) -> bool {
+    clients.push(glimpse).is_ok()
 }
 
 /// Adds how many messages of each gateway are known for these clients. Whether there was memory for

@@ -143,14 +143,28 @@ fn tell<T: Wait + Print + Eprint>(
     report: &mut Report,
 ) -> u64 {
     let News { alloc, told, lost } = news;
-    let mut lost = lost;
     let mut events = mem::replace(&mut report.events, Sequence::empty(alloc)).into_vec();
+    let untold = tell_each(rt, alloc, level, said, moment, told, &mut events);
+    drop(mem::replace(&mut report.events, Sequence::new(events)));
+    lost.saturating_add(untold)
+}
+
+/// The same of these, with the events of the page. How many could not be told.
+fn tell_each<T: Wait + Print + Eprint>(
+    rt: &T,
+    alloc: Global,
+    level: u8,
+    said: Said<'_>,
+    moment: u64,
+    told: Vec<What>,
+    events: &mut Vec<Event>,
+) -> u64 {
+    let mut lost = 0u64;
     for what in told {
         let event = Event { moment, what };
         count_unless(&mut lost, say(rt, alloc, level, said, &event));
-        count_unless(&mut lost, keep(&mut events, event));
+        count_unless(&mut lost, keep(events, event));
     }
-    drop(mem::replace(&mut report.events, Sequence::new(events)));
     lost
 }
 

@@ -136,14 +136,11 @@ impl Lines {
 
     /// Prints a line.
     fn print<T: Print + Eprint>(&self, rt: &T, line: Line) {
-        let _ = match (self.output, line) {
-            (Output::Standard, Line::Text(text)) => println!(rt; "{text}"),
-            (Output::Standard, Line::End(stop)) => println!(rt; "sngw: {stop}"),
-            (Output::Standard, Line::LeftOut(count)) => println!(rt; "lines left out {count}"),
-            (Output::Errors, Line::Text(text)) => eprintln!(rt; "{text}"),
-            (Output::Errors, Line::End(stop)) => eprintln!(rt; "sngw: {stop}"),
-            (Output::Errors, Line::LeftOut(count)) => eprintln!(rt; "lines left out {count}"),
-        };
+        match self.output {
+            Output::Standard => print_out(rt, &line),
+            Output::Errors => print_err(rt, &line),
+        }
+        drop(line);
     }
 
     /// Prints each line, until no more come.
@@ -190,6 +187,24 @@ impl Lines {
         );
         let _ = waiting.is_done;
     }
+}
+
+/// Prints a line to standard output.
+fn print_out<T: Print>(rt: &T, line: &Line) {
+    let _ = match line {
+        Line::Text(text) => println!(rt; "{text}"),
+        Line::End(stop) => println!(rt; "sngw: {stop}"),
+        Line::LeftOut(count) => println!(rt; "lines left out {count}"),
+    };
+}
+
+/// Prints a line to standard error.
+fn print_err<T: Eprint>(rt: &T, line: &Line) {
+    let _ = match line {
+        Line::Text(text) => eprintln!(rt; "{text}"),
+        Line::End(stop) => eprintln!(rt; "sngw: {stop}"),
+        Line::LeftOut(count) => eprintln!(rt; "lines left out {count}"),
+    };
 }
 
 /// Puts a line after those that wait, if fewer than so many do. Says whether it did.

@@ -53,21 +53,29 @@ impl Fence {
     /// Whether DISCONNECT may be said to an address in this second. If so, it counts as said.
     fn may_say<T: Wait>(&self, rt: &T, second: u64, to: Addr) -> bool {
         let mut said = self.said.lock(rt);
-        if said.stretch != second / A_WHILE {
-            said.stretch = second / A_WHILE;
-            clear(said.counts.as_mut_slice());
-        }
-        match said.counts.get_mut(group_of(to)) {
-            None => true,
-            Some(count) => {
-                if *count >= MOST_SAID {
-                    return false;
-                }
-                *count += 1;
-                true
-            }
-        }
+        count_in(&mut said, second / A_WHILE, group_of(to))
     }
+}
+
+/// Whether DISCONNECT may be said to a group in this stretch of seconds. If so, it counts as said.
+fn count_in(said: &mut Said, stretch: u64, group: usize) -> bool {
+    if said.stretch != stretch {
+        said.stretch = stretch;
+        clear(said.counts.as_mut_slice());
+    }
+    match said.counts.get_mut(group) {
+        None => true,
+        Some(count) => count_one(count),
+    }
+}
+
+/// Whether DISCONNECT may be said once more. If so, it counts as said.
+fn count_one(count: &mut u8) -> bool {
+    if *count >= MOST_SAID {
+        return false;
+    }
+    *count += 1;
+    true
 }
 
 /// Sets each count to 0.
