@@ -239,8 +239,7 @@ impl<'a, W: Wait, R: Replica> Work<'a, W, R> {
 
 /// A share of the step.
 fn share(said: &mut Said, step: &Arc<Step>) -> Option<Arc<Step>> {
-    let shared = step.clone();
-    beside(said, shared)
+    beside(said, step.clone())
 }
 
 /// What a shift answers to a call.
