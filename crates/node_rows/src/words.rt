@@ -183,12 +183,17 @@ impl<'a, 'n> Words<'a, 'n> {
         let word = self.word();
         match word.strip_prefix("0x") {
             None => self.named(word.as_bytes()),
-            Some(digits) => {
-                let mut name = Vec::new(self.alloc);
-                self.add_digits(&mut name, digits);
-                self.named(&name)
-            }
+            Some(digits) => self.spelled(digits),
         }
+    }
+
+    /// The client whose name hexadecimal digits write.
+    fn spelled(&mut self, digits: &str) -> Option<ClientId> {
+        let mut name = Vec::new(self.alloc);
+        self.add_digits(&mut name, digits);
+        let client = self.named(&name);
+        drop(name);
+        client
     }
 
     /// The client of this name.
