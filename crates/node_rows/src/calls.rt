@@ -99,10 +99,19 @@ fn told_again(alloc: Global, config: Config) -> Option<Config> {
 /// The octets that stand in a slot; nothing if memory ran out.
 pub(crate) fn slot_octets(alloc: Global, disk: &mut MemoryDisk, slot: Slot) -> Option<Vec<u8>> {
     let size = disk.len(slot).ok()?;
-    let mut octets = vec![in alloc; 0u8; size].ok()?;
+    let octets = vec![in alloc; 0u8; size].ok()?;
+    filled(disk, slot, octets)
+}
+
+/// The octets from the beginning of a slot on, in place of these.
+fn filled(disk: &mut MemoryDisk, slot: Slot, octets: Vec<u8>) -> Option<Vec<u8>> {
+    let mut octets = octets;
     match disk.read_at(slot, 0, &mut octets) {
         Ok(()) => Some(octets),
-        Err(_) => None,
+        Err(_) => {
+            drop(octets);
+            None
+        }
     }
 }
 

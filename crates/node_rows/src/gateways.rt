@@ -150,7 +150,10 @@ pub(crate) fn slots<R: Replica>(page: &mut Page, store: &mut Store<R>, words: &m
 /// The octets of a slot.
 fn print_slot(page: &mut Page, disk: &mut MemoryDisk, text: &str, slot: Slot) {
     match slot_octets(page.alloc(), disk, slot) {
-        Some(octets) => print_octets(page, text, &octets),
+        Some(octets) => {
+            print_octets(page, text, &octets);
+            drop(octets);
+        }
         None => page.stop(Stop::Memory),
     }
 }

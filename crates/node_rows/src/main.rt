@@ -187,10 +187,17 @@ fn main(rt: HostRuntime) -> ExitCode {
     let mut page = Page::new(rt.alloc());
     play_input(&rt, &mut page);
     write(&rt, &mut page);
-    match page.reason() {
+    let reason = page.reason();
+    drop(page);
+    end(&rt, reason)
+}
+
+/// The status to end with. Tells the reason, if there is one.
+fn end<T: Eprint>(rt: &T, reason: Option<Stop>) -> ExitCode {
+    match reason {
         None => ExitCode::SUCCESS,
         Some(stop) => {
-            let _ = eprintln!(&rt; "node_rows: {stop}");
+            let _ = eprintln!(rt; "node_rows: {stop}");
             ExitCode::FAILURE
         }
     }
@@ -248,6 +255,7 @@ fn write<T: Print>(rt: &T, page: &mut Page) {
         if let Err(error) = &written {
             page.stop(broken(error));
         }
+        drop(written);
     }
 }
 
@@ -452,13 +460,24 @@ where
     R: Replica + Send,
     R::Staged: Send,
 {
+    if !play_name(page, &mut play.names, words) {
+        let mut words = Words::new(rt.alloc(), &play.names, words);
+        play_part(rt, page, play.part, &mut play.begun, &mut words);
+    }
+}
+
+/// Plays a line if it is about names. Whether it is.
+fn play_name(page: &mut Page, names: &mut Names, words: &[&str]) -> bool {
     match words {
-        ["name", fields @ ..] => add(page, &mut play.names, fields),
-        ["repeat", fields @ ..] => repeat(page, &mut play.names, fields),
-        words => {
-            let mut words = Words::new(rt.alloc(), &play.names, words);
-            play_part(rt, page, play.part, &mut play.begun, &mut words);
+        ["name", fields @ ..] => {
+            add(page, names, fields);
+            true
         }
+        ["repeat", fields @ ..] => {
+            repeat(page, names, fields);
+            true
+        }
+        _ => false,
     }
 }
 

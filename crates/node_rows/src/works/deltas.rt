@@ -29,6 +29,7 @@ fn print_rounds(page: &mut Page, delta: &Delta, rounds: u32) {
     page.length(" operations, ", octets.len());
     page.checksum(" octets a round, checksum ", checksum(&octets));
     page.end();
+    drop(octets);
 }
 
 /// All rounds: how many operations were read.

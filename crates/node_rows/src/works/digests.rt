@@ -93,6 +93,7 @@ fn print_size(page: &mut Page, digest: &Digest) {
     check(page, written);
     page.length("digests: ", octets.len());
     page.text(" octets");
+    drop(octets);
 }
 
 /// How many operations deltas have, and how many octets.
@@ -113,5 +114,7 @@ fn octets_of(page: &mut Page, delta: &Delta) -> u64 {
     let mut octets = Vec::new(page.alloc());
     let written = write_delta(page.alloc(), delta, &mut octets);
     check(page, written);
-    octets.len() as u64
+    let count = octets.len() as u64;
+    drop(octets);
+    count
 }
