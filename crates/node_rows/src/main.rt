@@ -445,12 +445,17 @@ where
     R: Replica + Send,
     R::Staged: Send,
 {
-    let words: Result<Vec<&str>, AllocError> = line.split(' ').collect(page.alloc());
+    let words = words_of(page.alloc(), line);
     match &words {
         Ok(words) => play_line(rt, page, play, words.as_slice()),
         Err(_) => page.stop(Stop::Memory),
     }
     drop(words);
+}
+
+/// The words of a line.
+fn words_of(alloc: Global, line: &str) -> Result<Vec<&str>, AllocError> {
+    line.split(' ').collect(alloc)
 }
 
 /// Plays a line that is about names, or one of the part.
