@@ -44,63 +44,14 @@ where
     R::Staged: Send,
     D: Disk + Drop + Send,
 {
-    match open_all(rt, alloc, settings) {
-        Ok(opened) => run_by(rt, alloc, settings, node, opened, shifts, said),
-        Err(stop) => {
-            drop(node);
-            Err(stop)
-        }
-    }
-}
-
-/// Works so many shifts, by what the gateway is reached by.
-fn run_by<T, R, D>(
-    rt: &T,
-    alloc: Global,
-    settings: &Settings,
-    node: Node<R, D>,
-    opened: Opened,
-    shifts: u64,
-    said: Said<'_>,
-) -> Result<(), Stop>
-where
-    T: Threads + Wait + Sync + Clock + Print + Eprint + Files<File = File>,
-    T: Net<Listener = TcpListener, Stream = TcpStream>,
-    R: Replica + Send,
-    R::Staged: Send,
-    D: Disk + Drop + Send,
-{
-    let mut opened = opened;
+    let mut opened = open_all(rt, alloc, settings)?;
     let place = Mutex::new(Some(node));
-    let worked = run_in(rt, alloc, settings, &place, &mut opened, shifts, said);
-    drop(place);
-    drop(opened);
-    worked
-}
-
-/// The same with the gateway in its place.
-fn run_in<T, R, D>(
-    rt: &T,
-    alloc: Global,
-    settings: &Settings,
-    place: &Mutex<Option<Node<R, D>>>,
-    opened: &mut Opened,
-    shifts: u64,
-    said: Said<'_>,
-) -> Result<(), Stop>
-where
-    T: Threads + Wait + Sync + Clock + Print + Eprint + Files<File = File>,
-    T: Net<Listener = TcpListener, Stream = TcpStream>,
-    R: Replica + Send,
-    R::Staged: Send,
-    D: Disk + Drop + Send,
-{
     let over = Stage::new(0, 0);
     let worked = run_beside(
         rt,
         alloc,
         settings,
-        place,
+        &place,
         &mut opened.inlet,
         shifts,
         opened.doors.as_mut_slice(),
@@ -109,7 +60,8 @@ where
         &over,
         said,
     );
-    drop(over);
+    drop(place);
+    drop(opened);
     worked
 }
 
@@ -136,86 +88,19 @@ fn open_all<T>(rt: &T, alloc: Global, settings: &Settings) -> Result<Opened, Sto
 where
     T: Eprint + Net<Listener = TcpListener, Stream = TcpStream>,
 {
-    match socket_of(rt, alloc, settings) {
-        Ok(socket) => open_beside(rt, alloc, settings, socket),
-        Err(stop) => Err(stop),
-    }
-}
-
-/// The same, once there is the socket of datagrams.
-fn open_beside<T>(
-    rt: &T,
-    alloc: Global,
-    settings: &Settings,
-    socket: Socket,
-) -> Result<Opened, Stop>
-where
-    T: Eprint + Net<Listener = TcpListener, Stream = TcpStream>,
-{
-    match listeners_of(rt, settings) {
-        Ok(listeners) => opened_at(alloc, settings, socket, listeners),
-        Err(stop) => {
-            drop(socket);
-            Err(stop)
-        }
-    }
-}
-
-/// The same, once there are the listeners.
-fn opened_at(
-    alloc: Global,
-    settings: &Settings,
-    socket: Socket,
-    listeners: Listeners,
-) -> Result<Opened, Stop> {
-    match inlet_of(alloc, settings, socket) {
-        Ok(inlet) => opened_with(alloc, settings, inlet, listeners),
-        Err(stop) => {
-            drop(listeners);
-            Err(stop)
-        }
-    }
-}
-
-/// The same, once it is known where datagrams come from.
-fn opened_with(
-    alloc: Global,
-    settings: &Settings,
-    inlet: Inlet,
-    listeners: Listeners,
-) -> Result<Opened, Stop> {
-    match doors_of(alloc, settings) {
-        Some(doors) => opened_by(alloc, settings, inlet, listeners, doors),
-        None => {
-            drop(listeners);
-            drop(inlet);
-            Err(Stop::Memory)
-        }
-    }
-}
-
-/// The same, once there are the doors.
-fn opened_by(
-    alloc: Global,
-    settings: &Settings,
-    inlet: Inlet,
-    listeners: Listeners,
-    doors: Vec<Door>,
-) -> Result<Opened, Stop> {
-    match shared_of(alloc, settings) {
-        Ok(shared) => Ok(Opened {
-            inlet,
-            doors,
-            shared,
-            listeners,
-        }),
-        Err(stop) => {
-            drop(doors);
-            drop(listeners);
-            drop(inlet);
-            Err(stop)
-        }
-    }
+    let socket = socket_of(rt, alloc, settings)?;
+    let listeners = listeners_of(rt, settings)?;
+    let shared = shared_of(alloc, settings)?;
+    let Some(doors) = doors_of(alloc, settings) else {
+        return Err(Stop::Memory);
+    };
+    let inlet = inlet_of(alloc, settings, socket)?;
+    Ok(Opened {
+        inlet,
+        doors,
+        shared,
+        listeners,
+    })
 }
 
 /// The socket of datagrams.
@@ -306,54 +191,21 @@ fn without_waiting(listener: TcpListener) -> Result<TcpListener, Stop> {
 
 /// Where datagrams come from, and go to.
 fn inlet_of(alloc: Global, settings: &Settings, socket: Socket) -> Result<Inlet, Stop> {
-    match Late::none(alloc) {
-        Some(late) => inlet_with(alloc, settings, socket, late),
-        None => {
-            drop(socket);
-            Err(Stop::Memory)
-        }
-    }
-}
-
-/// The same, once there is room for what comes late.
-fn inlet_with(
-    alloc: Global,
-    settings: &Settings,
-    socket: Socket,
-    late: Late,
-) -> Result<Inlet, Stop> {
-    match Fence::new(alloc) {
-        Some(fence) => inlet_by(alloc, settings, socket, late, fence),
-        None => {
-            drop(late);
-            drop(socket);
-            Err(Stop::Memory)
-        }
-    }
-}
-
-/// The same, once there is the fence.
-fn inlet_by(
-    alloc: Global,
-    settings: &Settings,
-    socket: Socket,
-    late: Late,
-    fence: Fence,
-) -> Result<Inlet, Stop> {
-    match Admission::of(alloc, settings) {
-        Some(admission) => Ok(Inlet {
-            socket,
-            late,
-            fence,
-            admission,
-        }),
-        None => {
-            drop(fence);
-            drop(late);
-            drop(socket);
-            Err(Stop::Memory)
-        }
-    }
+    let Some(late) = Late::none(alloc) else {
+        return Err(Stop::Memory);
+    };
+    let Some(fence) = Fence::new(alloc) else {
+        return Err(Stop::Memory);
+    };
+    let Some(admission) = Admission::of(alloc, settings) else {
+        return Err(Stop::Memory);
+    };
+    Ok(Inlet {
+        socket,
+        late,
+        fence,
+        admission,
+    })
 }
 
 /// Says which address of the settings cannot be had, and why.
@@ -467,140 +319,29 @@ where
     D: Disk + Drop + Send,
 {
     let mut keeper = Keeper::of(settings.journal.as_str());
-    let worked = match write_first(rt, alloc, place, inlet, shared, &mut keeper, said) {
-        Ok(()) => work_each(
+    write_first(rt, alloc, place, inlet, shared, &mut keeper, said)?;
+    listen_first(rt, settings, &shared.pool);
+    for number in 0..shifts {
+        let Some(node) = place.lock(rt).take() else {
+            return Ok(());
+        };
+        know_clients(alloc, settings, &node, inlet, shared.pool.clock.second());
+        let mut worked = work(rt, alloc, settings, node, inlet, shared, number)?;
+        let ended = end_shift(
             rt,
             alloc,
             settings,
-            place,
+            &mut worked,
             inlet,
             shared,
-            shifts,
+            number + 1,
             &mut keeper,
             said,
-        ),
-        Err(stop) => Err(stop),
-    };
-    drop(keeper);
-    worked
-}
-
-/// The shifts, once what was read at the start is written.
-fn work_each<T, R, D>(
-    rt: &T,
-    alloc: Global,
-    settings: &Settings,
-    place: &Mutex<Option<Node<R, D>>>,
-    inlet: &mut Inlet,
-    shared: &Shared,
-    shifts: u64,
-    keeper: &mut Keeper<'_>,
-    said: Said<'_>,
-) -> Result<(), Stop>
-where
-    T: Threads + Wait + Sync + Clock + Print + Eprint + Files<File = File>,
-    R: Replica + Send,
-    R::Staged: Send,
-    D: Disk + Drop + Send,
-{
-    listen_first(rt, settings, &shared.pool);
-    for number in 0..shifts {
-        match work_one(
-            rt, alloc, settings, place, inlet, shared, number, keeper, said,
-        ) {
-            Ok(true) => {}
-            Ok(false) => return Ok(()),
-            Err(stop) => return Err(stop),
-        }
+        );
+        put_back(rt, place, worked.node);
+        ended?;
     }
     Ok(())
-}
-
-/// The shift of this number, from 0 on. Whether there was a gateway for it.
-fn work_one<T, R, D>(
-    rt: &T,
-    alloc: Global,
-    settings: &Settings,
-    place: &Mutex<Option<Node<R, D>>>,
-    inlet: &mut Inlet,
-    shared: &Shared,
-    number: u64,
-    keeper: &mut Keeper<'_>,
-    said: Said<'_>,
-) -> Result<bool, Stop>
-where
-    T: Threads + Wait + Sync + Clock + Print + Eprint + Files<File = File>,
-    R: Replica + Send,
-    R::Staged: Send,
-    D: Disk + Drop + Send,
-{
-    match taken(rt, place) {
-        None => Ok(false),
-        Some(node) => match work_with(rt, alloc, settings, node, inlet, shared, number) {
-            Ok(worked) => end_with(
-                rt, alloc, settings, place, worked, inlet, shared, number, keeper, said,
-            ),
-            Err(stop) => Err(stop),
-        },
-    }
-}
-
-/// A gateway works the shift of this number, and the clients that it knows are no newcomers.
-fn work_with<T, R, D>(
-    rt: &T,
-    alloc: Global,
-    settings: &Settings,
-    node: Node<R, D>,
-    inlet: &mut Inlet,
-    shared: &Shared,
-    number: u64,
-) -> Result<Worked<R, D>, Stop>
-where
-    T: Threads + Wait + Sync + Clock,
-    R: Replica + Send,
-    R::Staged: Send,
-    D: Disk + Drop + Send,
-{
-    know_clients(alloc, settings, &node, inlet, shared.pool.clock.second());
-    work(rt, alloc, settings, node, inlet, shared, number)
-}
-
-/// Tells of the shift of this number, from 0 on, tends the gateway, and puts it back into its
-/// place. There was a gateway for the shift.
-fn end_with<T, R, D>(
-    rt: &T,
-    alloc: Global,
-    settings: &Settings,
-    place: &Mutex<Option<Node<R, D>>>,
-    worked: Worked<R, D>,
-    inlet: &mut Inlet,
-    shared: &Shared,
-    number: u64,
-    keeper: &mut Keeper<'_>,
-    said: Said<'_>,
-) -> Result<bool, Stop>
-where
-    T: Wait + Clock + Print + Eprint + Files<File = File>,
-    R: Replica,
-    D: Disk + Drop,
-{
-    let mut worked = worked;
-    let ended = end_shift(
-        rt,
-        alloc,
-        settings,
-        &mut worked,
-        inlet,
-        shared,
-        number.saturating_add(1),
-        keeper,
-        said,
-    );
-    put_back(rt, place, worked.node);
-    match ended {
-        Ok(()) => Ok(true),
-        Err(stop) => Err(stop),
-    }
 }
 
 /// Tells of the shift of this number, from 1 on, which is over, and tends the gateway.
@@ -620,42 +361,19 @@ where
     R: Replica,
     D: Disk + Drop,
 {
-    match shared.pool.relay.found_by(rt) {
-        Some(other) => Err(used(rt, alloc, settings.gateway, other, said)),
-        None => {
-            tell_shift(rt, alloc, worked, shared, number, said);
-            let done = go_on(rt, alloc, worked, inlet, shared, keeper, said);
-            note_turn(rt, shared, worked.closing, number, worked.steps);
-            done
-        }
+    if let Some(other) = shared.pool.relay.found_by(rt) {
+        return Err(used(rt, alloc, settings.gateway, other, said));
     }
-}
-
-/// Tells of the shift of this number. If the gateway was opened anew in it, that is told before.
-fn tell_shift<T, R, D>(
-    rt: &T,
-    alloc: Global,
-    worked: &Worked<R, D>,
-    shared: &Shared,
-    number: u64,
-    said: Said<'_>,
-)
-where
-    T: Wait + Print + Eprint,
-    R: Replica,
-    D: Disk + Drop,
-{
+    let steps = worked.steps;
     if worked.tended == Tended::Reopened {
         shared.board.add(Number::Reopened);
     }
     begin_anew(rt, alloc, &worked.node, &shared.pool, worked.tended, said);
-    said.out.say(rt, shift_line(alloc, number, worked.steps));
-}
-
-/// The line that tells that a shift is over. `None` if memory runs out.
-fn shift_line(alloc: Global, number: u64, steps: usize) -> Option<String> {
     let line = format!(in alloc; "shift {number} steps {steps}");
-    line.ok()
+    said.out.say(rt, line.ok());
+    let done = go_on(rt, alloc, worked, inlet, shared, keeper, said);
+    note_turn(rt, shared, worked.closing, number, steps);
+    done
 }
 
 /// Counts a shift that is over, and how long it took since it had begun to close.
@@ -668,14 +386,6 @@ fn note_turn<T: Clock>(rt: &T, shared: &Shared, closing: u64, number: u64, steps
         millisecond(rt).saturating_sub(closing),
     );
     board.set(Number::Shift, number);
-}
-
-/// Takes a gateway from its place. `None` if none is there.
-fn taken<T: Wait, R: Replica, D: Disk + Drop>(
-    rt: &T,
-    place: &Mutex<Option<Node<R, D>>>,
-) -> Option<Node<R, D>> {
-    place.lock(rt).take()
 }
 
 /// Puts a gateway into its place.
@@ -707,49 +417,17 @@ where
     if has_failed {
         shared.board.note_failed(rt);
     }
-    match tend_if(rt, alloc, worked, shared, keeper, has_failed, said) {
-        Ok(()) => {
-            let silence = keeper.silence_after(worked.has_recorded, has_failed);
-            keep_silence(rt, inlet, shared, silence);
-            Ok(())
-        }
-        Err(stop) => Err(stop),
-    }
-}
-
-/// Tends a gateway after its shift if it has failed, or its journal has grown.
-fn tend_if<T, R, D>(
-    rt: &T,
-    alloc: Global,
-    worked: &mut Worked<R, D>,
-    shared: &Shared,
-    keeper: &mut Keeper<'_>,
-    has_failed: bool,
-    said: Said<'_>,
-) -> Result<(), Stop>
-where
-    T: Wait + Clock + Print + Eprint + Files<File = File>,
-    R: Replica,
-    D: Disk + Drop,
-{
     if has_failed || (worked.has_written && keeper.is_grown(rt, alloc)) {
-        match tend_behind(rt, alloc, &mut worked.node, shared, keeper, said) {
-            Ok(_) => Ok(()),
-            Err(stop) => Err(stop),
-        }
-    } else {
-        Ok(())
+        tend_behind(rt, alloc, &mut worked.node, shared, keeper, said)?;
     }
-}
-
-/// Is silent for so many seconds since a write failed, and counts that.
-fn keep_silence<T: Clock>(rt: &T, inlet: &mut Inlet, shared: &Shared, silence: u64) {
+    let silence = keeper.silence_after(worked.has_recorded, has_failed);
     if silence > 0 {
         shared.board.set(Number::Halted, 1);
         be_silent(rt, inlet, &shared.pool.clock, silence);
         shared.board.set(Number::Halted, 0);
         shared.board.note_failed(rt);
     }
+    Ok(())
 }
 
 /// From now on the clients that the gateway knows are no newcomers. If memory runs out, some of
@@ -806,29 +484,9 @@ where
     R: Replica,
     D: Disk + Drop,
 {
-    match taken(rt, place) {
-        None => Ok(()),
-        Some(node) => write_back(rt, alloc, place, node, inlet, shared, keeper, said),
-    }
-}
-
-/// Writes anew what a gateway has read, and puts it back into its place.
-fn write_back<T, R, D>(
-    rt: &T,
-    alloc: Global,
-    place: &Mutex<Option<Node<R, D>>>,
-    node: Node<R, D>,
-    inlet: &mut Inlet,
-    shared: &Shared,
-    keeper: &mut Keeper<'_>,
-    said: Said<'_>,
-) -> Result<(), Stop>
-where
-    T: Wait + Clock + Print + Eprint + Files<File = File>,
-    R: Replica,
-    D: Disk + Drop,
-{
-    let mut node = node;
+    let Some(mut node) = place.lock(rt).take() else {
+        return Ok(());
+    };
     let written = write_anew(rt, alloc, &mut node, inlet, shared, keeper, said);
     put_back(rt, place, node);
     written
@@ -853,68 +511,21 @@ where
         return Ok(());
     }
     for _ in rt.forever() {
-        match try_to_write(rt, alloc, node, shared, keeper, said) {
-            Ok(true) => return Ok(()),
-            Ok(false) => wait_longer(rt, inlet, shared, keeper),
-            Err(stop) => return Err(stop),
+        let tended = tend_behind(rt, alloc, node, shared, keeper, said)?;
+        if is_written(tended) {
+            keeper.note_written();
+            shared.board.set(Number::Halted, 0);
+            return Ok(());
         }
+        if tended == Tended::Starved {
+            tell(rt, alloc, node, said);
+        }
+        let silence = keeper.wait_longer();
+        shared.board.set(Number::Halted, 1);
+        shared.board.note_failed(rt);
+        be_silent(rt, inlet, &shared.pool.clock, silence);
     }
     unreachable!()
-}
-
-/// Tries once to write what was read. Whether it is written.
-fn try_to_write<T, R, D>(
-    rt: &T,
-    alloc: Global,
-    node: &mut Node<R, D>,
-    shared: &Shared,
-    keeper: &mut Keeper<'_>,
-    said: Said<'_>,
-) -> Result<bool, Stop>
-where
-    T: Wait + Clock + Print + Eprint + Files<File = File>,
-    R: Replica,
-    D: Disk + Drop,
-{
-    match tend_behind(rt, alloc, node, shared, keeper, said) {
-        Ok(tended) => Ok(note_try(rt, alloc, node, shared, keeper, tended, said)),
-        Err(stop) => Err(stop),
-    }
-}
-
-/// Notes what became of a try to write, and tells how the gateway stands if it had no memory for
-/// that. Whether it is written.
-fn note_try<T, R, D>(
-    rt: &T,
-    alloc: Global,
-    node: &Node<R, D>,
-    shared: &Shared,
-    keeper: &mut Keeper<'_>,
-    tended: Tended,
-    said: Said<'_>,
-) -> bool
-where
-    T: Wait + Print + Eprint,
-    R: Replica,
-    D: Disk + Drop,
-{
-    if is_written(tended) {
-        keeper.note_written();
-        shared.board.set(Number::Halted, 0);
-        return true;
-    }
-    if tended == Tended::Starved {
-        tell(rt, alloc, node, said);
-    }
-    false
-}
-
-/// A try to write has failed: the gateway is silent for longer than after the one before.
-fn wait_longer<T: Clock>(rt: &T, inlet: &mut Inlet, shared: &Shared, keeper: &mut Keeper<'_>) {
-    let silence = keeper.wait_longer();
-    shared.board.set(Number::Halted, 1);
-    shared.board.note_failed(rt);
-    be_silent(rt, inlet, &shared.pool.clock, silence);
 }
 
 /// Waits so many seconds. What has come meanwhile is dropped.
@@ -941,29 +552,14 @@ where
 {
     let before = keeper.lengths(rt, alloc);
     let began = millisecond(rt);
-    match tended_now(alloc, node) {
+    match tend(alloc, node) {
         Ok(tended) => {
             note_tended(shared, tended, millisecond(rt).saturating_sub(began));
             begin_anew(rt, alloc, node, &shared.pool, tended, said);
             keeper.note_tended(rt, alloc, before, tended);
             Ok(tended)
         }
-        Err(stop) => Err(stop),
-    }
-}
-
-/// Tends a gateway. If it cannot be opened again, that ends the program.
-fn tended_now<R: Replica, D: Disk + Drop>(
-    alloc: Global,
-    node: &mut Node<R, D>,
-) -> Result<Tended, Stop> {
-    match tend(alloc, node) {
-        Ok(tended) => Ok(tended),
-        Err(fault) => {
-            let number = number_of(&fault);
-            drop(fault);
-            Err(Stop::Reopening(number))
-        }
+        Err(fault) => Err(Stop::Reopening(number_of(&fault))),
     }
 }
 
@@ -1019,26 +615,7 @@ where
 
 /// The line that says how a gateway stands. `None` if memory runs out.
 fn state_of<R: Replica, D: Disk + Drop>(alloc: Global, node: &Node<R, D>) -> Option<String> {
-    match count_clients(alloc, node) {
-        Some(count) => state_line(alloc, node.gateway(), node.records(), count),
-        None => None,
-    }
-}
-
-/// Of how many clients a gateway knows. `None` if memory runs out.
-fn count_clients<R: Replica, D: Disk + Drop>(alloc: Global, node: &Node<R, D>) -> Option<usize> {
-    match node.clients(alloc) {
-        Ok(clients) => {
-            let count = clients.len();
-            drop(clients);
-            Some(count)
-        }
-        Err(_) => None,
-    }
-}
-
-/// The same line of these numbers.
-fn state_line(alloc: Global, gateway: u8, records: u64, count: usize) -> Option<String> {
-    let line = format!(in alloc; "gateway {gateway} records {records} clients {count}");
-    line.ok()
+    let count = node.clients(alloc).ok()?.len();
+    let (gateway, records) = (node.gateway(), node.records());
+    format!(in alloc; "gateway {gateway} records {records} clients {count}").ok()
 }

@@ -1,6 +1,6 @@
 //! The wire, which ends with the shift.
 
-ghost use Rattle.std.specs.Prelude.{◌≡◌, ◌≤◌, ◌+◌, length, IfOk, IfSome};
+ghost use Rattle.std.specs.Prelude.{◌≡◌, ◌+◌};
 
 use crate::admission::{Admission, CONGESTION, Verdict};
 use crate::board::{Number, Shared};
@@ -157,88 +157,6 @@ impl<'a, T: Wait + Clock, W: Wire, P: Post> Watched<'a, T, W, P> {
         }
         self.stage.claim()
     }
-
-    /// The next datagram that becomes a call, if one came. The receive fails if the shift is over.
-    fn come(&mut self, buffer: &mut [u8]) -> Result<Option<Arrival>, WireFault>
-        ensures failures { self.new.failures ≡ self.old.failures }
-        ensures datagrams { (self.new.arrivals ≡ self.old.arrivals)
-            × (self.new.drops ≡ self.old.drops) }
-        ensures size { IfOk result (λ came. IfSome came (λ arrival. arrival.size
-            ≤ length buffer.new)) }
-    {
-        let is_listening = self.shared.pool.listening.is_on() && self.listens();
-        if !is_listening && self.late.is_there() && self.has_call() {
-            return Ok(self.late_one(buffer));
-        }
-        if self.is_over() {
-            return Err(WireFault);
-        }
-        if is_listening {
-            self.stage.wait(self.rt, Phase::Serving, A_LOOK);
-            return Ok(None);
-        }
-        self.read(buffer)
-    }
-
-    /// The datagram that came late, of which a call is claimed. If it becomes none, that is given
-    /// back.
-    fn late_one(&mut self, buffer: &mut [u8]) -> Option<Arrival>
-        ensures failures { self.new.failures ≡ self.old.failures }
-        ensures datagrams { (self.new.arrivals ≡ self.old.arrivals)
-            × (self.new.drops ≡ self.old.drops) }
-        ensures size { IfSome result (λ arrival. arrival.size ≤ length buffer.new) }
-    {
-        let Some(arrival) = self.late.give(buffer) else {
-            return None;
-        };
-        if self.holds_back(&arrival, &buffer[..arrival.size]) {
-            self.stage.give_back();
-            return None;
-        }
-        self.shared.board.note_came(&buffer[..arrival.size]);
-        Some(arrival)
-    }
-
-    /// Reads the next datagram, if one came.
-    fn read(&mut self, buffer: &mut [u8]) -> Result<Option<Arrival>, WireFault>
-        ensures failures { self.new.failures ≡ self.old.failures }
-        ensures datagrams { (self.new.arrivals ≡ self.old.arrivals)
-            × (self.new.drops ≡ self.old.drops) }
-        ensures size { IfOk result (λ came. IfSome came (λ arrival. arrival.size
-            ≤ length buffer.new)) }
-    {
-        match self.wire.recv(buffer) {
-            Ok(None) => {
-                self.shared.pool.note_read();
-                Ok(None)
-            }
-            Ok(Some(arrival)) => self.admit(arrival, buffer),
-            Err(_) => Err(WireFault),
-        }
-    }
-
-    /// A datagram that stands in the front of the buffer, if it becomes a call. If none is left for
-    /// it, it is late, and the shift is to close.
-    fn admit(&mut self, arrival: Arrival, buffer: &[u8]) -> Result<Option<Arrival>, WireFault>
-        requires { arrival.size ≤ length buffer.now }
-        ensures failures { self.new.failures ≡ self.old.failures }
-        ensures datagrams { (self.new.arrivals ≡ self.old.arrivals)
-            × (self.new.drops ≡ self.old.drops) }
-        ensures size { IfOk result (λ came. IfSome came (λ admitted. admitted.size
-            ≤ length buffer.now)) }
-    {
-        if self.holds_back(&arrival, &buffer[..arrival.size]) {
-            return Ok(None);
-        }
-        if self.stage.claim() {
-            self.shared.board.note_came(&buffer[..arrival.size]);
-            self.stage.keep(self.rt, arrival.size);
-            return Ok(Some(arrival));
-        }
-        self.late.keep(arrival, buffer);
-        self.stage.close(self.rt);
-        Err(WireFault)
-    }
 }
 
 impl<'a, T: Wait + Clock, W: Wire, P: Post> Wire for Watched<'a, T, W, P> {
@@ -250,11 +168,46 @@ impl<'a, T: Wait + Clock, W: Wire, P: Post> Wire for Watched<'a, T, W, P> {
 
     fn recv(&mut self, buffer: &mut [u8]) -> Result<Option<Arrival>, WireFault> {
         self.rests = 0;
-        match self.come(buffer) {
-            Ok(None) => Ok(None),
+        let is_listening = self.shared.pool.listening.is_on() && self.listens();
+        if !is_listening && self.late.is_there() && self.has_call() {
+            let Some(arrival) = self.late.give(buffer) else {
+                return Ok(None);
+            };
+            if self.holds_back(&arrival, &buffer[..arrival.size]) {
+                self.stage.give_back();
+                return Ok(None);
+            }
+            self.shared.board.note_came(&buffer[..arrival.size]);
+            self.arrivals = Tally::next(&self.arrivals);
+            return Ok(Some(arrival));
+        }
+        if self.is_over() {
+            self.failures = Failures::next(&self.failures);
+            return Err(WireFault);
+        }
+        if is_listening {
+            self.stage.wait(self.rt, Phase::Serving, A_LOOK);
+            return Ok(None);
+        }
+        match self.wire.recv(buffer) {
+            Ok(None) => {
+                self.shared.pool.note_read();
+                Ok(None)
+            }
             Ok(Some(arrival)) => {
-                self.arrivals = Tally::next(&self.arrivals);
-                Ok(Some(arrival))
+                if self.holds_back(&arrival, &buffer[..arrival.size]) {
+                    return Ok(None);
+                }
+                if self.stage.claim() {
+                    self.shared.board.note_came(&buffer[..arrival.size]);
+                    self.stage.keep(self.rt, arrival.size);
+                    self.arrivals = Tally::next(&self.arrivals);
+                    return Ok(Some(arrival));
+                }
+                self.late.keep(arrival, buffer);
+                self.stage.close(self.rt);
+                self.failures = Failures::next(&self.failures);
+                Err(WireFault)
             }
             Err(_) => {
                 self.failures = Failures::next(&self.failures);

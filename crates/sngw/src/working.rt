@@ -86,64 +86,20 @@ where
     let steps = steps_of(settings);
     let count = workers.saturating_add(1).saturating_add(links);
     let opened = Shift::open(alloc, node, count, steps).ok();
-    match opened {
-        Some((shift, passes)) => work_in(
-            rt, alloc, settings, shift, passes, workers, inlet, shared, number,
-        ),
-        None => Err(Stop::Memory),
-    }
-}
-
-/// Works a shift that was opened for these passes, of which so many serve, and closes it.
-fn work_in<T, R, D>(
-    rt: &T,
-    alloc: Global,
-    settings: &Settings,
-    shift: Shift<R, D>,
-    passes: Vec<Pass>,
-    workers: usize,
-    inlet: &mut Inlet,
-    shared: &Shared,
-    number: u64,
-) -> Result<Worked<R, D>, Stop>
-where
-    T: Threads + Wait + Sync + Clock,
-    R: Replica + Send,
-    R::Staged: Send,
-    D: Disk + Drop + Send,
-{
-    let made = work_with(
-        rt, alloc, settings, &shift, passes, workers, inlet, shared, number,
-    );
-    close(rt, alloc, shift, made, shared)
-}
-
-/// A crew of these passes works a shift.
-fn work_with<T, R, D>(
-    rt: &T,
-    alloc: Global,
-    settings: &Settings,
-    shift: &Shift<R, D>,
-    passes: Vec<Pass>,
-    workers: usize,
-    inlet: &mut Inlet,
-    shared: &Shared,
-    number: u64,
-) -> Result<Made, Stop>
-where
-    T: Threads + Wait + Sync + Clock,
-    R: Replica + Send,
-    R::Staged: Send,
-    D: Disk + Drop + Send,
-{
-    match crew_of(alloc, passes, workers) {
+    let Some((shift, passes)) = opened else {
+        return Err(Stop::Memory);
+    };
+    let made = match crew_of(alloc, passes, workers) {
         Some(mut crew) => {
-            let made = work_by(rt, alloc, settings, shift, &mut crew, inlet, shared, number);
+            let made = work_by(
+                rt, alloc, settings, &shift, &mut crew, inlet, shared, number,
+            );
             drop(crew);
             made
         }
         None => Err(Stop::Memory),
-    }
+    };
+    close(rt, alloc, shift, made, shared)
 }
 
 /// A crew works a shift, and gives the passes that made its calls.
@@ -163,25 +119,16 @@ where
     R::Staged: Send,
     D: Disk + Drop + Send,
 {
-    let is_claimed = is_claimed(settings, inlet, shared, number);
-    let stage = Stage::new(steps_of(settings), u64::from(is_claimed));
+    let steps = steps_of(settings);
+    let is_claimed = !shared.pool.listening.is_on()
+        && (steps > 1 || number % 2 == 0)
+        && has_first(inlet, &shared.pool.clock);
+    let stage = Stage::new(steps, u64::from(is_claimed));
     shared.pool.begin_shift(rt);
-    let worked = work_all(
+    work_all(
         rt, alloc, settings, shift, crew, inlet, is_claimed, shared, &stage,
-    );
-    drop(stage);
-    match worked {
-        Ok(()) => made_by(alloc, crew),
-        Err(stop) => Err(stop),
-    }
-}
-
-/// Whether a call of the shift of this number is claimed for a datagram that came late, or is there
-/// already.
-fn is_claimed(settings: &Settings, inlet: &mut Inlet, shared: &Shared, number: u64) -> bool {
-    !shared.pool.listening.is_on()
-        && (steps_of(settings) > 1 || number % 2 == 0)
-        && has_first(inlet, &shared.pool.clock)
+    )?;
+    made_by(alloc, crew)
 }
 
 /// Whether a datagram came late, or is there already.
@@ -205,42 +152,16 @@ fn crew_of(alloc: Global, passes: Vec<Pass>, workers: usize) -> Option<Crew> {
         ticking: Vec::new(alloc),
         linking: Vec::new(alloc),
     };
-    if seat_all(&mut crew, passes, workers) {
-        return Some(crew);
-    }
-    drop(crew);
-    None
-}
-
-/// Gives each pass its place in a crew, in which so many serve. Whether there was memory for all.
-fn seat_all(crew: &mut Crew, passes: Vec<Pass>, workers: usize) -> bool {
     for pass in passes {
-        if !give_place(crew, pass, workers) {
-            return false;
+        if crew.serving.len() < workers {
+            crew.serving.push(pass).ok()?;
+        } else if crew.ticking.is_empty() {
+            crew.ticking.push(Some(Seat { pass, end: None })).ok()?;
+        } else {
+            crew.linking.push(Some(Seat { pass, end: None })).ok()?;
         }
     }
-    true
-}
-
-/// Gives a pass the next place in a crew. Whether there was memory for it.
-fn give_place(crew: &mut Crew, pass: Pass, workers: usize) -> bool {
-    if crew.serving.len() < workers {
-        add_pass(&mut crew.serving, pass)
-    } else if crew.ticking.is_empty() {
-        add_seat(&mut crew.ticking, pass)
-    } else {
-        add_seat(&mut crew.linking, pass)
-    }
-}
-
-/// Puts a pass after others. Whether there was memory for it.
-fn add_pass(passes: &mut Vec<Pass>, pass: Pass) -> bool {
-    passes.push(pass).is_ok()
-}
-
-/// Puts a seat with this pass after others. Whether there was memory for it.
-fn add_seat(seats: &mut Vec<Option<Seat>>, pass: Pass) -> bool {
-    seats.push(Some(Seat { pass, end: None })).is_ok()
+    Some(crew)
 }
 
 /// Links beside ticks beside datagrams, until the shift is over. Once the last two are, the gateway
@@ -370,15 +291,20 @@ where
         admission,
     } = inlet;
     let (mut ears, mouth) = socket.sides(&shared.pool.clock);
-    let mut wire = Watched::new(
+    let mut watched = Watched::new(
         rt, alloc, &mut ears, mouth, stage, late, is_claimed, shared, admission,
     );
-    let outlet = Outlet::new(rt, alloc, &mouth, stage, fence, shared);
-    let served = serve_beside(
-        rt, alloc, shift, passes, seats, &mut wire, &outlet, shared, stage,
-    );
-    drop(outlet);
-    served
+    serve_beside(
+        rt,
+        alloc,
+        shift,
+        passes,
+        seats,
+        &mut watched,
+        &Outlet::new(rt, alloc, &mouth, stage, fence, shared),
+        shared,
+        stage,
+    )
 }
 
 /// The same at the two sides of the socket.
@@ -455,29 +381,22 @@ where
 {
     let given = mem::replace(passes, Vec::new(alloc));
     if given.is_empty() {
-        drop(given);
         return Ok(());
     }
     match serve(rt, alloc, shift, given, wire, post, &OpenGate, u64::MAX) {
         Ok(served) => {
-            drop(mem::replace(passes, served.passes));
+            *passes = served.passes;
             Ok(())
         }
         Err(fault) => {
-            let cause = fault.cause;
-            drop(mem::replace(passes, fault.passes));
-            served_until(rt, cause, stage)
+            *passes = fault.passes;
+            match fault.cause {
+                Cause::Wire if stage.phase(rt) != Phase::Serving => Ok(()),
+                Cause::Wire => Err(Stop::Socket),
+                Cause::Memory => Err(Stop::Memory),
+                Cause::Behind => Err(Stop::History),
+            }
         }
-    }
-}
-
-/// How it ends the program that serving ended early: not at all if the shift was to close.
-fn served_until<T: Wait>(rt: &T, cause: Cause, stage: &Stage) -> Result<(), Stop> {
-    match cause {
-        Cause::Wire if stage.phase(rt) != Phase::Serving => Ok(()),
-        Cause::Wire => Err(Stop::Socket),
-        Cause::Memory => Err(Stop::Memory),
-        Cause::Behind => Err(Stop::History),
     }
 }
 
@@ -485,42 +404,13 @@ fn served_until<T: Wait>(rt: &T, cause: Cause, stage: &Stage) -> Result<(), Stop
 /// and to compare what each of them holds of the opening would take as long as for the others.
 fn made_by(alloc: Global, crew: &mut Crew) -> Result<Made, Stop> {
     let tended = tended_in(crew.ticking.as_slice());
-    let serving = mem::replace(&mut crew.serving, Vec::new(alloc));
     let mut passes = Vec::new(alloc);
-    match gather_all(&mut passes, serving, crew) {
-        Ok(()) => Ok(Made { passes, tended }),
-        Err(stop) => {
-            drop(passes);
-            Err(stop)
-        }
+    for pass in mem::replace(&mut crew.serving, Vec::new(alloc)) {
+        keep(&mut passes, pass)?;
     }
-}
-
-/// Takes the passes that served, and then those of a crew that sit.
-fn gather_all(passes: &mut Vec<Pass>, serving: Vec<Pass>, crew: &mut Crew) -> Result<(), Stop> {
-    match keep_all(passes, serving) {
-        Ok(()) => gather_seats(passes, crew),
-        Err(stop) => Err(stop),
-    }
-}
-
-/// Puts passes to those that are compared, unless they made no call.
-fn keep_all(passes: &mut Vec<Pass>, serving: Vec<Pass>) -> Result<(), Stop> {
-    for pass in serving {
-        match keep(passes, pass) {
-            Ok(()) => {}
-            Err(stop) => return Err(stop),
-        }
-    }
-    Ok(())
-}
-
-/// Takes the passes of a crew from its seats, first those of the clock.
-fn gather_seats(passes: &mut Vec<Pass>, crew: &mut Crew) -> Result<(), Stop> {
-    match gather(passes, crew.ticking.as_mut_slice()) {
-        Ok(()) => gather(passes, crew.linking.as_mut_slice()),
-        Err(stop) => Err(stop),
-    }
+    gather(&mut passes, crew.ticking.as_mut_slice())?;
+    gather(&mut passes, crew.linking.as_mut_slice())?;
+    Ok(Made { passes, tended })
 }
 
 /// Ends the shift, and compares its history with what its threads hold. If the crew failed, the
@@ -538,72 +428,30 @@ where
     D: Disk + Drop,
 {
     let closing = millisecond(rt);
-    match made {
-        Ok(made) => close_with(rt, alloc, shift, made, shared, closing),
+    let Made { passes, tended } = match made {
+        Ok(made) => made,
         Err(stop) => {
             drop(shift);
-            Err(stop)
+            return Err(stop);
         }
-    }
-}
-
-/// The same with what the crew has made. The shift began to close in this millisecond.
-fn close_with<T, R, D>(
-    rt: &T,
-    alloc: Global,
-    shift: Shift<R, D>,
-    made: Made,
-    shared: &Shared,
-    closing: u64,
-) -> Result<Worked<R, D>, Stop>
-where
-    T: Wait,
-    R: Replica,
-    D: Disk + Drop,
-{
-    let Made { passes, tended } = made;
-    match closed_with(shift, passes) {
-        Some(closed) => Ok(worked_of(rt, alloc, closed, shared, tended, closing)),
-        None => Err(Stop::History),
-    }
-}
-
-/// A shift that these passes close. `None` if its history and they do not agree.
-fn closed_with<R: Replica, D: Disk + Drop>(
-    shift: Shift<R, D>,
-    passes: Vec<Pass>,
-) -> Option<Closed<R, D>> {
-    shift.end().close(passes).ok()
-}
-
-/// What is known of a closed shift. Its calls are counted.
-fn worked_of<T, R, D>(
-    rt: &T,
-    alloc: Global,
-    closed: Closed<R, D>,
-    shared: &Shared,
-    tended: Tended,
-    closing: u64,
-) -> Worked<R, D>
-where
-    T: Wait,
-    R: Replica,
-    D: Disk + Drop,
-{
-    let Closed { node, history } = closed;
+    };
+    let closed = shift.end().close(passes).ok();
+    let Some(Closed { node, history }) = closed else {
+        return Err(Stop::History);
+    };
     let steps = history.len();
     let has_written = has_written(history.as_slice());
     let has_recorded = has_recorded(history.as_slice());
     count_calls(rt, alloc, history.as_slice(), shared);
     drop(history);
-    Worked {
+    Ok(Worked {
         node,
         steps,
         tended,
         has_written,
         has_recorded,
         closing,
-    }
+    })
 }
 
 /// Counts the calls of a closed shift, if anybody watches. If memory runs out they are not counted.
@@ -658,44 +506,28 @@ fn tended_in(ticking: &[Option<Seat>]) -> Tended {
 fn gather(passes: &mut Vec<Pass>, seats: &mut [Option<Seat>]) -> Result<(), Stop> {
     for slot in seats {
         if let Some(seat) = slot.take() {
-            match leave(passes, seat) {
-                Ok(()) => {}
-                Err(stop) => return Err(stop),
+            match seat.end {
+                None
+                | Some(End::Full)
+                | Some(End::Lost)
+                | Some(End::Halted)
+                | Some(End::Reopened) => {}
+                Some(End::Memory) => return Err(Stop::Memory),
+                Some(End::Behind) => return Err(Stop::History),
             }
+            keep(passes, seat.pass)?;
         }
     }
     Ok(())
 }
 
-/// Takes the pass from a seat, unless that was left for a cause that ends the program.
-fn leave(passes: &mut Vec<Pass>, seat: Seat) -> Result<(), Stop> {
-    match cause_of(seat.end) {
-        None => keep(passes, seat.pass),
-        Some(stop) => {
-            drop(seat);
-            Err(stop)
-        }
-    }
-}
-
-/// Why the program ends, if a seat was left for a cause that ends it.
-fn cause_of(end: Option<End>) -> Option<Stop> {
-    match end {
-        Some(End::Memory) => Some(Stop::Memory),
-        Some(End::Behind) => Some(Stop::History),
-        None | Some(End::Full) | Some(End::Lost) | Some(End::Halted) | Some(End::Reopened) => None,
-    }
-}
-
 /// Puts a pass to those that are compared, unless it made no call.
 fn keep(passes: &mut Vec<Pass>, pass: Pass) -> Result<(), Stop> {
     if pass.is_unused() {
-        drop(pass);
         return Ok(());
     }
-    if add_pass(passes, pass) {
-        Ok(())
-    } else {
-        Err(Stop::Memory)
+    if passes.push(pass).is_err() {
+        return Err(Stop::Memory);
     }
+    Ok(())
 }
