@@ -21,7 +21,8 @@ from sources import TOP, Book, Item
 CUT = {"gw_node": "gw_node gw_event gw_answer", "gw_sim": "gw_script gw_play gw_sim", "gw_world": "gw_world field_laws gw_event gw_node", "jr_journal": "jr_journal jr_disk",
        "rep_ops": "rep_ops rep_op rep_write rep_read sn_topic", "rep_octets": "rep_write rep_read rep_op", "sn_session": "sn_session sn_tables", "rep_model": "rep_model rep_ops rep_op",
        "sn_flow": "sn_flow sn_plan sn_local sn_subscribe row_laws rep_op", "sn_topic": "sn_topic octets",
-       "sn_deliver": "sn_deliver sn_publish sn_exchange sn_tick sn_local sn_plan step_laws"}
+       "sn_deliver": "sn_deliver sn_publish sn_exchange sn_tick sn_local sn_plan step_laws",
+       "received_laws": "promise_laws"}
 RENAMED, KINDS = {"so_far": "session_after", "ops_of": "all_of", "may_name": "is_topic_id"}, ["same", "type", "stands", "other", "gone"]
 
 
