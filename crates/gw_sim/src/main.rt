@@ -37,7 +37,13 @@ fn main(rt: HostRuntime) -> ExitCode {
     let mut err = io::writer(&errors);
     let status = match asked(&rt, alloc) {
         Ok(Asked::Read(form)) => {
-            play_read(alloc, form, &mut Counted::new(rt.reader()), &mut out, &mut err)
+            play_read(
+                alloc,
+                form,
+                &mut Counted::new(rt.reader()),
+                &mut out,
+                &mut err,
+            )
         }
         Ok(Asked::Random { plain, options }) => invent(alloc, plain, options, &mut out, &mut err),
         Err(stop) => tell_stop(stop, &mut err),

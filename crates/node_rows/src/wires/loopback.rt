@@ -10,13 +10,12 @@ use mio::net::UdpSocket;
 use rep_model::Replica;
 use sn_local::Addr;
 use std::alloc::Global;
-use std::io;
 use std::net::{Net, SocketAddr};
 use std::sync::Wait;
 use std::sync::atomic::{AtomicBool, Ordering};
-use std::thread;
 use std::thread::Threads;
 use std::time::Clock;
+use std::{io, thread};
 
 /// How often an asker looks for its answer.
 const LOOKS: u64 = 10_000_000;

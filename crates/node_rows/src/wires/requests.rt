@@ -1,8 +1,8 @@
 //! Requests for the page of a gateway, whose report is made up.
 
 use crate::page::Page;
-use crate::wires::reports::{Sketch, report_of};
 use crate::stop::Stop;
+use crate::wires::reports::{Sketch, report_of};
 use crate::words::Words;
 use gw_report::{Event, Report};
 use octets::NoMemory;
