@@ -6,16 +6,16 @@ Usage: trials/watch.py PROGRAM [PART..] [--shot FILE]
 The parts, all where none is named, with about the seconds that each takes:
 
   asks       5  the five paths answer as they say, in whole and in pieces; other paths, methods and octets are refused by their status
-  bad        40 requests of over 4,096 octets and of 65 fields, that never end, and 100 at once that read nothing: each ends within its time, and a good one beside them
-                is answered within ten seconds
+  bad        40 requests of over 4,096 octets and of 65 fields, that never end, and 100 at once that read nothing: all end within half a minute, and a good one beside
+                them is answered within ten seconds
   port       3  an address that is taken ends the start by `status: ..` and `sngw: socket`, 3
   names      5  client ids of quotes, line feeds and `# HELP`: no line but of digits is theirs, and the numbers' page has none of them
   links      15 links that come and go, a peer with this gateway's number: lines of `log` by level, and the numbers of each link
   apart      10 what one gateway put is known at the other: equal numbers of messages and equal marks, and different ones while the link is cut
   same       20 the same datagrams with and without a page that is asked 50 times a second: equal octets of the journal, and equal lines of shifts
-  pings      60 PINGREQ beside 1,000 clients and a page that is asked 50 times a second: what they take on the average, and what 99 of 100 take at most, is within a
-                tenth (and a tenth of a millisecond, and a whole one) of that at a gateway that is not watched
-  slow       40 the same beside 100 callers that read nothing
+  pings      60 PINGREQ beside 1,000 clients and a page that is asked 50 times a second: what they take on the average is within a tenth of that at a gateway that is
+                not watched, and what 99 of 100 take at most within a tenth and a millisecond
+  slow       60 the same beside 100 callers that read an octet a second
   unread     40 nobody reads standard error: the page and the gateway go on, what could not be told is counted, and the program ends when it is to end
   files      10 the page is asked while no file can be opened: the gateway answers on, and the page once there can
   grow       30 as many requests as come in 20 seconds: memory does not grow by more than 4 MiB
@@ -172,10 +172,11 @@ def bad(program: str, folder: str) -> str:
             except OSError:
                 ends.append(False)
             stream.close()
-        expect(sum(ends) > 50, f"of 100 callers {sum(ends)} were answered")
+        took = time.monotonic() - began
+        expect(sum(ends) > 50 and took < 30, f"of 100 callers {sum(ends)} were answered, the last after {took:.0f} seconds")
         gateway.alive()
         expect(gateway.ask("/healthz")[0] == 200, "it is ill afterwards")
-        return f"one of 101 waited for {waited:.1f} seconds"
+        return f"one of 101 waited for {waited:.1f} seconds, the last of them for {took:.1f}"
 
 
 def port(program: str, folder: str) -> str:
@@ -345,12 +346,55 @@ def times_of(client: Client, count: int) -> list:
     return times
 
 
-def crowd(gateway, count: int = 1000) -> None:
-    """So many clients that connected, and say nothing any more."""
-    with Client(b"crowd", gateway) as client:
-        for place in range(count):
-            client.name = b"c-%04d" % place
-            client.connect()
+def crowd(gateway, count: int = 1000) -> list:
+    """So many clients, each at an address of its own, that connected, and say nothing any more."""
+    clients = [Client(b"c-%04d" % place, gateway) for place in range(count)]
+    for client in clients:
+        client.connect()
+    return clients
+
+
+class Dawdlers:
+    """A hundred callers that ask for the clients, and read an octet a second. Who is sent away calls again."""
+
+    def __init__(self, gateway):
+        self.gateway, self.is_over = gateway, threading.Event()
+        self.thread = threading.Thread(target=self.dawdle)
+
+    def call(self):
+        try:
+            stream = socket.create_connection((HOST, self.gateway.page), 1)
+            stream.sendall(b"GET /clients HTTP/1.0\r\n\r\n")
+            stream.setblocking(False)
+            return stream
+        except OSError:
+            return None
+
+    def dawdle(self) -> None:
+        held = [self.call() for _ in range(100)]
+        while not self.is_over.wait(1):
+            for place, stream in enumerate(held):
+                try:
+                    is_gone = stream is None or not stream.recv(1)
+                except BlockingIOError:
+                    is_gone = False
+                except OSError:
+                    is_gone = True
+                if is_gone:
+                    if stream is not None:
+                        stream.close()
+                    held[place] = self.call()
+        for stream in held:
+            if stream is not None:
+                stream.close()
+
+    def __enter__(self):
+        self.thread.start()
+        return self
+
+    def __exit__(self, *_):
+        self.is_over.set()
+        self.thread.join()
 
 
 def beside(plain, watched) -> str:
@@ -359,42 +403,42 @@ def beside(plain, watched) -> str:
     with Client(b"pinger", plain) as one, Client(b"pinger", watched) as other:
         one.connect()
         other.connect()
-        for _ in range(12):
+        for _ in range(24):
             times[plain] += times_of(one, 400)
             times[watched] += times_of(other, 400)
     mean = [sum(times[each]) / len(times[each]) * 1000 for each in (plain, watched)]
     most = [sorted(times[each])[len(times[each]) * 99 // 100] * 1000 for each in (plain, watched)]
     said = f"PINGREQ take {mean[0]:.3f} ms without and {mean[1]:.3f} with it, 99 of 100 at most {most[0]:.2f} and {most[1]:.2f}"
-    expect(mean[1] < mean[0] * 1.1 + 0.1 and most[1] < most[0] * 1.1 + 1, said)
+    expect(mean[1] < mean[0] * 1.1 and most[1] < most[0] * 1.1 + 1, said)
     return said
 
 
 def pings(program: str, folder: str) -> str:
     with Gateway(program, folder, 2) as plain, Watched(program, folder, 1) as watched:
+        crowds = []
         for gateway in (plain, watched):
             gateway.start()
-            crowd(gateway)
+            crowds += crowd(gateway)
         until(lambda: len(watched.rows()) >= 1000, 20, "not all clients are shown")
         with Asker(watched) as asker:
             said = beside(plain, watched)
             rate = asker.each_second()
+        for client in crowds:
+            client.close()
         expect(rate >= 50, f"the page was asked {rate:.0f} times a second")
         return f"{said}; asked {rate:.0f} times a second"
 
 
 def slow(program: str, folder: str) -> str:
     with Gateway(program, folder, 2) as plain, Watched(program, folder, 1) as watched:
+        crowds = []
         for gateway in (plain, watched):
             gateway.start()
-            crowd(gateway)
-        held = []
-        for _ in range(100):
-            held.append(socket.create_connection((HOST, watched.page), 5))
-            held[-1].sendall(b"GET /clients HTTP/1.0\r\n\r\n")
-        with Asker(watched, threads=1):
+            crowds += crowd(gateway)
+        with Dawdlers(watched), Asker(watched, threads=1):
             said = beside(plain, watched)
-        for stream in held:
-            stream.close()
+        for client in crowds:
+            client.close()
         return said
 
 
@@ -527,7 +571,7 @@ def health(program: str, folder: str) -> str:
                 time.sleep(0.2)
         told = gateway.ask("/healthz")
         expect(told[0] == 503 and b"a write failed\n" in told[2], f"it says {told}")
-        until(lambda: "<3>a write failed, and the gateway is halted\n" in gateway.told() or "<4>" in gateway.told(), 30, "no event says so")
+        until(lambda: "<3>a write failed, and the gateway is halted\n" in gateway.told(), 30, "no event says so")
         gateway.make_room()
         until(lambda: gateway.ask("/healthz")[0] == 200, 90, "it is not well again")
         gateway.alive()
@@ -625,7 +669,7 @@ def browser(program: str, folder: str, shot: str = "") -> str:
         until(lambda: up() == 1, 30, "no link")
         text = shown(tool, folder, page, 4000)
         expect(re.search(r'id="health"[^>]*class="ok"', text) is not None, "the page does not say that it is well")
-        expect("712231" in text or "clients" in text, "no client is shown")
+        expect("712231" in text, "no client is shown")
         two.kill()
         until(lambda: up() == 0, 30, "a link to a gateway that was killed is up")
         time.sleep(2)
@@ -642,6 +686,7 @@ PARTS = [asks, bad, port, names, links, apart, same, pings, slow, unread, files,
 
 
 def main() -> int:
+    resource.setrlimit(resource.RLIMIT_NOFILE, (4096, max(4096, resource.getrlimit(resource.RLIMIT_NOFILE)[1])))
     reader = argparse.ArgumentParser(usage=__doc__.split("\n\n")[1].partition(": ")[2])
     reader.add_argument("program")
     reader.add_argument("parts", nargs="*")

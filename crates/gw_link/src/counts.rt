@@ -46,7 +46,9 @@ pub struct LinkNumbers {
 
 impl LinkNumbers {
     /// A link of which nothing was counted.
-    pub fn new(place: u64, origin: Origin, other: u8) -> LinkNumbers {
+    pub fn new(place: u64, origin: Origin, other: u8) -> LinkNumbers
+        ensures { (result.place ≡ place) × (result.origin ≡ origin) × (result.other ≡ other) }
+    {
         LinkNumbers {
             place,
             origin,

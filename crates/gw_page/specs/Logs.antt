@@ -120,6 +120,7 @@ taken_over_text client number =
 abbrev pub alarm_text : Alarm → List ℕ
 alarm_text (alarms.SameNumber number times) = same_number_text number times
 alarm_text (alarms.Conflict number times) = conflict_text number times
+alarm_text (alarms.Twice number times) = twice_text number times
 alarm_text alarms.Halted = halted_text
 
 -- an event at which somebody should look
@@ -128,7 +129,6 @@ warning_text warnings.Reopened = reopened_text
 warning_text warnings.NotCompacted = not_compacted_text
 warning_text (warnings.Stranger number times) = stranger_text number times
 warning_text (warnings.DeltaFull number times) = delta_full_text number times
-warning_text (warnings.Twice number times) = twice_text number times
 warning_text (warnings.TurnedAway times) = turned_away_text times
 warning_text (warnings.ClientFull client) = client_full_text client
 warning_text (warnings.TopicsNearFull client topics) = topics_near_full_text client topics

@@ -1,7 +1,7 @@
 -- What a request asks for (RFC 9112 section 3).
 use Rattle.std.specs.Prelude.{◌≡◌, ◌<◌, ◌≤◌, ◌⊎◌, ℕ, List, length, Option, Some, None, codes, bytes_eq, if◌then◌else◌}
 use Rattle.httparse.specs.Grammar.{RequestHead, ReadsRequest, HasNoRequest, MayBecomeRequest}
-use Rattle.httparse.specs.Spans.{RequestOverflows}
+use Rattle.httparse.specs.Spans.{RequestOverflows, RequestExceeds}
 use Rattle.gw_page.specs.declared.request.Asked.{Asked}
 use Rattle.gw_page.specs.declared.request.Asked.TheVariants as asked
 use Rattle.gw_page.specs.declared.request.Method.{Method}
@@ -43,7 +43,7 @@ IsHeadOf octets what =
 abbrev pub IsAsked : List ℕ → Asked → Type 0
 IsAsked octets what =
     ((what ≡ asked.TooLarge)
-    × ((MOST_OCTETS < length octets) ⊎ RequestOverflows MOST_FIELDS octets))
+    × ((MOST_OCTETS < length octets) ⊎ RequestExceeds MOST_FIELDS octets))
     ⊎ (((what ≡ asked.Malformed) × (length octets ≤ MOST_OCTETS) × HasNoRequest octets)
     ⊎ ((length octets ≤ MOST_OCTETS) × IsHeadOf octets what))
 

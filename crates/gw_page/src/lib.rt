@@ -29,6 +29,6 @@ mod request;
 
 pub use answer::{Status, page};
 pub use front::FRONT;
-pub use laws::only_numbers;
+pub use laws::{all_names, only_numbers};
 pub use logging::entry;
 pub use request::{Asked, MOST_FIELDS, MOST_OCTETS, Method, Target, may_grow, read_request};

@@ -68,6 +68,7 @@ fn print_alarm(text: &mut String, alarm: &Alarm) -> Result<(), AllocError>
     match alarm {
         Alarm::SameNumber { number, times } => print_same_number(text, *number, *times),
         Alarm::Conflict { number, times } => print_conflict(text, *number, *times),
+        Alarm::Twice { number, times } => print_twice(text, *number, *times),
         Alarm::Halted => print_halted(text),
     }
 }
@@ -82,7 +83,6 @@ fn print_warning(alloc: Global, text: &mut String, warning: &Warning) -> Result<
         Warning::NotCompacted => print_not_compacted(text),
         Warning::Stranger { number, times } => print_stranger(text, *number, *times),
         Warning::DeltaFull { number, times } => print_delta_full(text, *number, *times),
-        Warning::Twice { number, times } => print_twice(text, *number, *times),
         Warning::TurnedAway { times } => print_turned_away(text, *times),
         Warning::ClientFull { client } => print_client_full(alloc, text, client),
         Warning::TopicsNearFull { client, topics } => {

@@ -76,7 +76,7 @@ pub enum Single {
     StuckSecondsMost,
     /// A hash of the set: equal sets have equal marks.
     SetMark,
-    /// Events that were dropped, since the list was locked or full.
+    /// Events whose line was left out, or for which memory ran out.
     EventsLost,
     /// Memory of the process that is resident, in octets.
     ResidentMemory,
@@ -245,7 +245,7 @@ pub enum Column {
     SinceSeconds,
     /// Seconds since anything came over the link.
     HeardSeconds,
-    /// Octets that wait to go out.
+    /// Octets that wait to go out, without those of an answer.
     WaitingOctets,
     /// Deltas that were sent.
     Told,
@@ -292,7 +292,7 @@ impl Column {
             Column::Number => "Number of the gateway at the other end, 0 if unknown.",
             Column::SinceSeconds => "Seconds since the link was made.",
             Column::HeardSeconds => "Seconds since anything came over the link.",
-            Column::WaitingOctets => "Octets that wait to go out.",
+            Column::WaitingOctets => "Octets that wait to go out, without those of an answer.",
             Column::Told => "Deltas that were sent.",
             Column::Taken => "Deltas that came and were taken.",
             Column::AnswerOperations => "Operations of the last answer that was given.",

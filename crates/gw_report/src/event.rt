@@ -62,6 +62,13 @@ pub enum Alarm {
         /// How many since the last such event.
         times: u64,
     },
+    /// A gateway was linked once more while it was linked: two may have one number.
+    Twice {
+        /// Its number.
+        number: u8,
+        /// How often since the last such event.
+        times: u64,
+    },
     /// A write failed, and the gateway is halted.
     Halted,
 }
@@ -85,13 +92,6 @@ pub enum Warning {
         /// The number of the peer; 0 if it is not known.
         number: u8,
         /// How many since the last such event.
-        times: u64,
-    },
-    /// A gateway was linked once more while it was linked.
-    Twice {
-        /// Its number.
-        number: u8,
-        /// How often since the last such event.
         times: u64,
     },
     /// Incoming links were closed at once, since there is no place for more.

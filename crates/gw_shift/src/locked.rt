@@ -46,6 +46,8 @@ impl<R: Replica, D: Disk + Drop> Locked<R, D> {
     ghost use Rattle.gw_shift.specs.Calls.{Call};
     ghost use Rattle.gw_shift.specs.inner.Passes.{call, made_after, told_by};
     ghost use Rattle.gw_shift.specs.inner.Calling.{Entered, NotEntered, IsNotTold};
+    ghost use Rattle.gw_shift.specs.inner.Glances.{all_known};
+    ghost use Rattle.gw_node.specs.Glancing.{glimpses_of};
 
     /// Makes a call at the node, and enters it. The answer comes back twice.
     fn make(&mut self, alloc: Global, place: u64, step: Arc<Step>) -> (Answer, Answer)
@@ -127,7 +129,9 @@ impl<R: Replica, D: Disk + Drop> Locked<R, D> {
         above: &[u8],
         most: usize,
     ) -> Result<Vec<Glimpse>, NoMemory>
-        ensures { IfOk result (λ all. length all.items ≤ most) }
+        ensures shown { IfOk result (λ all. all.items
+            ≡ take most (glimpses_of (state_of R.kept self.now.node) above.now)) }
+        ensures few { IfOk result (λ all. length all.items ≤ most) }
     {
         let all = self.node.glance(alloc, above, most)?;
         Ok(all)
@@ -135,13 +139,16 @@ impl<R: Replica, D: Disk + Drop> Locked<R, D> {
 
     /// For each of these clients, how many messages a gateway has put for it, as far as the node
     /// knows. It is no call.
+    #[tactic(auto, using(crate::proofs::Handing::counted_many))]
     pub(crate) fn messages_known(
         &self,
         alloc: Global,
         clients: &[Glimpse],
         origin: u8,
     ) -> Result<Vec<u64>, NoMemory>
-        ensures { IfOk result (λ all. length all.items ≡ length clients.now) }
+        ensures known { IfOk result (λ all. all.items
+            ≡ all_known (state_of R.kept self.now.node).kept origin clients.now) }
+        ensures many { IfOk result (λ all. length all.items ≡ length clients.now) }
     {
         let mut all = Vec::new(alloc);
         let mut left = clients;

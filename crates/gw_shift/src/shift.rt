@@ -5,7 +5,7 @@ ghost use Rattle.std.specs.Arc.{arc_value};
 ghost use Rattle.rep_op.specs.declared.op.Op.{Op};
 ghost use Rattle.rep_model.specs.Held.{IsHeld};
 ghost use Rattle.gw_node.specs.Parts.{state_of};
-ghost use Rattle.gw_shift.specs.declared.shift.TheConstants.{MAX_STEPS};
+ghost use Rattle.gw_shift.specs.declared.shift.TheConstants.{MAX_STEPS, MOST_GLANCED};
 ghost use Rattle.gw_shift.specs.Legal.{IsLegal};
 ghost use Rattle.gw_shift.specs.Passes.{Climb, fresh};
 ghost use Rattle.gw_shift.specs.Calling.{Made, NotMade, MayNotTell};
@@ -29,6 +29,9 @@ use std::sync::{Arc, Mutex, Wait};
 
 /// The most calls of one shift.
 pub const MAX_STEPS: u64 = 4096;
+
+/// For how many clients the lock is held at most.
+pub const MOST_GLANCED: usize = 32;
 
 /// A node under a lock, with the history of its calls. Threads share it by reference.
 #[derive(Drop)]
@@ -164,8 +167,9 @@ impl<R: Replica, D: Disk + Drop> Shift<R, D> {
     }
 
     /// The clients of the gateway at a glance whose ids are above these octets: the first of them,
-    /// at most so many. It is no call: nothing stands in the history, and no pass is asked for. The
-    /// lock is held for these clients alone. The contract says only how many there are at most;
+    /// at most so many, and no more than `MOST_GLANCED`. It is no call: nothing stands in the
+    /// history, and no pass is asked for. The lock is held for these clients alone. The contract
+    /// says only how many there are at most;
     /// `Node::glance` says the rest of the gateway as it was then.
     pub fn glance(
         &self,
@@ -174,9 +178,12 @@ impl<R: Replica, D: Disk + Drop> Shift<R, D> {
         above: &[u8],
         most: usize,
     ) -> Result<Vec<Glimpse>, NoMemory>
-        ensures most { IfOk result (λ all. length all.items ≤ most) }
+        ensures few { IfOk result (λ all. length all.items ≤ most) }
+        ensures most { IfOk result (λ all. length all.items ≤ MOST_GLANCED) }
     {
-        self.locked.lock(rt).glance(alloc, above, most)
+        self.locked
+            .lock(rt)
+            .glance(alloc, above, most.min(MOST_GLANCED))
     }
 
     /// For each of these clients, how many messages a gateway has put for it, as far as this one

@@ -62,10 +62,14 @@ pub enum Number {
     Failed,
     /// The millisecond of the last glance.
     Glanced,
+    /// Shifts and compactions in which a write failed.
+    Failures,
+    /// The millisecond in which the shift began to close.
+    Closing,
 }
 
 /// The first place after the numbers that stand by themselves: datagrams that came, by type.
-const CAME: usize = 18;
+const CAME: usize = 20;
 
 /// How many types of frames there may be; the last place is for all others.
 const TYPES: usize = 32;
@@ -232,7 +236,13 @@ impl Board {
         self.get_at(DIALS.saturating_add(peer))
     }
 
-    /// A write failed, or the gateway was opened again.
+    /// A write failed.
+    pub(crate) fn count_failure<C: Clock>(&self, clock: &C) {
+        self.add(Number::Failures);
+        self.note_failed(clock);
+    }
+
+    /// A write has failed, and the gateway may not yet write again.
     pub(crate) fn note_failed<C: Clock>(&self, clock: &C) {
         self.set(Number::Failed, millisecond(clock).saturating_add(1));
     }

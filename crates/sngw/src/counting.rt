@@ -215,7 +215,8 @@ pub(crate) fn is_owned(gateway: u8, glimpse: &Glimpse) -> bool {
     }
 }
 
-/// A hash of what the set says of a client (FNV-1a): the same at all gateways that keep the same.
+/// A hash of what the set says of a client (after FNV-1a): the same at all gateways that keep the
+/// same. Next numbers are left out: each gateway knows of other origins.
 fn mark_of(glimpse: &Glimpse) -> u64 {
     let mut mark = 0xcbf2_9ce4_8422_2325;
     for octet in glimpse.client.bytes() {

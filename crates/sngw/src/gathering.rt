@@ -26,7 +26,7 @@ const LATELY: u64 = 30_000;
 const AN_HOUR: u64 = 3_600_000;
 
 /// How many links are asked for, and remembered, at most.
-const MOST_LINKS: usize = 64;
+pub(crate) const MOST_LINKS: usize = 264;
 
 /// Of how many shifts the calls are added at once.
 const MOST_SHIFTS: usize = 64;
@@ -67,6 +67,9 @@ pub struct Gathered {
     pub before: Vec<Seen>,
     pub has_before: bool,
     has_glanced: bool,
+    /// Clients that were told to have all messages that may wait, and nearly all topic ids.
+    pub full: Vec<ClientId>,
+    pub many_topics: Vec<ClientId>,
     /// Whether the last gathering brought a glance.
     pub is_new: bool,
     /// The second of the last glance.
@@ -118,6 +121,8 @@ pub(crate) fn none_gathered<T: Clock>(rt: &T, alloc: Global) -> Gathered {
         before: Vec::new(alloc),
         has_before: false,
         has_glanced: false,
+        full: Vec::new(alloc),
+        many_topics: Vec::new(alloc),
         is_new: false,
         second: 0,
         known: Vec::new(alloc),

@@ -4,6 +4,7 @@
 //! a call.
 
 use crate::board::{Board, Field, Shared};
+use crate::gathering::MOST_LINKS;
 use gw_link::{LinkNumbers, Phase, Stage};
 use gw_main::options::Settings;
 use gw_report::Glimpse;
@@ -15,16 +16,13 @@ use std::sync::Wait;
 use std::time::Clock;
 
 /// For how many clients the lock of the shift is held at a time.
-const AT_ONCE: usize = 16;
+const AT_ONCE: usize = 4;
 
 /// How often the lock is taken for clients at most: there are no more than 4,096 of them.
-const MOST_LOOKS: usize = 256;
+const MOST_LOOKS: usize = 1_024;
 
 /// How many milliseconds pass before it is looked again whether it is time for a glance.
 const A_LOOK: u64 = 200;
-
-/// How many links are asked for the numbers of their gateways.
-const MOST_LINKS: usize = 64;
 
 /// Looks at the clients while the shift serves. If memory runs out, or the shift ends, the last
 /// glance stays.
@@ -46,7 +44,7 @@ where
             return;
         }
         if shared.board.may_glance(rt) {
-            match look(rt, alloc, settings, shift, shared) {
+            match look(rt, alloc, settings, shift, shared, stage) {
                 Some(field) => shared.board.put_field(rt, field),
                 None => {}
             }
@@ -56,13 +54,14 @@ where
     unreachable!()
 }
 
-/// All clients at a glance. `None` if memory runs out.
+/// All clients at a glance. `None` if memory runs out, or the shift ends.
 fn look<T, R, D>(
     rt: &T,
     alloc: Global,
     settings: &Settings,
     shift: &Shift<R, D>,
     shared: &Shared,
+    stage: &Stage,
 ) -> Option<Field>
 where
     T: Wait,
@@ -75,15 +74,23 @@ where
         known: Vec::new(alloc),
         second: shared.pool.clock.second(),
     };
-    if find_gateways(&shared.board, &mut field) && look_at_all(rt, alloc, shift, &mut field) {
+    if find_gateways(&shared.board, &mut field)
+        && look_at_all(rt, alloc, shift, &mut field, stage)
+    {
         return Some(field);
     }
     drop(field);
     None
 }
 
-/// Looks at the clients, some at a time. Whether there was memory for all.
-fn look_at_all<T, R, D>(rt: &T, alloc: Global, shift: &Shift<R, D>, field: &mut Field) -> bool
+/// Looks at the clients, some at a time, while the shift serves. Whether all were seen.
+fn look_at_all<T, R, D>(
+    rt: &T,
+    alloc: Global,
+    shift: &Shift<R, D>,
+    field: &mut Field,
+    stage: &Stage,
+) -> bool
 where
     T: Wait,
     R: Replica,
@@ -91,7 +98,7 @@ where
 {
     for _ in 0..MOST_LOOKS {
         let many = field.clients.len();
-        if !look_on(rt, alloc, shift, field) {
+        if stage.phase(rt) != Phase::Serving || !look_on(rt, alloc, shift, field) {
             return false;
         }
         if field.clients.len() == many {

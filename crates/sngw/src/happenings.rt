@@ -52,13 +52,16 @@ pub struct Happened {
     reopened: u64,
     not_compacted: u64,
     shift: u64,
-    halted: u64,
+    failures: u64,
+    /// For how many seconds in all the clock stood still, as it was told, and at the last gathering.
     stood: u64,
+    standing: u64,
     /// How many datagrams were told as dropped, and when.
     dropped: u64,
     told: u64,
-    /// How many clients there were, and when it was last told again who is at a limit.
-    clients: usize,
+    /// Whether it was told that many clients are there, and when it was last told again who is at
+    /// a limit.
+    are_many: bool,
     again: u64,
 }
 
@@ -68,11 +71,12 @@ pub(crate) fn nothing_happened() -> Happened {
         reopened: 0,
         not_compacted: 0,
         shift: 0,
-        halted: 0,
+        failures: 0,
         stood: 0,
+        standing: 0,
         dropped: 0,
         told: 0,
-        clients: 0,
+        are_many: false,
         again: 0,
     }
 }
@@ -149,7 +153,7 @@ fn tell<T: Wait + Print + Eprint>(
     lost.saturating_add(untold)
 }
 
-/// The same of these, with the events of the page. How many could not be told.
+/// Says each of these, and puts it to the events of the page. How many could not be told.
 fn tell_each<T: Wait + Print + Eprint>(
     rt: &T,
     alloc: Global,
@@ -162,8 +166,9 @@ fn tell_each<T: Wait + Print + Eprint>(
     let mut lost = 0u64;
     for what in told {
         let event = Event { moment, what };
-        count_unless(&mut lost, say(rt, alloc, level, said, &event));
-        count_unless(&mut lost, keep(events, event));
+        let is_said = say(rt, alloc, level, said, &event);
+        let is_kept = keep(events, event);
+        count_unless(&mut lost, is_said && is_kept);
     }
     lost
 }
@@ -255,14 +260,14 @@ fn event_of(trouble: Trouble, number: u8, times: u64) -> What {
         Trouble::Conflict => What::Alarm(Alarm::Conflict { number, times }),
         Trouble::Stranger => What::Warning(Warning::Stranger { number, times }),
         Trouble::TooMuch => What::Warning(Warning::DeltaFull { number, times }),
-        Trouble::Twice => What::Warning(Warning::Twice { number, times }),
+        Trouble::Twice => What::Alarm(Alarm::Twice { number, times }),
         Trouble::TurnedAway => What::Warning(Warning::TurnedAway { times }),
     }
 }
 
 /// What happened to the gateway, whose clock stood still for so many seconds in all.
 fn find_gateway(news: &mut News, board: &Board, stood: u64, happened: &mut Happened) {
-    if growth(&mut happened.halted, board.get(Number::Halted)) > 0 {
+    if growth(&mut happened.failures, board.get(Number::Failures)) > 0 {
         note(news, What::Alarm(Alarm::Halted));
     }
     if growth(&mut happened.reopened, reopenings(board)) > 0 {
@@ -271,11 +276,19 @@ fn find_gateway(news: &mut News, board: &Board, stood: u64, happened: &mut Happe
     if growth(&mut happened.not_compacted, board.get(Number::NotCompacted)) > 0 {
         warn(news, Warning::NotCompacted);
     }
+    find_standing(news, stood, happened);
+    find_turn(news, board, happened);
+}
+
+/// For how long the clock stood still, once it goes on.
+fn find_standing(news: &mut News, stood: u64, happened: &mut Happened) {
+    if growth(&mut happened.standing, stood) > 0 {
+        return;
+    }
     let seconds = growth(&mut happened.stood, stood);
     if seconds > 0 {
         warn(news, Warning::StoodStill { seconds });
     }
-    find_turn(news, board, happened);
 }
 
 /// By how much a number has grown since it was last looked at.
@@ -309,7 +322,8 @@ fn find_turn(news: &mut News, board: &Board, happened: &mut Happened) {
 /// How many datagrams were dropped, once in a minute.
 fn find_dropped(news: &mut News, board: &Board, happened: &mut Happened, now: u64) {
     let dropped = board.get(Number::Dropped);
-    if dropped > happened.dropped && now.saturating_sub(happened.told) > A_MINUTE {
+    let is_time = happened.told == 0 || now.saturating_sub(happened.told) > A_MINUTE;
+    if dropped > happened.dropped && is_time {
         let times = growth(&mut happened.dropped, dropped);
         happened.told = now;
         warn(news, Warning::Dropped { times });
@@ -326,16 +340,26 @@ fn find_clients(
     now: u64,
 ) {
     let is_again = has_passed(now, happened);
+    if is_again {
+        forget_told(gathered, happened, news.alloc);
+    }
     let count = clients.len();
-    if count >= NEAR_FULL && (is_again || happened.clients < NEAR_FULL) {
+    if count >= NEAR_FULL && !happened.are_many {
+        happened.are_many = true;
         let clients = count as u64;
         warn(news, Warning::ClientsNearFull { clients });
     }
-    happened.clients = count;
     for seen in clients {
-        find_client(news, settings, gathered, seen, is_again);
+        find_client(news, settings, gathered, seen);
     }
     drop(mem::replace(&mut gathered.before, Vec::new(news.alloc)));
+}
+
+/// Who is at a limit is to be told again.
+fn forget_told(gathered: &mut Gathered, happened: &mut Happened, alloc: Global) {
+    happened.are_many = false;
+    drop(mem::replace(&mut gathered.full, Vec::new(alloc)));
+    drop(mem::replace(&mut gathered.many_topics, Vec::new(alloc)));
 }
 
 /// Whether it is to be told again who is at a limit. From now on it was.
@@ -358,17 +382,10 @@ enum Fate {
 }
 
 /// What is to be told of a client.
-fn find_client(
-    news: &mut News,
-    settings: &Settings,
-    gathered: &Gathered,
-    seen: &Seen,
-    is_again: bool,
-) {
-    let before = seen_in(gathered.before.as_slice(), &seen.glimpse.client);
-    let limits = if is_again { (0, 0) } else { limits_of(before) };
-    find_limits(news, seen, limits);
+fn find_client(news: &mut News, settings: &Settings, gathered: &mut Gathered, seen: &Seen) {
+    find_limits(news, seen, gathered);
     if settings.log >= DEBUG && gathered.has_before {
+        let before = seen_in(gathered.before.as_slice(), &seen.glimpse.client);
         find_presence(news, settings.gateway, seen, before);
     }
 }
@@ -392,23 +409,31 @@ fn what_of(client: ClientId, fate: Fate) -> What {
     }
 }
 
-/// How many messages waited for a client, and how many topic ids it had.
-fn limits_of(before: Option<&Seen>) -> (usize, usize) {
-    match before {
-        None => (0, 0),
-        Some(before) => (before.glimpse.waiting, topics_of(before)),
+/// A client at a limit, unless that was told.
+fn find_limits(news: &mut News, seen: &Seen, gathered: &mut Gathered) {
+    let client = &seen.glimpse.client;
+    let topics = topics_of(seen);
+    let alloc = news.alloc;
+    if seen.glimpse.waiting >= MAX_PENDING && is_new(alloc, &mut gathered.full, client) {
+        befall(news, client, Fate::Full);
+    }
+    if topics >= MANY_TOPICS && is_new(alloc, &mut gathered.many_topics, client) {
+        befall(news, client, Fate::Topics(topics as u64));
     }
 }
 
-/// A client at a limit at which it was not before.
-fn find_limits(news: &mut News, seen: &Seen, before: (usize, usize)) {
-    let (waited, knew) = before;
-    let topics = topics_of(seen);
-    if seen.glimpse.waiting >= MAX_PENDING && waited < MAX_PENDING {
-        befall(news, &seen.glimpse.client, Fate::Full);
-    }
-    if topics >= MANY_TOPICS && knew < MANY_TOPICS {
-        befall(news, &seen.glimpse.client, Fate::Topics(topics as u64));
+/// Whether a client is not among those that were told, which are in the order of their ids. From
+/// now on it is, unless memory runs out.
+fn is_new(alloc: Global, told: &mut Vec<ClientId>, client: &ClientId) -> bool {
+    let found = told.as_slice().binary_search_by(|one| one.cmp(client));
+    match found {
+        Ok(_) => false,
+        Err(place) => {
+            if let Ok(client) = client.copied(alloc) {
+                let _ = told.insert(place, client);
+            }
+            true
+        }
     }
 }
 

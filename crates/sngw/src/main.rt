@@ -276,17 +276,22 @@ fn disk_at<T: Files<File = File>, E: Write>(
     let path = settings.journal.as_str();
     match FileDisk::at(rt, alloc, path) {
         Ok(mut disk) => {
-            tell_if_empty(&mut disk, path, err);
+            tell_if_empty(&mut disk, path, settings.log > 0, err);
             Ok(disk)
         }
         Err(fault) => Err(no_disk(path, fault, err)),
     }
 }
 
-/// Tells that no journal is there, if both files have no octets.
-fn tell_if_empty<E: Write>(disk: &mut FileDisk, path: &str, err: &mut E) {
+/// Tells that no journal is there, if both files have no octets. Events are written after their
+/// levels; this one is as bad as there are.
+fn tell_if_empty<E: Write>(disk: &mut FileDisk, path: &str, has_levels: bool, err: &mut E) {
     if is_empty(disk) {
-        let _ = writeln!(err, "{path}.0, {path}.1: no journal is there, one is begun");
+        let level = if has_levels { "<3>" } else { "" };
+        let _ = writeln!(
+            err,
+            "{level}{path}.0, {path}.1: no journal is there, one is begun"
+        );
     }
 }
 

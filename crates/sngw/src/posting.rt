@@ -172,6 +172,7 @@ impl<'a, T: Wait, P: Post> Post for Outlet<'a, T, P> {
     fn send(&self, to: Addr, bytes: &[u8]) -> Result<(), Unsent> {
         let second = self.shared.pool.clock.second();
         if is_disconnect(bytes) && !self.fence.may_say(self.rt, second, to) {
+            self.shared.board.note_sent(bytes, false);
             return Err(Unsent);
         }
         self.stage.keep(self.rt, bytes.len().saturating_add(A_SEND));

@@ -15,7 +15,7 @@ use gw_main::options::Settings;
 use gw_main::{Tended, number_of, tend};
 use gw_node::Node;
 use gw_run::Pool;
-use gw_wire::{FieldClock, Socket, address, millisecond};
+use gw_wire::{Socket, address, millisecond};
 use jr_disk::Disk;
 use rep_model::Replica;
 use sn_local::Addr;
@@ -119,7 +119,7 @@ fn shared_of(alloc: Global, settings: &Settings) -> Result<Shared, Stop> {
     }
 }
 
-/// The same, once there is a pool.
+/// What they share beside these links.
 fn shared_by(alloc: Global, settings: &Settings, pool: Pool<TcpStream>) -> Result<Shared, Stop> {
     match Board::of(alloc, settings) {
         Some(board) => Ok(Shared { pool, board }),
@@ -141,7 +141,7 @@ where
     }
 }
 
-/// The same, once there is that of links.
+/// That of links, and that of the page.
 fn listeners_with<T>(rt: &T, settings: &Settings, link: TcpListener) -> Result<Listeners, Stop>
 where
     T: Eprint + Net<Listener = TcpListener, Stream = TcpStream>,
@@ -372,13 +372,14 @@ where
     let line = format!(in alloc; "shift {number} steps {steps}");
     said.out.say(rt, line.ok());
     let done = go_on(rt, alloc, worked, inlet, shared, keeper, said);
-    note_turn(rt, shared, worked.closing, number, steps);
+    note_turn(rt, shared, number, steps);
     done
 }
 
 /// Counts a shift that is over, and how long it took since it had begun to close.
-fn note_turn<T: Clock>(rt: &T, shared: &Shared, closing: u64, number: u64, steps: usize) {
+fn note_turn<T: Clock>(rt: &T, shared: &Shared, number: u64, steps: usize) {
     let board = &shared.board;
+    let closing = board.get(Number::Closing);
     board.set(Number::ShiftCalls, steps as u64);
     board.note_time(
         Number::Turn,
@@ -415,7 +416,7 @@ where
 {
     let has_failed = worked.tended == Tended::Reopened || worked.node.is_halted();
     if has_failed {
-        shared.board.note_failed(rt);
+        shared.board.count_failure(rt);
     }
     if has_failed || (worked.has_written && keeper.is_grown(rt, alloc)) {
         tend_behind(rt, alloc, &mut worked.node, shared, keeper, said)?;
@@ -423,7 +424,7 @@ where
     let silence = keeper.silence_after(worked.has_recorded, has_failed);
     if silence > 0 {
         shared.board.set(Number::Halted, 1);
-        be_silent(rt, inlet, &shared.pool.clock, silence);
+        be_silent(rt, inlet, shared, silence);
         shared.board.set(Number::Halted, 0);
         shared.board.note_failed(rt);
     }
@@ -523,16 +524,16 @@ where
         let silence = keeper.wait_longer();
         shared.board.set(Number::Halted, 1);
         shared.board.note_failed(rt);
-        be_silent(rt, inlet, &shared.pool.clock, silence);
+        be_silent(rt, inlet, shared, silence);
     }
     unreachable!()
 }
 
 /// Waits so many seconds. What has come meanwhile is dropped.
-fn be_silent<T: Clock>(rt: &T, inlet: &mut Inlet, clock: &FieldClock, seconds: u64) {
+fn be_silent<T: Clock>(rt: &T, inlet: &mut Inlet, shared: &Shared, seconds: u64) {
     if seconds > 0 {
         thread::sleep(rt, Duration::from_secs(seconds));
-        inlet.drop_all(clock);
+        inlet.drop_all(&shared.pool.clock, &shared.board);
     }
 }
 
@@ -554,7 +555,7 @@ where
     let began = millisecond(rt);
     match tend(alloc, node) {
         Ok(tended) => {
-            note_tended(shared, tended, millisecond(rt).saturating_sub(began));
+            note_tended(rt, shared, tended, millisecond(rt).saturating_sub(began));
             begin_anew(rt, alloc, node, &shared.pool, tended, said);
             keeper.note_tended(rt, alloc, before, tended);
             Ok(tended)
@@ -564,7 +565,7 @@ where
 }
 
 /// Counts what became of a gateway that was tended in so many milliseconds.
-fn note_tended(shared: &Shared, tended: Tended, milliseconds: u64) {
+fn note_tended<T: Clock>(rt: &T, shared: &Shared, tended: Tended, milliseconds: u64) {
     let board = &shared.board;
     board.note_time(Number::Compaction, Number::LongestCompaction, milliseconds);
     match tended {
@@ -577,6 +578,7 @@ fn note_tended(shared: &Shared, tended: Tended, milliseconds: u64) {
         Tended::Unwritten => {
             board.add(Number::NotCompacted);
             board.add(Number::ReopenedBetween);
+            board.count_failure(rt);
         }
     }
 }

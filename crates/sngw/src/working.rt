@@ -3,7 +3,7 @@
 ghost use Rattle.std.specs.Prelude.{◌<◌, ◌≤◌};
 ghost use Rattle.gw_shift.specs.declared.shift.TheConstants.{MAX_STEPS};
 
-use crate::board::Shared;
+use crate::board::{Number, Shared};
 use crate::glancing::glance_all;
 use crate::late::Inlet;
 use crate::posting::Outlet;
@@ -59,8 +59,6 @@ pub struct Worked<R: Replica, D: Disk> {
     pub has_written: bool,
     /// Whether one of them put there what this gateway made.
     pub has_recorded: bool,
-    /// The millisecond in which it began to close.
-    pub closing: u64,
 }
 
 /// Works the shift of this number, and the gateway comes back. A datagram that came late, or is
@@ -330,6 +328,7 @@ where
     let mut ticking = || tick_at(rt, alloc, shift, seats, stage, post, shared);
     let mut serving = || -> Result<(), Stop> {
         let served = serve_all(rt, alloc, shift, passes, wire, post, stage);
+        shared.board.set(Number::Closing, millisecond(rt));
         stage.close(rt);
         served
     };
@@ -423,11 +422,10 @@ fn close<T, R, D>(
     shared: &Shared,
 ) -> Result<Worked<R, D>, Stop>
 where
-    T: Wait + Clock,
+    T: Wait,
     R: Replica,
     D: Disk + Drop,
 {
-    let closing = millisecond(rt);
     let Made { passes, tended } = match made {
         Ok(made) => made,
         Err(stop) => {
@@ -450,7 +448,6 @@ where
         tended,
         has_written,
         has_recorded,
-        closing,
     })
 }
 

@@ -361,6 +361,7 @@ fn add_alarms(page: &mut Page, events: &mut Sequence<Event>) {
         What::Alarm(Alarm::SameNumber { number, times }),
     );
     add(page, events, What::Alarm(Alarm::Conflict { number, times }));
+    add(page, events, What::Alarm(Alarm::Twice { number, times }));
     add(page, events, What::Alarm(Alarm::Halted));
 }
 
@@ -378,7 +379,6 @@ fn add_counts(page: &mut Page, events: &mut Sequence<Event>) {
     let (number, times) = (2, 3);
     warn(page, events, Warning::Stranger { number, times });
     warn(page, events, Warning::DeltaFull { number, times });
-    warn(page, events, Warning::Twice { number, times });
     warn(page, events, Warning::TurnedAway { times });
     warn(page, events, Warning::LinkLost { number });
     warn(page, events, Warning::Dropped { times });
