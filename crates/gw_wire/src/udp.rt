@@ -116,7 +116,7 @@ impl Socket {
         })
     }
 
-    /// The two sides, of which one gives each datagram the second of this clock. Those who read
+    /// The two sides, of which one gives each datagram the moment of this clock. Those who read
     /// count from here on.
     pub fn sides<'a>(&'a mut self, clock: &'a FieldClock) -> (Ears<'a>, Mouth<'a>)
         ensures failures { result.0.failures.count ≡ 0 }
@@ -207,7 +207,7 @@ impl<'a> Ears<'a> {
         if size > room {
             return None;
         }
-        let moment = self.clock.second();
+        let moment = self.clock.moment();
         Some(Arrival { from, size, moment })
     }
 }

@@ -5,3 +5,4 @@ pub mod Waiting
 pub mod Saying
 pub mod Retaining
 pub mod Handing
+pub mod Moments

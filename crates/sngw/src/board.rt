@@ -102,8 +102,9 @@ pub struct Field {
     pub clients: Vec<Glimpse>,
     /// Gateways, each with how many messages of it are known here.
     pub known: Vec<(u8, u64)>,
-    /// The second of the gateway's clock.
+    /// The second of the gateway's clock, and the moment of it.
     pub second: u64,
+    pub moment: u64,
 }
 
 /// What is counted of the running gateway.

@@ -2,6 +2,7 @@
 
 use crate::admission::Admission;
 use crate::board::{Board, Number, Shared};
+use crate::dates::{begin_dates, by_date};
 use crate::doors::{Door, doors_of, keep_all};
 use crate::keeping::{Keeper, is_written};
 use crate::late::{Inlet, Late};
@@ -28,13 +29,15 @@ use std::thread::Threads;
 use std::time::{Clock, Duration};
 use std::{mem, thread};
 
-/// Works so many shifts. The sockets are open from before the first to after the last.
+/// Works so many shifts with a gateway that was opened at this date. The sockets are open from
+/// before the first to after the last.
 pub(crate) fn run<T, R, D>(
     rt: &T,
     alloc: Global,
     settings: &Settings,
     node: Node<R, D>,
     shifts: u64,
+    opened_at: u64,
     said: Said<'_>,
 ) -> Result<(), Stop>
 where
@@ -45,6 +48,7 @@ where
     D: Disk + Drop + Send,
 {
     let mut opened = open_all(rt, alloc, settings)?;
+    begin_dates(rt, &opened.shared.pool.clock, opened_at);
     let place = Mutex::new(Some(node));
     let over = Stage::new(0, 0);
     let worked = run_beside(
@@ -301,7 +305,8 @@ where
 
 /// The shifts, each with a line when it is over. Where the gateway was opened anew in a shift, that
 /// is told before its line. After it the gateway is tended if it was halted, or its journal has
-/// grown. While its writes fail it is silent between its tries: clients look for another one.
+/// grown. While its writes fail it is silent between its tries: clients look for another one. If
+/// the date was set meanwhile, the gateway is opened anew by it.
 fn work_all<T, R, D>(
     rt: &T,
     alloc: Global,
@@ -338,8 +343,14 @@ where
             &mut keeper,
             said,
         );
-        put_back(rt, place, worked.node);
-        ended?;
+        if let Err(stop) = ended {
+            put_back(rt, place, worked.node);
+            return Err(stop);
+        }
+        let steps = worked.steps;
+        let node = by_date(rt, alloc, worked.node, inlet, shared, settings.lifetime, said)?;
+        put_back(rt, place, node);
+        note_turn(rt, shared, number + 1, steps);
     }
     Ok(())
 }
@@ -371,9 +382,7 @@ where
     begin_anew(rt, alloc, &worked.node, &shared.pool, worked.tended, said);
     let line = format!(in alloc; "shift {number} steps {steps}");
     said.out.say(rt, line.ok());
-    let done = go_on(rt, alloc, worked, inlet, shared, keeper, said);
-    note_turn(rt, shared, number, steps);
-    done
+    go_on(rt, alloc, worked, inlet, shared, keeper, said)
 }
 
 /// Counts a shift that is over, and how long it took since it had begun to close.
@@ -606,7 +615,7 @@ where
 }
 
 /// Says how the gateway stands. If memory runs out the line is left out.
-fn tell<T, R, D>(rt: &T, alloc: Global, node: &Node<R, D>, said: Said<'_>)
+pub(crate) fn tell<T, R, D>(rt: &T, alloc: Global, node: &Node<R, D>, said: Said<'_>)
 where
     T: Wait + Print + Eprint,
     R: Replica,
