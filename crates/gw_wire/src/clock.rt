@@ -82,6 +82,14 @@ pub fn date<C: Clock>(clock: &C) -> u64 {
     }
 }
 
+/// The second of the machine's clock that nobody sets, from any beginning; 0 if it cannot be read.
+pub fn second<C: Clock>(clock: &C) -> u64 {
+    match clock.monotonic() {
+        Ok(since) => since.as_secs(),
+        Err(_) => 0,
+    }
+}
+
 /// The millisecond of the machine's clock that nobody sets; 0 where it cannot be read.
 pub fn millisecond<C: Clock>(clock: &C) -> u64 {
     match clock.monotonic() {

@@ -23,8 +23,8 @@ mod udp;
 
 pub use clock::{
     FIRST_DATE, FieldClock, LARGEST_DRIFT, LONGEST_BREATH, Look, date, is_astray, is_date,
-    look_after, millisecond, stood_still,
+    look_after, millisecond, second, stood_still,
 };
 pub use ends::{Arrival, Gate, OpenGate, Post, Tally, Unsent, Wire, WireFault};
 pub use outage::{LONGEST_OUTAGE, OUTAGE_LINE_PAUSE, Outage, is_long, is_outage};
-pub use udp::{Ears, Mouth, Socket, address, moment};
+pub use udp::{Ears, Mouth, Socket, address};
