@@ -102,8 +102,9 @@ pub struct Field {
     pub clients: Vec<Glimpse>,
     /// Gateways, each with how many messages of it are known here.
     pub known: Vec<(u8, u64)>,
-    /// The second of the gateway's clock, and the moment of it.
+    /// The second of the gateway's clock.
     pub second: u64,
+    /// The moment of that second.
     pub moment: u64,
 }
 

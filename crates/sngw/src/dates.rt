@@ -21,6 +21,9 @@ use std::io::{Eprint, Print, Write};
 use std::sync::Wait;
 use std::time::Clock;
 
+/// What is said if messages get no lifetime, since the machine has no date.
+const UNDATED: &str = "date: before 2026: messages get no lifetime until it is set";
+
 /// The lifetime of messages at this date, in seconds: none before the date was set.
 fn lifetime_at(lifetime: u32, date: u64) -> u32 {
     if is_date(date) { lifetime } else { 0 }
@@ -32,25 +35,25 @@ pub(crate) fn hold_lifetime<E: Write>(settings: &mut Settings, today: u64, err: 
     let lifetime = settings.lifetime;
     settings.lifetime = lifetime_at(lifetime, today);
     if settings.lifetime != lifetime {
-        let _ = writeln!(
-            err,
-            "date: before 2026: messages get no lifetime until it is set"
-        );
+        let _ = writeln!(err, "{UNDATED}");
     }
     lifetime
 }
 
 /// Moments go by the date from now on. No thread looks at the clock yet. If the machine had no date
-/// when the gateway was opened, they go by that: so the gateway is opened again once one is set.
+/// when the gateway was opened, or has none now, they go by that of the opening: so the gateway is
+/// opened again once one is set.
 pub(crate) fn begin_dates<T: Clock>(rt: &T, clock: &FieldClock, opened: u64) {
-    clock.set(if is_date(opened) { date(rt) } else { opened });
+    let today = date(rt);
+    let are_dates = is_date(opened) && is_date(today);
+    clock.set(if are_dates { today } else { opened });
 }
 
 /// A gateway after a shift. If the date is far from the moment, it is opened anew by the date, with
-/// this lifetime, and the links are closed. What has come meanwhile is dropped. While the gateway
-/// is halted it is let be: its disk may fail. So it is if the date cannot be read, and is 0. The
-/// moment is that of the last look in the shift: whoever looks next finds whether the gateway stood
-/// still since then.
+/// this lifetime, and the links are closed. What has come meanwhile is dropped: it has a moment of
+/// before. While the gateway is halted it is let be: its disk may fail. So it is if the date cannot
+/// be read, and is 0. The moment is that of the last look in the shift: whoever looks next finds
+/// whether the gateway stood still since then.
 pub(crate) fn by_date<T, R, D>(
     rt: &T,
     alloc: Global,
@@ -71,8 +74,12 @@ where
         return Ok(node);
     }
     said.err.say(rt, line_of(alloc, moment, today));
+    let lasts = lifetime_at(lifetime, today);
+    if lasts != lifetime {
+        said.err.say(rt, String::from_str(alloc, UNDATED).ok());
+    }
     shared.pool.clock.set(today);
-    let opened = opened_with(alloc, node, lifetime_at(lifetime, today))?;
+    let opened = opened_with(alloc, node, lasts)?;
     shared.board.add(Number::ReopenedBetween);
     shared.pool.close_all(rt);
     inlet.drop_all(&shared.pool.clock, &shared.board);

@@ -305,8 +305,7 @@ where
 
 /// The shifts, each with a line when it is over. Where the gateway was opened anew in a shift, that
 /// is told before its line. After it the gateway is tended if it was halted, or its journal has
-/// grown. While its writes fail it is silent between its tries: clients look for another one. If
-/// the date was set meanwhile, the gateway is opened anew by it.
+/// grown. While its writes fail it is silent between its tries: clients look for another one.
 fn work_all<T, R, D>(
     rt: &T,
     alloc: Global,
@@ -331,27 +330,61 @@ where
             return Ok(());
         };
         know_clients(alloc, settings, &node, inlet, shared.pool.clock.second());
-        let mut worked = work(rt, alloc, settings, node, inlet, shared, number)?;
-        let ended = end_shift(
+        let worked = work(rt, alloc, settings, node, inlet, shared, number)?;
+        end_in_place(
             rt,
             alloc,
             settings,
-            &mut worked,
+            place,
+            worked,
             inlet,
             shared,
             number + 1,
             &mut keeper,
             said,
-        );
-        if let Err(stop) = ended {
-            put_back(rt, place, worked.node);
-            return Err(stop);
-        }
-        let steps = worked.steps;
-        let node = by_date(rt, alloc, worked.node, inlet, shared, settings.lifetime, said)?;
-        put_back(rt, place, node);
-        note_turn(rt, shared, number + 1, steps);
+        )?;
     }
+    Ok(())
+}
+
+/// Ends the shift of this number, from 1 on, and puts the gateway back into its place. If the date
+/// was set meanwhile, the gateway is opened anew by it first.
+fn end_in_place<T, R, D>(
+    rt: &T,
+    alloc: Global,
+    settings: &Settings,
+    place: &Mutex<Option<Node<R, D>>>,
+    mut worked: Worked<R, D>,
+    inlet: &mut Inlet,
+    shared: &Shared,
+    number: u64,
+    keeper: &mut Keeper<'_>,
+    said: Said<'_>,
+) -> Result<(), Stop>
+where
+    T: Wait + Clock + Print + Eprint + Files<File = File>,
+    R: Replica,
+    D: Disk + Drop,
+{
+    let steps = worked.steps;
+    let ended = end_shift(
+        rt,
+        alloc,
+        settings,
+        &mut worked,
+        inlet,
+        shared,
+        number,
+        keeper,
+        said,
+    );
+    if let Err(stop) = ended {
+        put_back(rt, place, worked.node);
+        return Err(stop);
+    }
+    let node = by_date(rt, alloc, worked.node, inlet, shared, settings.lifetime, said)?;
+    put_back(rt, place, node);
+    note_turn(rt, shared, number, steps);
     Ok(())
 }
 
