@@ -5,6 +5,9 @@
 //! a clock that nobody sets. If the date is found far from them after a shift, the gateway is
 //! opened anew by it: its timers are of the moments before.
 
+ghost use Rattle.std.specs.Prelude.{◌≡◌, if◌then◌else◌};
+ghost use Rattle.gw_wire.specs.Clock as clocks;
+
 use crate::board::{Number, Shared};
 use crate::late::Inlet;
 use crate::lines::Said;
@@ -25,7 +28,9 @@ use std::time::Clock;
 const UNDATED: &str = "date: before 2026: messages get no lifetime until it is set";
 
 /// The lifetime of messages at this date, in seconds: none before the date was set.
-fn lifetime_at(lifetime: u32, date: u64) -> u32 {
+fn lifetime_at(lifetime: u32, date: u64) -> u32
+    ensures { result ≡ (if clocks.is_date date then lifetime else 0) }
+{
     if is_date(date) { lifetime } else { 0 }
 }
 
