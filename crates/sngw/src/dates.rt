@@ -55,9 +55,9 @@ pub(crate) fn begin_dates<T: Clock>(rt: &T, clock: &FieldClock, opened: u64) {
 }
 
 /// A gateway after a shift. If the date is far from the moment, it is opened anew by the date, with
-/// this lifetime, and the links are closed. What has come meanwhile is dropped: it has a moment of
-/// before. While the gateway is halted it is let be: its disk may fail. So it is if the date cannot
-/// be read, and is 0. The moment is that of the last look in the shift: whoever looks next finds
+/// this lifetime, and the links are closed. A datagram that came late comes by the date as well.
+/// While the gateway is halted it is let be: its disk may fail. So it is if the date cannot be
+/// read, and is 0. The moment is that of the last look in the shift: whoever looks next finds
 /// whether the gateway stood still since then.
 pub(crate) fn by_date<T, R, D>(
     rt: &T,
@@ -87,7 +87,7 @@ where
     let opened = opened_with(alloc, node, lasts)?;
     shared.board.add(Number::ReopenedBetween);
     shared.pool.close_all(rt);
-    inlet.drop_all(&shared.pool.clock, &shared.board);
+    inlet.late.come_at(shared.pool.clock.moment());
     tell(rt, alloc, &opened, said);
     Ok(opened)
 }
