@@ -45,7 +45,7 @@ use Rattle.br_core.specs.declared.state.Phase.{Phase}
 use Rattle.br_core.specs.declared.state.Phase.TheVariants as phases
 use Rattle.br_core.specs.declared.state.Side.{Side}
 use Rattle.br_core.specs.declared.state.Side.TheVariants as sides
-use Rattle.br_core.specs.declared.state.TheConstants.{BROKER_KEEP_ALIVE, KEEP_ALIVE, LAST_NUMBER, MAX_NAMES, SLEEP, TRIES}
+use Rattle.br_core.specs.declared.state.TheConstants.{BROKER_KEEP_ALIVE, KEEP_ALIVE, LAST_NUMBER, MAX_IDS, MAX_NAMES, SLEEP, TRIES}
 use Rattle.br_core.specs.Sides.{acknowledged, all_again, at_once, does, free_id, has_window, in_flight, kept_at, left_in_flight, next_id, offered, once_more, out_again, sends, sent_along, sent_at, takes, takes_at, waits}
 use Rattle.br_core.specs.Lanes as lane
 use Rattle.br_core.specs.Commands as command
@@ -430,20 +430,22 @@ module _ (Good : ℕ → Type 0) (Done : ℕ → Type 0) (lift : (n : ℕ) → D
   known-at-just (Some name) qos kind settings own place topic_id msg_id body x b mine cames p h =
       named-at-just (slice_get own.names name) qos kind settings place name topic_id msg_id body x b mine (λ u level e. cames name u level refl e) p h
 
-  registered-just : (name : Option ℕ) (place topic_id msg_id : ℕ) (x : Lane) (b : Bridge) → L place x → J b → J (lane.registered name place topic_id msg_id x b)
-  registered-just None place topic_id msg_id x b p h = says-just place (frames.RegAck topic_id msg_id 3) x b tt p h
-  registered-just (Some name) place topic_id msg_id x b p h =
-      says-just place (frames.RegAck topic_id msg_id 0) (record x { ids = record { id = topic_id; name = name } ∷ x.ids }) b tt p h
-
   goes-away-just : (place : ℕ) (m : Moment) (x : Lane) (b : Bridge) → L place x → J b → J (lane.goes_away place m x b)
   goes-away-just place m x b p h = put-just place (record x { phase = phases.Away; tries = 0; due = m.at }) b p h
+
+  registered-just : (name : Option ℕ) (place : ℕ) (m : Moment) (topic_id msg_id : ℕ) (x : Lane) (b : Bridge) → L place x → J b → J (lane.registered name place m topic_id msg_id x b)
+  registered-just None place m topic_id msg_id x b p h = says-just place (frames.RegAck topic_id msg_id 3) x b tt p h
+  registered-just (Some name) place m topic_id msg_id x b p h =
+      let known : Lane = record x { ids = record { id = topic_id; name = name } ∷ x.ids } in
+      choose (nat_lt (length x.ids) MAX_IDS) (lane.says place (frames.RegAck topic_id msg_id 0) known b) (lane.goes_away place m x b)
+      (says-just place (frames.RegAck topic_id msg_id 0) known b tt p h) (goes-away-just place m x b p h)
 
   awake-just : (settings : Settings) (own : LaneSettings) (place : ℕ) (m : Moment) (frame : Frame) (x : Lane) (b : Bridge)
       → FrameOwn Own place frame b.number → FrameCame Came own x.ids place b.number frame → L place x → J b → J (lane.awake_frame settings own place m frame x b)
   awake-just settings own place m (frames.Publish flags topic msg_id body) x b mine cames p h =
       known-at-just (lane.name_of (kind_of flags.bits) topic own.names x.ids) (qos_of flags.bits) (kind_of flags.bits) settings own place topic msg_id body x b mine cames p h
   awake-just settings own place m (frames.Register topic_id msg_id name) x b mine cames p h =
-      registered-just (lane.place_of name own.names) place topic_id msg_id x b p h
+      registered-just (lane.place_of name own.names) place m topic_id msg_id x b p h
   awake-just settings own place m (frames.Disconnect duration) x b mine cames p h = goes-away-just place m x b p h
   awake-just settings own place m frame x b mine cames p h = put-just place x b p h
 

@@ -24,7 +24,7 @@ use Rattle.br_core.specs.declared.state.Named.{Named}
 use Rattle.br_core.specs.declared.state.Open.{Open}
 use Rattle.br_core.specs.declared.state.Phase.{Phase}
 use Rattle.br_core.specs.declared.state.Phase.TheVariants as phases
-use Rattle.br_core.specs.declared.state.TheConstants.{KEEP_ALIVE, LAST_NUMBER, MAX_BODY, SLEEP, TRIES}
+use Rattle.br_core.specs.declared.state.TheConstants.{KEEP_ALIVE, LAST_NUMBER, MAX_BODY, MAX_IDS, SLEEP, TRIES}
 use Rattle.br_core.specs.Sides.{does, is_up, next_id, once_more, takes}
 
 -- a lane in its place
@@ -247,25 +247,28 @@ publication settings own place flags topic_id msg_id body lane bridge =
     known_at (name_of (kind_of flags.bits) topic_id own.names lane.ids) (qos_of flags.bits)
     (kind_of flags.bits) settings own place topic_id msg_id body lane bridge
 
--- REGISTER of one of the names gives its topic id; another name is none of the lane's
-abbrev pub registered : Option ℕ → ℕ → ℕ → ℕ → Lane → Bridge → Bridge
-registered None place topic_id msg_id lane bridge =
-    says place (frames.RegAck topic_id msg_id 3) lane bridge
-registered (Some name) place topic_id msg_id lane bridge =
-    says place (frames.RegAck topic_id msg_id 0)
-    (record lane { ids = record { id = topic_id; name = name } ∷ lane.ids }) bridge
-
 -- the connection is over, and another one is due
 abbrev pub goes_away : ℕ → Moment → Lane → Bridge → Bridge
 goes_away place m lane bridge =
     seated place (record lane { phase = phases.Away; tries = 0; due = m.at }) bridge
+
+-- REGISTER of one of the names gives its topic id; another name is none of the lane's; a lane that
+-- has as many ids as it holds connects anew
+abbrev pub registered : Option ℕ → ℕ → Moment → ℕ → ℕ → Lane → Bridge → Bridge
+registered None place m topic_id msg_id lane bridge =
+    says place (frames.RegAck topic_id msg_id 3) lane bridge
+registered (Some name) place m topic_id msg_id lane bridge =
+    if nat_lt (length lane.ids) MAX_IDS
+    then says place (frames.RegAck topic_id msg_id 0)
+    (record lane { ids = record { id = topic_id; name = name } ∷ lane.ids }) bridge
+    else goes_away place m lane bridge
 
 -- a frame that comes while the lane is connected
 abbrev pub awake_frame : Settings → LaneSettings → ℕ → Moment → Frame → Lane → Bridge → Bridge
 awake_frame settings own place m (frames.Publish flags topic msg_id body) lane bridge =
     publication settings own place flags topic msg_id body lane bridge
 awake_frame settings own place m (frames.Register topic_id msg_id name) lane bridge =
-    registered (place_of name own.names) place topic_id msg_id lane bridge
+    registered (place_of name own.names) place m topic_id msg_id lane bridge
 awake_frame settings own place m (frames.Disconnect duration) lane bridge =
     goes_away place m lane bridge
 awake_frame settings own place m frame lane bridge = seated place lane bridge

@@ -12,7 +12,8 @@ use crate::item::Item;
 use crate::settings::{LaneSettings, Settings, UpName};
 use crate::sides::{does, is_up, next_id, once_more, takes};
 use crate::state::{
-    Bridge, KEEP_ALIVE, LAST_NUMBER, Lane, MAX_BODY, Moment, Named, Open, Phase, SLEEP, TRIES,
+    Bridge, KEEP_ALIVE, LAST_NUMBER, Lane, MAX_BODY, MAX_IDS, Moment, Named, Open, Phase, SLEEP,
+    TRIES,
 };
 use mq_packet::Qos;
 use octets::{NoMemory, Octets, Sequence};
@@ -530,37 +531,6 @@ fn in_front(alloc: Global, id: u16, name: usize, ids: &[Named]) -> Result<Sequen
     Ok(Sequence::new(more))
 }
 
-/// REGISTER of one of the names gives its topic id (section 6.10); another name is none of the
-/// lane's.
-fn registered(
-    alloc: Global,
-    own: &LaneSettings,
-    place: usize,
-    topic_id: u16,
-    msg_id: u16,
-    name: &Octets,
-    mut lane: Lane,
-    bridge: &mut Bridge,
-) -> Result<(), NoMemory>
-    requires { place < length bridge.old.lanes }
-    ensures { OnOk result (bridge.new ≡ spec.registered (spec.place_of name.now own.now.names) place
-        topic_id msg_id lane bridge.old) }
-{
-    let code = match place_of(name.as_slice(), own.names.as_slice()) {
-        None => 3,
-        Some(at) => {
-            lane.ids = in_front(alloc, topic_id, at, lane.ids.as_slice())?;
-            0
-        }
-    };
-    let frame = Frame::RegAck {
-        topic_id,
-        msg_id,
-        code,
-    };
-    says(place, frame, lane, bridge)
-}
-
 /// The connection is over, and another one is due.
 fn goes_away(place: usize, m: Moment, mut lane: Lane, bridge: &mut Bridge)
     requires { place < length bridge.old.lanes }
@@ -570,6 +540,46 @@ fn goes_away(place: usize, m: Moment, mut lane: Lane, bridge: &mut Bridge)
     lane.tries = 0;
     lane.due = m.at;
     seated(place, lane, bridge);
+}
+
+/// REGISTER of one of the names gives its topic id (section 6.10); another name is none of the
+/// lane's. A lane that has as many ids as it holds connects anew.
+fn registered(
+    alloc: Global,
+    own: &LaneSettings,
+    place: usize,
+    m: Moment,
+    topic_id: u16,
+    msg_id: u16,
+    name: &Octets,
+    mut lane: Lane,
+    bridge: &mut Bridge,
+) -> Result<(), NoMemory>
+    requires { place < length bridge.old.lanes }
+    ensures { OnOk result (bridge.new ≡ spec.registered (spec.place_of name.now own.now.names) place
+        m topic_id msg_id lane bridge.old) }
+{
+    let Some(at) = place_of(name.as_slice(), own.names.as_slice()) else {
+        let code = 3;
+        let frame = Frame::RegAck {
+            topic_id,
+            msg_id,
+            code,
+        };
+        return says(place, frame, lane, bridge);
+    };
+    if MAX_IDS <= lane.ids.len() {
+        goes_away(place, m, lane, bridge);
+        return Ok(());
+    }
+    lane.ids = in_front(alloc, topic_id, at, lane.ids.as_slice())?;
+    let code = 0;
+    let frame = Frame::RegAck {
+        topic_id,
+        msg_id,
+        code,
+    };
+    says(place, frame, lane, bridge)
 }
 
 /// A frame that comes while the lane is connected.
@@ -600,7 +610,7 @@ fn awake_frame(
             topic_id,
             msg_id,
             name,
-        } => registered(alloc, own, place, *topic_id, *msg_id, name, lane, bridge),
+        } => registered(alloc, own, place, m, *topic_id, *msg_id, name, lane, bridge),
         Frame::Disconnect { .. } => {
             goes_away(place, m, lane, bridge);
             Ok(())

@@ -37,7 +37,7 @@ pub use queue::Queue;
 pub use settings::{DownFilter, LaneSettings, Settings, UpName};
 pub use state::{
     BROKER_KEEP_ALIVE, Bridge, Doing, Down, KEEP_ALIVE, LAST_NUMBER, Lane, MAX_BODY, MAX_COMMANDS,
-    MAX_NAMES, MAX_WAITING, Moment, Named, NamedTopic, Open, PING, Phase, RETRY, SLEEP, Side,
-    TRIES,
+    MAX_IDS, MAX_NAMES, MAX_WAITING, Moment, Named, NamedTopic, Open, PING, Phase, RETRY, SLEEP,
+    Side, TRIES,
 };
 pub use steps::{begun, step};

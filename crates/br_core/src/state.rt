@@ -35,6 +35,10 @@ pub const MAX_COMMANDS: usize = 1_024;
 /// How many names the lane for commands registers before it connects anew. A session has 256 ids.
 pub const MAX_NAMES: usize = 250;
 
+/// How many topic ids a lane has before it connects anew. A session has 256 ids; one that is
+/// registered again counts again.
+pub const MAX_IDS: usize = 1_024;
+
 /// The most octets of a message in the field.
 pub const MAX_BODY: usize = 4_096;
 
