@@ -54,6 +54,11 @@ fn is_there(names: &[UpName], name: &[u8]) -> bool {
     names.iter().any(|up| up.name.as_slice() == name)
 }
 
+/// Whether a topic at the broker is that of a name before it.
+fn is_mapped(names: &[UpName], topic: &[u8]) -> bool {
+    names.iter().any(|up| up.topic.as_slice() == topic)
+}
+
 /// What an entry `[[up]]` says of all its names.
 #[derive(Drop)]
 struct Above<'a> {
@@ -85,7 +90,7 @@ fn up_of(alloc: Global, above: &Above<'_>, name: &TopicName) -> Result<UpName, S
     })
 }
 
-/// Adds the name of a text, which is short, or longer.
+/// Adds the name of a text, which is short, or longer. No two names have one topic at the broker.
 fn add_name(
     alloc: Global,
     above: &Above<'_>,
@@ -101,7 +106,11 @@ fn add_name(
     }
     let up = up_of(alloc, above, &name);
     drop(name);
-    names.push(up?)?;
+    let up = up?;
+    if is_mapped(names.as_slice(), up.topic.as_slice()) {
+        return Err(Stop::Key("up.to"));
+    }
+    names.push(up)?;
     Ok(())
 }
 

@@ -54,13 +54,21 @@ fn name_in(document: &Table) -> Result<&str, Stop> {
     Ok(name)
 }
 
-/// The addresses of the gateways, of which there is one at least.
+/// Whether all addresses are of one kind: a lane has one socket for all of them.
+fn are_alike(all: &[SocketAddr]) -> bool {
+    match all {
+        [] => true,
+        [first, ..] => all.iter().all(|one| one.is_ipv4() == first.is_ipv4()),
+    }
+}
+
+/// The addresses of the gateways, of which there is one at least, all of one kind.
 fn gateways_in(alloc: Global, document: &Table) -> Result<Vec<SocketAddr>, Stop> {
     let mut all = Vec::new(alloc);
     for item in list_at(document, "gateways", "gateways")? {
         all.push(address_of(text_of(item, "gateways")?, "gateways")?)?;
     }
-    if all.is_empty() {
+    if all.is_empty() || !are_alike(all.as_slice()) {
         return Err(Stop::Key("gateways"));
     }
     Ok(all)
@@ -269,8 +277,9 @@ fn account_in<R: Files<File = File>>(
 }
 
 /// All entries. Nothing that comes down by them goes up again, and nothing that goes up comes down.
-fn entries_in(alloc: Global, document: &Table) -> Result<Entries, Stop> {
+fn entries_in(alloc: Global, document: &Table, spools: bool) -> Result<Entries, Stop> {
     let ups = ups_in(alloc, document)?;
+    look_for_long(spools, ups.as_slice())?;
     let downs = downs_in(alloc, document)?;
     let apart = look_for_loops(alloc, downs.as_slice(), ups.as_slice());
     match apart {
@@ -340,8 +349,7 @@ fn settings_in<R: Files<File = File>>(
     let window = number_at(document, "window", 1, 64, 16)?;
     let room = room_in(document)?;
     look_for_later(document)?;
-    let entries = entries_in(alloc, document)?;
-    look_for_long(room.spools, entries.ups.as_slice())?;
+    let entries = entries_in(alloc, document, room.spools)?;
     let identity = identity_of(alloc, name)?;
     let lanes = lanes_of(alloc, name, lanes, entries.ups)?;
     Ok(settings_of(lanes, entries.downs, account, identity, window, room))

@@ -27,8 +27,8 @@ const BUFFER: usize = 65_535;
 /// How many datagrams of a lane, and reads of the connection, a turn takes at most.
 const MOST_READS: usize = 64;
 
-/// How many turns pass between two tries to write a line of what no side will have.
-const PATIENCE: u32 = 10;
+/// How many milliseconds pass between two tries to write a line of what no side will have.
+const PATIENCE: u64 = 1_000;
 
 /// A connection that ends within so many milliseconds has ended soon.
 const SOON: u64 = 3_000;
@@ -50,8 +50,8 @@ struct Turning<'a> {
     owed: Vec<Owed>,
     /// The readings that the bridge answers for.
     spool: Option<Spool>,
-    /// How many turns pass before a line is tried again that could not be written.
-    rest: u32,
+    /// The millisecond from which on a line is tried again that could not be written.
+    rest: u64,
     /// The millisecond by which time goes by next.
     due: u64,
     /// Whether more may be there than was read.
@@ -615,8 +615,8 @@ impl<'a> Turning<'a> {
         let Some(path) = &self.setup.refused else {
             return Ok(());
         };
-        if self.rest > 0 {
-            self.rest -= 1;
+        let now = millisecond(rt);
+        if now < self.rest {
             return Ok(());
         }
         let Some(owed) = self.owed.as_slice().first() else {
@@ -624,7 +624,7 @@ impl<'a> Turning<'a> {
         };
         let line = owed.line;
         if !keep(rt, path.as_str(), owed, err) {
-            self.rest = PATIENCE;
+            self.rest = now.saturating_add(PATIENCE);
             return Ok(());
         }
         drop(self.owed.remove(0));
