@@ -104,11 +104,13 @@ class Peer:
                 line.sendall(packet(0x40, rest[:2]))
                 rest = rest[2:]
             self.came.append((topic, rest, time.monotonic()))
-        elif kind == 4:
+        elif kind == 5:
+            line.sendall(packet(0x62, body))
+        elif kind in (4, 7):
             self.acked.add(int.from_bytes(body, "big"))
 
     def publish(self, topic: bytes, body: bytes, qos: int = 1, seconds: float = 60.0, retain: bool = False) -> None:
-        """Publishes, again and again until PUBACK at quality of service 1."""
+        """Publishes, again and again until PUBACK or PUBCOMP at quality of service 1 or 2."""
         with self.lock:
             self.id = self.id % 50000 + 1
             self.acked.discard(self.id)
@@ -118,7 +120,7 @@ class Peer:
                     head = 0x30 | qos << 1 | dup | int(retain)
                     try:
                         self.socket.sendall(packet(head, text(topic) + (number(self.id) if qos else b"") + body))
-                        dup, sent = 8 * qos, time.monotonic()
+                        dup, sent = 8 if qos else 0, time.monotonic()
                     except OSError:
                         pass
                 if sent and (not qos or self.id in self.acked):
@@ -205,13 +207,17 @@ class Node:
         return self.ids[name]
 
     def publish(self, name: bytes, octets: bytes, qos: int = 1) -> None:
-        """Publishes; at quality of service 1 until PUBACK 0, connecting again if the gateway does not know the client."""
+        """Publishes; at quality of service 1 and 2 until PUBACK 0 or PUBCOMP, connecting again if the gateway does not know the client."""
         while True:
             try:
                 topic, message = self.id_of(name), self.next()
                 sent = frame(0x0C, bytes([qos << 5]) + topic + number(message if qos else 0) + octets)
                 if not qos:
                     return self.say(sent)
+                if qos == 2:
+                    self.ask(sent, 0x0F, lambda body: body == number(message))
+                    self.ask(frame(0x10, number(message)), 0x0E, lambda body: body == number(message))
+                    return None
                 code = self.ask(sent, 0x0D, lambda body: body[2:4] == number(message))[4]
                 if code == 0:
                     return None
@@ -371,11 +377,13 @@ def settings(bridge: str, sngw: str, _broker: tuple, folder: str, _words) -> str
     """The first bad key is named."""
     scene = Scene(bridge, sngw, None, folder)
     good = scene.text(2)
-    bad = [("name", 'name = "b1"', 'name = "B1"'), ("gateways", f'["{HOST}:{scene.gateway.port}"]', "[]"), ("broker", f'"{HOST}:{scene.broker_port}"', '"here"'),
+    bad = [("name", 'name = "b1"', 'name = "B1"'), ("gateways", f'["{HOST}:{scene.gateway.port}"]', "[]"),
+           ("gateways", f'"{HOST}:{scene.gateway.port}"', f'"{HOST}:{scene.gateway.port}", "[::1]:1881"'), ("broker", f'"{HOST}:{scene.broker_port}"', '"here"'),
            ("client", 'client = "nimhazel-b1"', f'client = "{24 * "c"}"'), ("lanes", "lanes = 2", "lanes = 17"), ("lanes", "lanes = 2", 'lanes = "2"'),
            ("spool", "lanes = 2", "lanes = 2\nspool = 1"), ("room", "lanes = 2", "lanes = 2\nroom = 2000"), ("room", "lanes = 2", 'lanes = 2\nspool = "s"\nroom = 5'),
            ("status", "lanes = 2", 'lanes = 2\nstatus = "here"'), ("up.topics", '"t/heat"', '"t/+"'), ("up.topics", '"t/heat"', '"t/cold"'), ("up.short", '"qa"', '"qaa"'),
-           ("up.to", '"field/1/"', '"field/#"'), ("up.filter", "[[up]]", '[[up]]\nfilter = "t/#"'), ("down.filter", '"cmd/1/act/#"', '"cmd/#/1"'),
+           ("up.to", '"field/1/"', '"field/#"'), ("up.to", "[[up]]", '[[up]]\ntopics = ["1/t/heat"]\nto = "field/"\n[[up]]'),
+           ("up.to", 'lanes = 2', f'lanes = 2\nspool = "s"\n[[up]]\ntopics = ["t/long"]\nto = "{250 * "n"}/"\n[[down]]\nfilter = "t/#/t"'), ("up.filter", "[[up]]", '[[up]]\nfilter = "t/#"'), ("down.filter", '"cmd/1/act/#"', '"cmd/#/1"'),
            ("down.filter", '"cmd/1/act/#"', '"field/#"'), ("refused", f'refused = "{scene.refused}"\n', "")]
     for key, old, new in bad:
         expect(old in good, f"no {old} in the settings")
@@ -447,6 +455,10 @@ def through(bridge: str, sngw: str, broker: tuple, folder: str, words) -> str:
         until(lambda: 900001 in count_of(reader.came, b"field/1/" + scene.names[0]), 10, "a reading of quality of service 0 did not come")
         writer.publish(b"cmd/1/act/lamp", b"900002", 0)
         until(lambda: 900002 in count_of(actor.came, b"act/lamp"), 10, "a command of quality of service 0 did not come")
+        sensors[0].publish(scene.names[0], b"900003", 2)
+        until(lambda: 900003 in count_of(reader.came, b"field/1/" + scene.names[0]), 10, "a reading of quality of service 2 did not come")
+        writer.publish(b"cmd/1/act/lamp", b"900004", 2)
+        until(lambda: 900004 in count_of(actor.came, b"act/lamp"), 10, "a command of quality of service 2 did not come")
         is_over.append(True)
         scene.bridge.alive()
         return f"{many * 4} readings and {many} commands, in order, none twice, in {seconds:.1f} seconds"
