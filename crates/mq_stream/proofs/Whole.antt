@@ -1,13 +1,18 @@
--- A packet that is in front of a stream, whole or as far as it is held, is a piece.
-use Rattle.std.proofs.Common.{◌≡◌, ◌∙◌, ◌+◌, ◌-◌, ◌<◌, ◌≤◌, ℕ, zero, suc, true, false, if◌then◌else◌, List, [], ◌∷◌, ◌++◌, length, take, drop, refl, sym, ap, subst, length-append, arith}
+-- A packet that is in front of a stream, whole or as far as it is held, is a piece, or has a fault.
+use Rattle.std.proofs.Common.{◌≡◌, ◌∙◌, ◌+◌, ◌-◌, ◌<◌, ◌≤◌, ◌⊎◌, inl, inr, ℕ, zero, suc, true, false, if◌then◌else◌, List, [], ◌∷◌, ◌++◌, length, take, drop, refl, sym, ap, subst, length-append, arith}
+use Rattle.std.specs.Prelude.{◌≢◌}
 use Rattle.std.proofs.lemmas.Bool.{lt-ltb, le-ltb}
+use Rattle.mq_packet.specs.declared.fault.PacketFault.{PacketFault}
+use Rattle.mq_packet.specs.declared.fault.PacketFault.TheVariants as faults
+use Rattle.mq_packet.specs.declared.header.Header.{Header}
 use Rattle.mq_packet.specs.declared.packet.Packet.{Packet}
 use Rattle.mq_packet.specs.Bodies.{body_of, header_of}
+use Rattle.mq_packet.specs.Faults.{IsFirstFault, IsLengthFault, IsOctetFault}
 use Rattle.mq_packet.specs.Grammar.{IsFramed, IsSaid, Spells, length_in}
 use Rattle.mq_packet.specs.Headers.{octet_of}
 use Rattle.mq_packet.proofs.Framing.{one_framing}
 use Rattle.mq_stream.specs.declared.front.TheConstants.{MAX_HELD}
-use Rattle.mq_stream.specs.Pieces.{IsHead, IsPiece, Says, held}
+use Rattle.mq_stream.specs.Pieces.{IsFaulty, IsHead, IsPiece, Says, held}
 
 -- ---- lists
 
@@ -117,3 +122,51 @@ cut_piece octets own kept rest first said body p h long few begun after is s =
       left = ap (λ n. said - n) (sym cut);
       follows = subst (λ n. rest ≡ drop n body) (sym cut) after;
     }
+
+-- ---- what is no packet
+
+-- no packet begins with the first octet
+pub first_faulty : (octets : List ℕ) (first : ℕ) (after : List ℕ) (fault : PacketFault) → octets ≡ first ∷ after → IsOctetFault first fault → IsFaulty octets fault
+first_faulty octets first after fault begins why = inl (first, after, begins, why)
+
+-- Remaining Length is none
+pub length_faulty : (octets : List ℕ) (header : Header) (first : ℕ) (after : List ℕ) (fault : PacketFault) → octets ≡ first ∷ after → octet_of header ≡ first
+    → IsLengthFault after fault → fault ≢ faults.Short → IsFaulty octets fault
+length_faulty octets header first after faults.Short begins known why other = absurd (other refl)
+length_faulty octets header first after faults.TooLong begins known why other =
+    inr (inl (refl, (header, after, subst (λ n. octets ≡ n ∷ after) (sym known) begins, why)))
+length_faulty octets header first after fault begins known why other = absurd why
+
+-- a fault is want of memory, or another one
+memory-or-not : (fault : PacketFault) → (fault ≡ faults.Memory) ⊎ (fault ≢ faults.Memory)
+memory-or-not (faults.UnknownType octet) = inr (λ e. cc)
+memory-or-not (faults.QosTwo octet) = inr (λ e. cc)
+memory-or-not (faults.Flags octet) = inr (λ e. cc)
+memory-or-not faults.Short = inr (λ e. cc)
+memory-or-not faults.TooLong = inr (λ e. cc)
+memory-or-not (faults.Length said there) = inr (λ e. cc)
+memory-or-not faults.Body = inr (λ e. cc)
+memory-or-not faults.Memory = inl refl
+
+refused-by : (octets own : List ℕ) (first said : ℕ) (body : List ℕ) (fault : PacketFault) → IsHead octets first said body → held said ≤ length body
+    → IsFramed own first (take (held said) body) → IsFirstFault own fault → (fault ≡ faults.Memory) ⊎ (fault ≢ faults.Memory) → (fault ≡ faults.Memory) ⊎ IsFaulty octets fault
+refused-by octets own first said body fault h few framed why (inl starved) = inl starved
+refused-by octets own first said body fault h few framed why (inr real) =
+    inr (inr (inr (record { first = first; said = said; body = body; own = own; head = h; there = few; framed = framed; why = why; real = real })))
+
+-- the octets of a whole packet
+pub whole_faulty : (octets own : List ℕ) (first said : ℕ) (body : List ℕ) (fault : PacketFault) → IsHead octets first said body → said ≤ MAX_HELD → said ≤ length body
+    → own ≡ take (length octets - length body + said) octets → IsFirstFault own fault → (fault ≡ faults.Memory) ⊎ IsFaulty octets fault
+whole_faulty octets own first said body fault h small few begun why =
+    let all : held said ≡ said = held-whole said small in
+    refused-by octets own first said body fault h (subst (λ n. n ≤ length body) (sym all) few)
+    (subst (λ n. IsFramed own first (take n body)) (sym all) (front-framed octets own first said body h few begun)) why (memory-or-not fault)
+
+-- and of one that is cut
+pub cut_faulty : (octets own kept : List ℕ) (first said : ℕ) (body : List ℕ) (fault : PacketFault) → IsHead octets first said body → MAX_HELD < said → MAX_HELD ≤ length body
+    → kept ≡ take MAX_HELD body → own ≡ first ∷ 128 ∷ 192 ∷ 4 ∷ kept → IsFirstFault own fault → (fault ≡ faults.Memory) ⊎ IsFaulty octets fault
+cut_faulty octets own kept first said body fault h long few begun is why =
+    let cut : held said ≡ MAX_HELD = held-cut said long in
+    let size : length kept ≡ MAX_HELD = ap (λ zs. length zs) begun ∙ take-length MAX_HELD body few in
+    refused-by octets own first said body fault h (subst (λ n. n ≤ length body) (sym cut) few)
+    (subst (λ n. IsFramed own first (take n body)) (sym cut) (subst (λ zs. IsFramed own first zs) begun (cut-framed own kept first size is))) why (memory-or-not fault)

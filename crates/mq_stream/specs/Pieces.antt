@@ -1,11 +1,11 @@
 -- What is read of a stream of packets.
-use Rattle.std.specs.Prelude.{◌≡◌, ℕ, ◌-◌, ◌<◌, ◌≤◌, ◌⊎◌, nat_lt, if◌then◌else◌, List, [], ◌∷◌, length, take, drop, Option, Some, None}
+use Rattle.std.specs.Prelude.{◌≡◌, ◌≢◌, ℕ, ◌-◌, ◌<◌, ◌≤◌, ◌⊎◌, nat_lt, if◌then◌else◌, List, [], ◌∷◌, length, take, drop, Option, Some, None}
 use Rattle.mq_packet.specs.declared.fault.PacketFault.{PacketFault}
 use Rattle.mq_packet.specs.declared.fault.PacketFault.TheVariants as faults
 use Rattle.mq_packet.specs.declared.packet.Packet.{Packet}
 use Rattle.mq_packet.specs.Bodies.{IsMessage, body_of, header_of}
-use Rattle.mq_packet.specs.Faults.{IsHeadThen}
-use Rattle.mq_packet.specs.Grammar.{IsSaid}
+use Rattle.mq_packet.specs.Faults.{IsFirstFault, IsHeadFault, IsHeadThen}
+use Rattle.mq_packet.specs.Grammar.{IsFramed, IsSaid}
 use Rattle.mq_packet.specs.Headers.{octet_of}
 use Rattle.mq_stream.specs.declared.front.TheConstants.{MAX_HELD}
 
@@ -50,10 +50,30 @@ pub record IsUnfinished (octets : List ℕ) : Type 0 where
 abbrev pub IsWanting : List ℕ → Type 0
 IsWanting octets = (octets ≡ []) ⊎ (IsHeadThen octets faults.Short ⊎ IsUnfinished octets)
 
+-- The octets begin with the head of a packet that is there as far as it is held, and this is wrong
+-- with it: with octets that have the same first octet, and as a body what is held.
+pub record IsRefused (octets : List ℕ) (fault : PacketFault) : Type 0 where
+  pub first : ℕ
+  pub said : ℕ
+  pub body : List ℕ
+  pub own : List ℕ
+  pub head : IsHead octets first said body
+  pub there : held said ≤ length body
+  pub framed : IsFramed own first (take (held said) body)
+  pub why : IsFirstFault own fault
+  pub real : fault ≢ faults.Memory
+
+-- The octets begin with what is no packet, and this is why: the first octet, Remaining Length, or
+-- what is held of the packet.
+abbrev pub IsFaulty : List ℕ → PacketFault → Type 0
+IsFaulty octets fault =
+    IsHeadFault octets fault
+    ⊎ (((fault ≡ faults.TooLong) × IsHeadThen octets faults.TooLong) ⊎ IsRefused octets fault)
+
 -- and that is why no further packet was read, or there is a fault
 abbrev pub Ends : Option PacketFault → List ℕ → Type 0
 Ends None rest = IsWanting rest
-Ends (Some fault) rest = Unit {0}
+Ends (Some fault) rest = IsFaulty rest fault
 
 -- So many octets are passed over, and then come these packets; then so many are still to be passed
 -- over, and the rest waits.

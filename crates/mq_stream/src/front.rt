@@ -1,8 +1,8 @@
 //! The packet in front of a stream.
 
-ghost use Rattle.std.specs.Prelude.{◌≡◌, ◌<◌, ◌-◌, ◌∷◌, length, drop, IfOk, MatchOption};
+ghost use Rattle.std.specs.Prelude.{◌≡◌, ◌<◌, ◌-◌, ◌∷◌, ◌⊎◌, length, drop, IfOk, IfErr, MatchOption};
 ghost use Rattle.mq_stream.specs.declared.front.TheConstants.{MAX_HELD};
-ghost use Rattle.mq_stream.specs.Pieces.{IsHead, IsPiece, IsWanting};
+ghost use Rattle.mq_stream.specs.Pieces.{IsFaulty, IsHead, IsPiece, IsWanting};
 
 use mq_packet::{Header, Packet, PacketFault, decode, remaining};
 use octets::NoMemory;
@@ -34,9 +34,11 @@ pub(crate) fn passed(over: u32, octets: &[u8]) -> (u32, &[u8])
 
 /// The packet in front of the octets; nothing where octets are wanting. A first octet that no packet
 /// begins with is a fault at once.
+#[tactic(auto, using(crate::proofs::Whole::first_faulty, crate::proofs::Whole::length_faulty))]
 pub(crate) fn front(alloc: Global, octets: &[u8]) -> Result<Option<InFront<'_>>, PacketFault>
-    ensures { IfOk result (λ found. MatchOption found (IsWanting octets.now)
+    ensures ok { IfOk result (λ found. MatchOption found (IsWanting octets.now)
         (λ f. IsPiece octets.now f.packet f.over f.rest.now)) }
+    ensures err { IfErr result (λ e. (e ≡ PacketFault.Memory) ⊎ IsFaulty octets.now e) }
 {
     let [first, after @ ..] = octets else {
         return Ok(None);
@@ -50,7 +52,7 @@ pub(crate) fn front(alloc: Global, octets: &[u8]) -> Result<Option<InFront<'_>>,
 }
 
 /// The packet that says so many octets, which begin with the body.
-#[tactic(auto, using(crate::proofs::Whole::whole_piece))]
+#[tactic(auto, using(crate::proofs::Whole::whole_piece, crate::proofs::Whole::whole_faulty))]
 fn whole<'a>(
     alloc: Global,
     first: u8,
@@ -59,8 +61,9 @@ fn whole<'a>(
     body: &'a [u8],
 ) -> Result<Option<InFront<'a>>, PacketFault>
     requires { IsHead octets.now first said body.now }
-    ensures { IfOk result (λ found. MatchOption found (IsWanting octets.now)
+    ensures ok { IfOk result (λ found. MatchOption found (IsWanting octets.now)
         (λ f. IsPiece octets.now f.packet f.over f.rest.now)) }
+    ensures err { IfErr result (λ e. (e ≡ PacketFault.Memory) ⊎ IsFaulty octets.now e) }
 {
     if MAX_HELD < said as usize {
         return cut(alloc, first, said, octets, body);
@@ -76,7 +79,7 @@ fn whole<'a>(
 }
 
 /// The packet of which more is said than is held.
-#[tactic(auto, using(crate::proofs::Whole::cut_piece))]
+#[tactic(auto, using(crate::proofs::Whole::cut_piece, crate::proofs::Whole::cut_faulty))]
 fn cut<'a>(
     alloc: Global,
     first: u8,
@@ -86,8 +89,9 @@ fn cut<'a>(
 ) -> Result<Option<InFront<'a>>, PacketFault>
     requires head { IsHead _octets.now first said body.now }
     requires long { MAX_HELD < said }
-    ensures { IfOk result (λ found. MatchOption found (IsWanting _octets.now)
+    ensures ok { IfOk result (λ found. MatchOption found (IsWanting _octets.now)
         (λ f. IsPiece _octets.now f.packet f.over f.rest.now)) }
+    ensures err { IfErr result (λ e. (e ≡ PacketFault.Memory) ⊎ IsFaulty _octets.now e) }
 {
     if body.len() < MAX_HELD {
         return Ok(None);
