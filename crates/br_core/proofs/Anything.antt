@@ -68,7 +68,7 @@ frame-may frame b = tt
 
 pub packet-any : (settings : Settings) (packet : Packet) (b : Bridge) → PacketDone Yes Yes Each settings packet b
 packet-any settings (packets.PubAck id) b = item-any (acknowledged id b.flight)
-packet-any settings (packets.Publish delivery retain topic body) b = (λ kept wanted. tt, tt)
+packet-any settings (packets.Publish delivery retain topic body) b = (λ kept left wanted. tt, tt)
 packet-any settings packet b = tt
 
 pub reasons-any : (settings : Settings) (event : Event) (b : Bridge) → Reasons Yes Yes Its Yes Any Each settings event b

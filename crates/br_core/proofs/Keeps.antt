@@ -131,7 +131,7 @@ packet-reasons : (settings : Settings) (before : List Come) (moment : ℕ) (pack
     → PacketDone (Handed settings (before ++ (events.Broker packet, moment) ∷ [])) Yes Each settings packet (emptied (after settings before))
 packet-reasons settings before moment (packets.PubAck id) =
     handed-item settings before moment (standing settings before) id (acknowledged id (after settings before).flight) refl
-packet-reasons settings before moment (packets.Publish delivery retain topic body) = (λ kept wanted. tt, tt)
+packet-reasons settings before moment (packets.Publish delivery retain topic body) = (λ kept left wanted. tt, tt)
 packet-reasons settings before moment packet = tt
 
 its-reasons : (settings : Settings) (before : List Come) (moment : ℕ) (event : Event)

@@ -22,7 +22,8 @@ use Rattle.br_core.specs.declared.state.Doing.TheVariants as doings
 use Rattle.br_core.specs.declared.state.Lane.{Lane}
 use Rattle.br_core.specs.declared.state.Open.{Open}
 use Rattle.br_core.specs.Begins.{begun, moment_of, new_lane}
-use Rattle.br_core.specs.Runs.{Answered, AreAllowed, Brought, Came, CameDown, CameOver, Come, Handed, IsSent, MayTell, Spooled, WasFound, after, after_from, done, done_from, stepped}
+use Rattle.br_core.specs.Commands.{filter_for}
+use Rattle.br_core.specs.Runs.{Answered, AreAllowed, Brought, Came, CameDown, CameOver, Come, Handed, IsSent, LeavesKept, MayTell, Spooled, WasFound, after, after_from, done, done_from, stepped}
 use Rattle.br_core.specs.Sides.{acknowledged}
 use Rattle.br_core.specs.Steps.{emptied, id_in}
 use Rattle.br_core.proofs.Just.{Flown, Stand, event-just, sent-more}
@@ -262,10 +263,10 @@ module _ (settings : Settings) (before : List Come) (moment : ℕ) (stand : Stan
         sent = has.1;
       }
 
-  old-publication : (delivery : Delivery) (retain : Bool) (topic body : List ℕ) → retain ≡ true
+  old-publication : (delivery : Delivery) (retain : Bool) (topic body : List ℕ) → retain ≡ true → LeavesKept (filter_for topic settings.downs)
       → Tells (MayTell settings (grown (events.Broker (packets.Publish delivery retain topic body)))) (id_in delivery)
-  old-publication deliveries.Once retain topic body e = λ wanted. cc
-  old-publication (deliveries.Acknowledged id dup) retain topic body e = λ wanted.
+  old-publication deliveries.Once retain topic body e left = λ wanted. cc
+  old-publication (deliveries.Acknowledged id dup) retain topic body e left = λ wanted.
       inr (inr (record {
         earlier = before;
         dup = dup;
@@ -273,13 +274,14 @@ module _ (settings : Settings) (before : List Come) (moment : ℕ) (stand : Stan
         body = body;
         moment = moment;
         comes = ap (λ kept. before ++ (events.Broker (packets.Publish (deliveries.Acknowledged id dup) kept topic body), moment) ∷ []) e;
+        left = left;
       }))
 
   broker-reasons : (packet : Packet)
       → PacketDone (Handed settings (grown (events.Broker packet))) (MayTell settings (grown (events.Broker packet))) (CameDown settings (grown (events.Broker packet))) settings packet here
   broker-reasons (packets.PubAck id) = handed-item id (acknowledged id here.flight) refl
   broker-reasons (packets.Publish delivery retain topic body) =
-      (λ e. old-publication delivery retain topic body e, record {
+      (λ e left. old-publication delivery retain topic body e left, record {
         earlier = before;
         later = [];
         delivery = delivery;

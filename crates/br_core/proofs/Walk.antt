@@ -50,7 +50,7 @@ use Rattle.br_core.specs.Sides.{acknowledged, all_again, at_once, does, free_id,
 use Rattle.br_core.specs.Lanes as lane
 use Rattle.br_core.specs.Commands as command
 use Rattle.br_core.specs.Steps as whole
-use Rattle.br_core.specs.Runs.{IsCommand, IsFrame, IsJust, field_topic, topic_by}
+use Rattle.br_core.specs.Runs.{IsCommand, IsFrame, IsJust, LeavesKept, field_topic, topic_by}
 
 -- ---- lanes in their places
 
@@ -122,6 +122,10 @@ refusal-not kind phase e = refusal-at-not phase e
 unanswered : {A : Type 0} → false ≡ true → A
 unanswered e = cc
 
+unset : (c : Bool) → not c ≡ true → c ≡ false
+unset true e = cc
+unset false e = refl
+
 -- a PUBLISH brings the next number to its lane
 abbrev pub FrameOwn : (ℕ → ℕ → ℕ → Type 0) → ℕ → Frame → ℕ → Type 0
 FrameOwn Own place (frames.Publish flags topic msg_id body) number = Own place number msg_id
@@ -161,7 +165,7 @@ command-in settings delivery topic body =
 abbrev pub PacketDone : (ℕ → Type 0) → (ℕ → Type 0) → (Command → Type 0) → Settings → Packet → Bridge → Type 0
 PacketDone Done May Asked settings (packets.PubAck id) b = ItemDone Done (acknowledged id b.flight)
 PacketDone Done May Asked settings (packets.Publish delivery retain topic body) b =
-    (retain ≡ true → Tells May (whole.id_in delivery)) × Asked (command-in settings delivery topic body)
+    (retain ≡ true → LeavesKept (command.filter_for topic settings.downs) → Tells May (whole.id_in delivery)) × Asked (command-in settings delivery topic body)
 PacketDone Done May Asked settings packet b = Unit {0}
 
 -- what the spool has is good
@@ -548,17 +552,17 @@ module _ (Good : ℕ → Type 0) (Done : ℕ → Type 0) (lift : (n : ℕ) → D
   queued-just id from topic body b asked h =
       walked.asks (record { id = id; from = from; topic = topic; body = body }) b.lanes b.out b.waiting b.flight b.number b.down.queue asked h
 
-  asked-just : (entry : Option DownFilter) (id : ℕ) (retain : Bool) (topic body : List ℕ) (b : Bridge) → (retain ≡ true → Tells May id)
+  asked-just : (entry : Option DownFilter) (id : ℕ) (retain : Bool) (topic body : List ℕ) (b : Bridge) → (retain ≡ true → LeavesKept entry → Tells May id)
       → Asked (record { id = id; from = topic; topic = topic_by entry topic; body = body }) → J b → J (command.asked entry id retain topic body b)
   asked-just None id retain topic body b may asked h = queued-just id topic [] body b asked h
   asked-just (Some entry) id retain topic body b may asked h =
       choose-by (retain && not entry.retained) (command.told id b) (command.queued id topic (command.stripped entry.strip topic) body b)
-      (λ e. told-just id b (may (and_parts retain (not entry.retained) e).0) h) (queued-just id topic (command.stripped entry.strip topic) body b asked h)
+      (λ e. told-just id b (may (and_parts retain (not entry.retained) e).0 (unset entry.retained (and_parts retain (not entry.retained) e).1)) h) (queued-just id topic (command.stripped entry.strip topic) body b asked h)
 
   passed-over-just : (id : ℕ) (b : Bridge) → J b → J (command.passed_over id b)
   passed-over-just id b h = choose (id == 0) b (command.put_down (record b.down { is_behind = true }) b) h h
 
-  commanded-just : (downs : List DownFilter) (id : ℕ) (retain : Bool) (topic body : List ℕ) (b : Bridge) → (retain ≡ true → Tells May id)
+  commanded-just : (downs : List DownFilter) (id : ℕ) (retain : Bool) (topic body : List ℕ) (b : Bridge) → (retain ≡ true → LeavesKept (command.filter_for topic downs) → Tells May id)
       → Asked (record { id = id; from = topic; topic = topic_by (command.filter_for topic downs) topic; body = body }) → J b → J (command.commanded downs id retain topic body b)
   commanded-just downs id retain topic body b may asked h =
       let over : Bridge = command.passed_over id b in

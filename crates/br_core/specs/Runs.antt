@@ -213,8 +213,14 @@ pub record LineKept (settings : Settings) (run : List Come) (id : ℕ) : Type 0 
   pub doing : (after settings earlier).down.doing ≡ doings.Refusing line
   pub first : IsFirst (CameDown settings earlier) id (after settings earlier).down.queue
 
--- The publication is one that the broker had kept, and that came because of a SUBSCRIBE.
-pub record IsOld (run : List Come) (id : ℕ) : Type 0 where
+-- the filter of a publication, if there is one, does not hand on what the broker had kept
+abbrev pub LeavesKept : Option DownFilter → Type 0
+LeavesKept None = ⊥
+LeavesKept (Some entry) = entry.retained ≡ false
+
+-- The publication is one that the broker had kept, and that came because of a SUBSCRIBE. Its filter
+-- does not hand such on.
+pub record IsOld (settings : Settings) (run : List Come) (id : ℕ) : Type 0 where
   pub earlier : List Come
   pub dup : Bool
   pub topic : List ℕ
@@ -223,10 +229,12 @@ pub record IsOld (run : List Come) (id : ℕ) : Type 0 where
   pub comes : run ≡ earlier
       ++ (events.Broker (packets.Publish (deliveries.Acknowledged id dup) true topic body), moment)
       ∷ []
+  pub left : LeavesKept (filter_for topic settings.downs)
 
 -- why the broker may be told that a publication was taken
 abbrev pub MayTell : Settings → List Come → ℕ → Type 0
-MayTell settings run id = Accepted settings run id ⊎ (LineKept settings run id ⊎ IsOld run id)
+MayTell settings run id =
+    Accepted settings run id ⊎ (LineKept settings run id ⊎ IsOld settings run id)
 
 -- ---- what may be done
 
