@@ -383,7 +383,8 @@ def settings(bridge: str, sngw: str, _broker: tuple, folder: str, _words) -> str
            ("spool", "lanes = 2", "lanes = 2\nspool = 1"), ("room", "lanes = 2", "lanes = 2\nroom = 2000"), ("room", "lanes = 2", 'lanes = 2\nspool = "s"\nroom = 5'),
            ("status", "lanes = 2", 'lanes = 2\nstatus = "here"'), ("up.topics", '"t/heat"', '"t/+"'), ("up.topics", '"t/heat"', '"t/cold"'), ("up.short", '"qa"', '"qaa"'),
            ("up.to", '"field/1/"', '"field/#"'), ("up.to", "[[up]]", '[[up]]\ntopics = ["1/t/heat"]\nto = "field/"\n[[up]]'),
-           ("up.to", 'lanes = 2', f'lanes = 2\nspool = "s"\n[[up]]\ntopics = ["t/long"]\nto = "{250 * "n"}/"\n[[down]]\nfilter = "t/#/t"'), ("up.filter", "[[up]]", '[[up]]\nfilter = "t/#"'), ("down.filter", '"cmd/1/act/#"', '"cmd/#/1"'),
+           ("up.to", 'lanes = 2', f'lanes = 2\nspool = "s"\n[[up]]\ntopics = ["t/long"]\nto = "{250 * "n"}/"\n[[down]]\nfilter = "t/#/t"'), ("up.filter", "[[up]]", '[[up]]\nfilter = "t/#"'),
+           ("up.retain", 'to = "field/1/"', 'to = "field/1/"\nretain = ["t/heat", "t/#/x"]'), ("down.filter", '"cmd/1/act/#"', '"cmd/#/1"'),
            ("down.filter", '"cmd/1/act/#"', '"field/#"'), ("refused", f'refused = "{scene.refused}"\n', "")]
     for key, old, new in bad:
         expect(old in good, f"no {old} in the settings")

@@ -38,15 +38,23 @@ fn filter_of(alloc: Global, text: &str, key: &'static str) -> Result<Octets, Sto
     }
 }
 
+/// The filters of names whose last message the broker is to keep.
+fn kept_in(alloc: Global, table: &Table) -> Result<Vec<Octets>, Stop> {
+    let mut kept = Vec::new(alloc);
+    for item in list_at(table, "retain", "up.retain")? {
+        kept.push(filter_of(alloc, text_of(item, "up.retain")?, "up.retain")?)?;
+    }
+    Ok(kept)
+}
+
 /// Whether the broker is to keep the last message of a name.
-fn is_kept(alloc: Global, kept: &[Value], name: &TopicName) -> Result<bool, Stop> {
-    for item in kept {
-        let filter = filter_of(alloc, text_of(item, "up.retain")?, "up.retain")?;
+fn is_kept(kept: &[Octets], name: &TopicName) -> bool {
+    for filter in kept {
         if asks_for(filter.as_slice(), name.bytes()) {
-            return Ok(true);
+            return true;
         }
     }
-    Ok(false)
+    false
 }
 
 /// Whether a name is among those before it.
@@ -61,23 +69,23 @@ fn is_mapped(names: &[UpName], topic: &[u8]) -> bool {
 
 /// What an entry `[[up]]` says of all its names.
 #[derive(Drop)]
-struct Above<'a> {
+struct Above {
     prefix: Prefix,
     qos: Qos,
-    kept: &'a [Value],
+    kept: Vec<Octets>,
 }
 
 /// What an entry says of all its names.
-fn above_of<'a>(alloc: Global, table: &'a Table) -> Result<Above<'a>, Stop> {
+fn above_of(alloc: Global, table: &Table) -> Result<Above, Stop> {
     Ok(Above {
         prefix: prefix_at(alloc, table)?,
         qos: qos_at(table, "up.qos")?,
-        kept: list_at(table, "retain", "up.retain")?,
+        kept: kept_in(alloc, table)?,
     })
 }
 
 /// A name that goes up.
-fn up_of(alloc: Global, above: &Above<'_>, name: &TopicName) -> Result<UpName, Stop> {
+fn up_of(alloc: Global, above: &Above, name: &TopicName) -> Result<UpName, Stop> {
     let topic = above.prefix.topic_of(alloc, name)?;
     if !is_topic(topic.as_slice()) {
         return Err(Stop::Key("up.to"));
@@ -86,14 +94,14 @@ fn up_of(alloc: Global, above: &Above<'_>, name: &TopicName) -> Result<UpName, S
         topic,
         name: Octets::from_slice(alloc, name.bytes())?,
         qos: above.qos,
-        retain: is_kept(alloc, above.kept, name)?,
+        retain: is_kept(above.kept.as_slice(), name),
     })
 }
 
 /// Adds the name of a text, which is short, or longer. No two names have one topic at the broker.
 fn add_name(
     alloc: Global,
-    above: &Above<'_>,
+    above: &Above,
     short: bool,
     text: &str,
     key: &'static str,
@@ -118,7 +126,7 @@ fn add_name(
 fn add_names(
     alloc: Global,
     table: &Table,
-    above: &Above<'_>,
+    above: &Above,
     short: bool,
     names: &mut Vec<UpName>,
 ) -> Result<(), Stop> {
