@@ -10,9 +10,9 @@ ghost use Rattle.br_core.specs.Steps.{is_next};
 
 /// What was taken from one side is acknowledged there only after the other side has acknowledged
 /// it, or after the spool has it, or after a line of what no side will have is on the disk. What
-/// goes to the broker and into the spool is what came: its octets, under the topic of its name. What
-/// goes to the gateway as a command, or into a line, came from the broker. The spool need keep
-/// nothing that the broker has not. It holds of every list of events, whatever the sides send. The
+/// goes to the broker and into the spool is what came: its octets, under the topic of its name.
+/// What goes to the gateway as a command, or into a line, came from the broker. The spool forgets
+/// only what the broker has. It holds of every list of events, whatever the sides send. The
 /// function does nothing; its contract is the law.
 pub fn acknowledges_behind()
     ensures { (settings : Settings) (before : List Come) (event : Event) (moment : ℕ)

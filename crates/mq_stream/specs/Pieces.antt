@@ -25,8 +25,8 @@ pub record Says (first : ℕ) (body : List ℕ) (packet : Packet) : Type 0 where
   pub octet : octet_of (header_of packet) ≡ first
   pub whole : body_of packet ≡ body
 
--- The octets begin with this packet, of whose body what is held is there; so many octets more belong
--- to it, and the rest follows what is held.
+-- The octets begin with this packet, of whose body what is held is there; so many octets more
+-- belong to it, and the rest follows what is held.
 pub record IsPiece (octets : List ℕ) (packet : Packet) (over : ℕ) (rest : List ℕ) : Type 0 where
   pub first : ℕ
   pub said : ℕ

@@ -32,8 +32,8 @@ pub(crate) fn passed(over: u32, octets: &[u8]) -> (u32, &[u8])
     (0, &octets[over as usize..])
 }
 
-/// The packet in front of the octets; nothing where octets are wanting. A first octet that no packet
-/// begins with is a fault at once.
+/// The packet in front of the octets; nothing where octets are wanting. A first octet that no
+/// packet begins with is a fault at once.
 #[tactic(auto, using(crate::proofs::Whole::first_faulty, crate::proofs::Whole::length_faulty))]
 pub(crate) fn front(alloc: Global, octets: &[u8]) -> Result<Option<InFront<'_>>, PacketFault>
     ensures ok { IfOk result (λ found. MatchOption found (IsWanting octets.now)
