@@ -13,7 +13,7 @@ use Rattle.br_core.specs.declared.event.Event.TheVariants as events
 use Rattle.br_core.specs.declared.settings.Settings.{Settings}
 use Rattle.br_core.specs.declared.state.Bridge.{Bridge}
 use Rattle.br_core.specs.Begins.{begun}
-use Rattle.br_core.specs.Runs.{Come, after_from, done_from, firsts}
+use Rattle.br_core.specs.Runs.{Come, after_from, done_from}
 
 -- one lane with one name, commands below `c/`, a window of two
 abbrev hello : Packet

@@ -1,6 +1,6 @@
 //! What a bridge puts in front of a topic or takes away.
 
-ghost use Rattle.std.specs.Prelude.{◌≡◌, ◌≢◌, ◌<◌, ◌≤◌, ◌↔◌, ◌++◌, ℕ, List, [], length, MatchOption, IfOk, IfErr, IsErrOf, IsTrue, OnOk};
+ghost use Rattle.std.specs.Prelude.{◌≡◌, ◌≢◌, ◌<◌, ◌++◌, ℕ, List, MatchOption, IfOk, IfErr, OnOk};
 ghost use Rattle.br_map.specs.declared.prefix.TheConstants.{MAX_PREFIX};
 ghost use Rattle.br_map.specs.Mapping as spec;
 ghost use Rattle.br_map.specs.Mapping.{IsPrefix, broker_topic, hex};

@@ -1,6 +1,6 @@
 //! Whether a packet's parts have values that are allowed, and its body.
 
-ghost use Rattle.std.specs.Prelude.{◌≡◌, ◌≢◌, ◌<◌, ◌≤◌, ◌++◌, ◌↔◌, ◌⊎◌, OnOk, OnErr, Err, IsTrue, IfSome};
+ghost use Rattle.std.specs.Prelude.{◌≡◌, ◌≢◌, ◌<◌, ◌++◌, ◌↔◌, ◌⊎◌, OnOk, OnErr, Err, IsTrue, IfSome};
 ghost use Rattle.mq_packet.specs.declared.packet.TheConstants.{MAX_REMAINING};
 ghost use Rattle.mq_packet.specs.Bodies.{IsAnswer, IsDelivery, IsLogin, IsMessage, IsWill};
 ghost use Rattle.mq_packet.specs.Grammar.{size_of, spelling};

@@ -1,4 +1,4 @@
-use Rattle.std.proofs.Common.{◌≡◌, ◌∙◌, sym}
+use Rattle.std.proofs.Common.{◌∙◌, sym}
 use Rattle.br_core.proofs.Sending.{stops}
 use Rattle.br_core.proofs.sides.sends.Goals as goal
 
