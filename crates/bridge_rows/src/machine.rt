@@ -261,6 +261,16 @@ fn crowd(alloc: Global, stage: &mut Stage, count: u64) -> Result<(), Stop> {
     Ok(())
 }
 
+/// `named N`: the gateway registers the first name of lane 0 so often, as id 7.
+fn named(alloc: Global, stage: &mut Stage, count: u64) -> Result<(), Stop> {
+    for _ in 0..count {
+        let frame = frame_of(alloc, &["09", "0a", "0007", "000c", "742f30"])?;
+        let lane = 0;
+        drop(taken(alloc, stage, &Event::Field { lane, frame })?);
+    }
+    Ok(())
+}
+
 /// A reading that the spool has kept.
 fn found_event(alloc: Global, fields: &[&str]) -> Result<Event, Stop> {
     let number = number_of(fields)?;
@@ -441,6 +451,7 @@ pub(crate) fn play(
             return Ok(());
         }
         "crowd" => return crowd(alloc, stage, number_of(rest)?),
+        "named" => return named(alloc, stage, number_of(rest)?),
         _ => {}
     }
     let event = event_of(alloc, first, rest)?;

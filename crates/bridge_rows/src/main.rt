@@ -45,7 +45,7 @@
 //!   `ready LANES WINDOW [ROOM]`: one to which all have said yes; the id of each long name is 5.
 //! - `known`: it has subscribed to all filters in an earlier connection.
 //! - `crowd N`: the broker sends so many commands `c/ab` of quality of service 0; nothing is
-//!   printed.
+//!   printed. `named N`: the gateway registers `t/0` for lane 0 so often; nothing is printed.
 //! - `second N`: the second from now on.
 //! - `field LANE OCTETS ..`, `commands OCTETS ..`, `broker OCTETS ..`: a frame or a packet comes.
 //! - `resumed N`, `found N`, `stored N`, `store-failed`: what the spool says; a reading that it has
