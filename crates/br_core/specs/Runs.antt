@@ -213,7 +213,7 @@ pub record LineKept (settings : Settings) (run : List Come) (id : ℕ) : Type 0 
   pub doing : (after settings earlier).down.doing ≡ doings.Refusing line
   pub first : IsFirst (CameDown settings earlier) id (after settings earlier).down.queue
 
--- the filter of a publication, if there is one, does not hand on what the broker had kept
+-- there is a filter for a publication, and it does not hand on what the broker had kept
 abbrev pub LeavesKept : Option DownFilter → Type 0
 LeavesKept None = ⊥
 LeavesKept (Some entry) = entry.retained ≡ false
