@@ -2,6 +2,7 @@ pub mod Occurring
 pub mod Keeping
 pub mod Calling
 pub mod Between
+pub mod Refused
 pub mod Proper
 pub mod Roomy
 pub mod Taken

@@ -14,7 +14,7 @@ use Rattle.gw_answer.specs.declared.out.Out.{Out}
 use Rattle.gw_answer.specs.declared.refusal.Refusal.{Refusal}
 use Rattle.gw_answer.specs.declared.step.Step.{Step}
 use Rattle.gw_answer.specs.declared.step.Step.TheVariants as steps
-use Rattle.gw_event.specs.Drives.{has_more}
+use Rattle.gw_event.specs.Drives.{more_records}
 use Rattle.gw_event.specs.Gateways.{Gateway, with_refused}
 use Rattle.gw_event.specs.Event.{Event, IsPlan}
 use Rattle.gw_node.specs.Failures.{failed}
@@ -31,14 +31,14 @@ pub record IsSynced (slots : Slots) : Type 0 where
   pub second : slots.second.unsynced ≡ []
 
 -- As long as the gateway goes on, all of its disk is synced, and nothing was refused. Every crash
--- leaves a journal that stands for the set. If it has one record more than are synced, it stands
--- for the set with the whole of what was refused. No opening of it begins a new journal.
+-- leaves a journal that stands for the set; with more records than are synced, for the set with so
+-- many first ones of what was refused. No opening of it begins a new journal.
 pub record Lasts (gateway : Gateway) : Type 0 where
   pub synced : gateway.drive.halted ≡ false → IsSynced gateway.drive.slots
   pub none : gateway.drive.halted ≡ false → gateway.refused ≡ []
   pub images : EachCrash (λ i. StandsFor gateway.config.gateway
-      (with_refused (has_more gateway.config.gateway gateway.drive i) gateway.taken gateway.refused)
-      [] i) gateway.drive.slots
+      (with_refused (more_records gateway.config.gateway gateway.drive i) gateway.taken
+      gateway.refused) [] i) gateway.drive.slots
   pub begun : EachCrash (λ i. is_fresh i ≡ false) gateway.drive.slots
 
 -- ---- a node

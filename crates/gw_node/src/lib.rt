@@ -16,7 +16,8 @@
 //! - `excuse`: what a client is told where its frame came to nothing for want of a disk.
 //! - `retained`: what it retains of topics.
 //! - `tidy`: whether each address and each timer is of a client that the gateway owns.
-//! - `laws`: what an opening finds that goes on with what was taken (`opening_laws`).
+//! - `laws`: what an opening finds that goes on with what was taken (`opening_laws`), and what is
+//!   said of one delta that was refused (`single_refusal`).
 //!
 //! A call as a value (`Step`), and what is answered (`Out`, `NodeFault`), are in the crate
 //! `gw_answer`.
@@ -44,6 +45,6 @@ mod retained;
 mod tidy;
 
 pub use gw_answer::{Answer, NodeFault, Out, Step, same_answer, same_step};
-pub use laws::opening_laws;
+pub use laws::{opening_laws, single_refusal};
 pub use node::Node;
 pub use rep_same::same_deltas;

@@ -111,7 +111,7 @@ impl<R: Replica, D: Disk + Drop> Node<R, D> {
         ensures fits { D.honest → OnOk result
             (FitInTurn [] (records config.gateway (image (D.slots disk)))) }
         // beside whatever set it had taken before it stopped.
-        ensures restarts { D.honest → IfOk result (λ node. (S refused : List Op)
+        ensures restarts { D.honest → IfOk result (λ node. (S : List Op) (refused : List (List Op))
             → StandsFor config.gateway S refused (image (D.slots disk)) →
             HasTaken (S ++ all_of (records config.gateway (image (D.slots disk)))) []
             (state_of R.kept node)) }

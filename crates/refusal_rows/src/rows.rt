@@ -6,7 +6,7 @@ use crate::deltas::{Clients, Deltas};
 use crate::digests::Digests;
 use crate::frames::Frames;
 use crate::gateways::{Gateways, Openings};
-use crate::journals::{Disks, Journals};
+use crate::journals::{Batches, Disks, Journals};
 use crate::links::Links;
 use crate::locals::Locals;
 use crate::replicas::Replicas;
@@ -49,17 +49,22 @@ pub(crate) const ROWS: &str = "
     rep_plain::clients
     rep_plain::held
     rep_plain::retained_matching
+    rep_plain::aside
+    rep_plain::save
     rep_state::empty
     rep_state::prepare
     rep_state::clients
     rep_state::held
     rep_state::retained_matching
+    rep_state::aside
+    rep_state::save
     rep_digest::digest_of
     rep_digest::Digest::encode
     rep_digest::Digest::decode
     rep_answer::answer
     sn_local::Config::copy
     sn_local::Dialogs::prepare
+    sn_local::Dialogs::copied
     sn_flow::connect
     sn_flow::disconnect
     sn_flow::will_topic
@@ -79,6 +84,8 @@ pub(crate) const ROWS: &str = "
     sn_tick::tick
     jr_journal::Journal::open
     jr_journal::Journal::append
+    jr_journal::Records::push
+    jr_journal::Journal::append_all
     jr_journal::Journal::compact
     jr_journal::Journal::reopen
     gw_node::Node::open
@@ -123,7 +130,10 @@ pub(crate) const NO_GROWTH: &str = "
     sn_topic::Predefined::new
     rep_op::ClientId::copy
     rep_plain::empty
+    rep_plain::aside
     rep_state::empty
+    rep_state::aside
+    jr_journal::Journal::append_all
 ";
 
 /// Plays a row.
@@ -176,6 +186,7 @@ fn play_format(said: &mut Said, home: &str, call: &str) {
 fn play_part(said: &mut Said, home: &str, call: &str) {
     match home {
         "jr_journal" if is_word(call, "Journal::open") => play::<Disks>(said, call),
+        "jr_journal" if is_word(call, "Records::push") => play::<Batches>(said, call),
         "jr_journal" => play::<Journals>(said, call),
         "gw_net" => play::<Links>(said, call),
         "gw_page" | "gw_tally" => play::<Reports>(said, call),

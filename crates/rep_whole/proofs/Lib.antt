@@ -1,3 +1,4 @@
 pub mod Refusing
 pub mod Held
 pub mod Telling
+pub mod Topical

@@ -6,12 +6,14 @@
 //!
 //! - `whole`: the replica and what is staged of it (`Whole`, `WholeStaged`).
 //! - `holding`: what must be kept of both.
+//! - `asides`: what lies aside of the topics, while several deltas wait for one write.
 //!
 //! That each reader of a set reads one of the two is proved in `rep_model` (`proofs/Beside`). Here
 //! `proofs/` has what follows for refusals (`Refusing`), for what must be kept (`Held`) and for
 //! what is answered (`Telling`).
 #![tactic(auto)]
 
+mod asides;
 mod holding;
 mod whole;
 
