@@ -126,6 +126,7 @@ pub(crate) fn writes(page: &mut Page, store: &mut Store, words: &mut Words<'_>, 
     let gateway = words.octet();
     let records = records_of(page, base);
     tried(page, store, words, gateway, &Trial::Write(&records));
+    drop(records);
 }
 
 /// `compactions GATEWAY COUNT`: the same of compactions to the operations.
@@ -196,12 +197,9 @@ fn append_on(said: &mut Page, disk: MemoryDisk, gateway: u8, delta: &Delta) {
 
 /// One such write of several records.
 fn write_on(said: &mut Page, disk: MemoryDisk, gateway: u8, records: &Records) {
-    match calls::open(said.alloc, disk, gateway) {
-        Ok((mut journal, _deltas)) => {
-            let outcome = calls::append_all(&mut journal, records);
-            behind_crash(said, journal.into_disk(), gateway, outcome);
-        }
-        Err((disk, fault)) => print_refusal(said, fault, disk.starved()),
+    if let Some((mut journal, _count)) = opened(said, disk, gateway) {
+        let outcome = calls::append_all(&mut journal, records);
+        behind_crash(said, journal.into_disk(), gateway, outcome);
     }
 }
 

@@ -2,8 +2,7 @@
 //! is what `take_both` needs.
 
 use crate::made_up::{delta, next};
-use crate::pairs::{Pair, is_short};
-use crate::stop::Stop;
+use crate::pairs::{Pair, keep_fault};
 use crate::words::Words;
 use rep_model::{Replica, TakeFault};
 use rep_ops::Delta;
@@ -24,11 +23,24 @@ pub(crate) fn there_and_back(
     let first = next(number);
     let second = next(first);
     if let Some(one) = delta(words, first, size) {
-        if let Some(two) = delta(words, second, size) {
-            go_back(words, pair, &one, &two, is_plain);
-        }
+        back_over(words, pair, one, delta(words, second, size), is_plain);
     }
     second
+}
+
+/// One of the two takes a delta, and another one if that is there, and goes back.
+fn back_over(
+    words: &mut Words<'_>,
+    pair: &mut Pair,
+    one: Delta,
+    other: Option<Delta>,
+    is_plain: bool,
+) {
+    if let Some(two) = other {
+        go_back(words, pair, &one, &two, is_plain);
+        drop(two);
+    }
+    drop(one);
 }
 
 /// One of the two takes two deltas, as far as it can, and goes back.
@@ -38,9 +50,8 @@ fn go_back(words: &mut Words<'_>, pair: &mut Pair, one: &Delta, two: &Delta, is_
     } else {
         take_both(words.alloc, &mut pair.folded, one, two)
     };
-    if is_short(&gone) {
-        words.fail(Stop::Memory);
-    }
+    keep_fault(words, &gone);
+    drop(gone);
 }
 
 /// A replica takes two deltas, as far as it can, and goes back to what it kept before.

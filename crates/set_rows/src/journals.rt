@@ -241,6 +241,7 @@ fn append_all_to(page: &mut Page, journal: &mut Journal<MemoryDisk>, base: &[Del
         Ok(()) => page.line("appended"),
         Err(fault) => refused(page, fault, journal.starved()),
     }
+    drop(records);
 }
 
 /// `compact`: the operations, each a record, take the place of all records.

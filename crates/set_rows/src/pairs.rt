@@ -121,7 +121,7 @@ fn take(words: &mut Words<'_>, pair: &mut Pair, delta: &Delta) -> bool {
 }
 
 /// Keeps the fault, if memory ran out before a replica could say whether it can take a delta.
-fn keep_fault(words: &mut Words<'_>, taken: &Result<(), TakeFault>) {
+pub(crate) fn keep_fault(words: &mut Words<'_>, taken: &Result<(), TakeFault>) {
     if matches!(taken, Err(TakeFault::Memory)) {
         words.fail(Stop::Memory);
     }
