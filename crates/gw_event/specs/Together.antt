@@ -103,12 +103,18 @@ pub record StopShort (old : Gateway) (calls : List Step) (answers : List (Result
   pub led : InTurn old calm said mid made
   pub torn : AreTorn mid call answer behind new
 
--- what several calls with one write may do: each is the event that it is by itself; or the write
--- failed
+-- an answer that the disk failed is the last: no call goes on behind it
+abbrev pub FailsLast : List (Result Out Refusal) → Type 0
+FailsLast [] = Unit {0}
+FailsLast (Err (refusals.Disk excuse) ∷ answers) = answers ≡ []
+FailsLast (answer ∷ answers) = FailsLast answers
+
+-- What several calls with one write may do: each is the event that it is by itself, and none goes
+-- on behind a failure; or the write failed.
 abbrev pub Together : Gateway → List Step → List (Result Out Refusal) → Gateway → List (List Op)
     → Type 0
 Together old calls answers new made =
-    InTurn old calls answers new made ⊎ StopShort old calls answers new made
+    (InTurn old calls answers new made × FailsLast answers) ⊎ StopShort old calls answers new made
 
 -- both have the same settings, the same set and the same local state
 pub record AreAlike (one other : Gateway) : Type 0 where

@@ -3,6 +3,7 @@
 ghost use Rattle.std.specs.Prelude.{◌≡◌, ◌↔◌, true, List, [], ◌∷◌, ◌++◌, Result};
 ghost use Rattle.std.specs.List.{AllByRecursion};
 ghost use Rattle.rep_op.specs.declared.op.Op.{Op};
+ghost use Rattle.rep_ops.specs.Splitting.{all_of};
 ghost use Rattle.jr_disk.specs.declared.disk.Plan.{Plan};
 ghost use Rattle.gw_answer.specs.declared.out.Out.{Out};
 ghost use Rattle.gw_answer.specs.declared.refusal.Refusal.{Refusal};
@@ -10,7 +11,7 @@ ghost use Rattle.gw_answer.specs.declared.step.Step.{Step};
 ghost use Rattle.gw_event.specs.Drives.{Drive, torn, torn_all};
 ghost use Rattle.gw_event.specs.Gateways.{Gateway};
 ghost use Rattle.gw_event.specs.Event.{Event};
-ghost use Rattle.gw_event.specs.Together.{InTurn, CanWrite, halted_all, Together, AreAlike};
+ghost use Rattle.gw_event.specs.Together.{InTurn, CanWrite, put_by_all, halted_all, AreTorn, Together, AreAlike};
 
 /// Calls of which what they make and take goes out in one write. One of them is one event, and such
 /// calls behind others are all of them. A halted gateway answers each so. Where the write failed,
@@ -31,4 +32,21 @@ pub fn calls_together()
         → (alone : Gateway) × InTurn old calls answers alone made × AreAlike alone new }
     ensures torn { (plan : Plan) (delta : List Op) (drive : Drive)
         → torn_all plan (delta ∷ []) drive ≡ torn plan delta drive }
+{}
+
+/// What calls with one write put into the journal. One such call is the event that it is by itself,
+/// also if its write failed. Calls one after the other add to the set what they put there. If their
+/// write failed, what was refused is what they would have added. The function does nothing; its
+/// contract is the law.
+pub fn written_together()
+    ensures single { (old new : Gateway) (call : Step) (answer : Result Out Refusal)
+        (made : List (List Op)) → (Together old (call ∷ []) (answer ∷ []) new made
+        ↔ Event old call answer new made) }
+    ensures adds { (old new : Gateway) (calls : List Step) (answers : List (Result Out Refusal))
+        (made : List (List Op)) → AllByRecursion CanWrite calls
+        → InTurn old calls answers new made
+        → new.taken ≡ old.taken ++ all_of (put_by_all calls answers) }
+    ensures refused { (old new : Gateway) (call : Step) (answer : Result Out Refusal)
+        (behind : List Step) (failure : AreTorn old call answer behind new)
+        → failure.there.taken ≡ old.taken ++ all_of new.refused }
 {}

@@ -19,9 +19,10 @@
 //! - `Event`: what each call may do, and answer.
 //! - `Together`: what several calls may do of which all goes out in one write.
 //!
-//! `laws` says how several calls follow from one (`calls_together`).
+//! `laws` says how several calls follow from one (`calls_together`), and what they write
+//! (`written_together`).
 #![tactic(auto)]
 
 mod laws;
 
-pub use laws::calls_together;
+pub use laws::{calls_together, written_together};
