@@ -23,7 +23,7 @@ impl Made for Locals {
     fn make(said: &mut Said, call: &str, _is_second: bool) -> Option<Locals> {
         let config = config(said)?;
         let mut dialogs = Dialogs::empty(said.alloc);
-        if call == "Dialogs::copied" {
+        if is_word(call, "Dialogs::copied") {
             let changes = changes(said);
             let is_short = change(&mut dialogs, changes).is_err();
             said.stop_if_short(is_short);
