@@ -14,10 +14,10 @@ ghost use Rattle.gw_event.specs.Event.{Event};
 ghost use Rattle.gw_event.specs.Together.{InTurn, CanWrite, put_by_all, halted_all, AreTorn, Together, AreAlike};
 
 /// Calls of which what they make and take goes out in one write. One of them is one event, and such
-/// calls behind others are all of them. A halted gateway answers each so. Where the write failed,
-/// the answers are still those of the calls one by one; they lead to a gateway that differs in
-/// nothing but its disk and what was refused. And a disk that fails as one delta is written is as
-/// before.
+/// calls behind others are all of them. A halted gateway answers each so. If the write failed, the
+/// answers are still those of the calls one by one; they lead to a gateway that differs in nothing
+/// but its disk and what was refused. A disk that fails as one delta is written is the same, if
+/// that is one of several or alone.
 pub fn calls_together()
     ensures one { (old new : Gateway) (call : Step) (answer : Result Out Refusal)
         (made : List (List Op)) → (InTurn old (call ∷ []) (answer ∷ []) new made

@@ -48,7 +48,7 @@ impl Records {
         }
     }
 
-    /// Puts the record of a delta behind them. Where memory runs out they are as before.
+    /// Puts the record of a delta behind them. If memory runs out, they are as before.
     pub fn push(&mut self, alloc: Global, delta: &Delta) -> Result<(), NoMemory>
         ensures ok { OnOk result (self.new ≡ self.old ++ delta.now ∷ []) }
         ensures err { OnErr result (self.new ≡ self.old) }

@@ -77,8 +77,8 @@ pub trait Replica: Drop {
         ensures back { IfOk result (λ made. back self.now made ≡ kept self.now) }
         ensures err { IfErr result (λ fault. fault ≡ Memory) };
 
-    /// Puts aside what the staged delta replaces, unless it lies there already. Where memory runs
-    /// out, some of it may lie there.
+    /// Puts aside what the staged delta replaces, unless it lies there already. If memory runs out,
+    /// some of it may lie there.
     fn save(
         &self,
         alloc: Global,

@@ -81,8 +81,8 @@ pub trait ClientSet: Drop {
         ensures clients { IfOk result (λ made. AreOfClients (kept made)) }
         ensures err { IfErr result (λ fault. fault ≡ Memory) };
 
-    /// Puts aside what the staged operations replace, unless it lies there already. Where memory
-    /// runs out, some of it may lie there.
+    /// Puts aside what the staged operations replace, unless it lies there already. If memory runs
+    /// out, some of it may lie there.
     fn save(
         &self,
         alloc: Global,
