@@ -17,7 +17,7 @@ AGAIN = 0.5  # seconds after which a client repeats what was not answered
 FOREVER = 65535  # the longest duration of a sleep, in seconds
 RETAIN = 0x10  # the flag of a PUBLISH that is retained, or that hands over what is
 # What is told where a journal is begun, on a line of its own.
-BEGUN = re.compile(r"^(.*)\.0, \1\.1: no journal is there, one is begun\n", re.M)
+BEGUN = re.compile(r"^(?:<3>)?(.*)\.0, \1\.1: no journal is there, one is begun\n", re.M)
 
 
 class Failed(Exception):

@@ -6,6 +6,7 @@ ghost use Rattle.gw_link.specs.Adding.{Adds, is_of_link};
 ghost use Rattle.gw_link.specs.inner.Calling as spec;
 
 use crate::calling::{End, call, drop_refusal};
+use crate::counts::{count_answer, is_delta, note_read};
 use crate::link::{Heard, Link};
 use crate::outgoing::is_nothing;
 use crate::relay::{Relay, weight, weight_of_digest};
@@ -47,7 +48,7 @@ pub(crate) fn listen<S: Read + Drop>(
     match link.stream.read(piece) {
         Ok(0) => Err(End::Lost),
         Ok(size) => {
-            link.heard = Some(second);
+            note_read(link, size, second);
             take_in(alloc, link, &piece[..size])
         }
         Err(error) if is_nothing(&error) => wait_on(link, second),
@@ -273,7 +274,7 @@ fn hear<T: Wait, R: Replica, D: Disk + Drop, S: Drop>(
     (pass, heard)
 }
 
-/// Works on a message. A delta that brings what is new here is handed on.
+/// Works on a message, unless the link is lost by it.
 fn work_on<T: Wait, R: Replica, D: Disk + Drop, S: Drop>(
     rt: &T,
     alloc: Global,
@@ -287,20 +288,39 @@ fn work_on<T: Wait, R: Replica, D: Disk + Drop, S: Drop>(
     requires { is_of_link (arc_value step) ≡ true }
     ensures { Adds is_of_link pass result.0 }
 {
-    let news = match news_of(rt, link, &step, relay) {
-        Ok(news) => news,
+    match news_of(rt, link, &step, relay) {
+        Ok(news) => ask(rt, alloc, shift, pass, link, step, news, stage, relay),
         Err(end) => {
             drop(step);
-            return (pass, Err(end));
+            (pass, Err(end))
         }
-    };
+    }
+}
+
+/// Asks the gateway what a message asks for. A delta that brings what is new here is handed on.
+fn ask<T: Wait, R: Replica, D: Disk + Drop, S: Drop>(
+    rt: &T,
+    alloc: Global,
+    shift: &Shift<R, D>,
+    pass: Pass,
+    link: &mut Link<S>,
+    step: Arc<Step>,
+    news: Option<Arc<Step>>,
+    stage: &Stage,
+    relay: &Relay,
+) -> (Pass, Result<(), End>)
+    requires { is_of_link (arc_value step) ≡ true }
+    ensures { Adds is_of_link pass result.0 }
+{
     stage.keep(rt, octets_of(&step));
+    let is_taken = is_delta(&step);
     let (pass, answered) = call(rt, alloc, shift, pass, step, stage);
-    let heard = follow_answer(rt, alloc, link, stage, relay, news, answered);
+    let heard = follow_answer(rt, alloc, link, stage, relay, news, is_taken, answered);
     (pass, heard)
 }
 
-/// What follows on the gateway's answer: a refusal that an operator should hear of is noted.
+/// What follows on the gateway's answer, which is counted: a refusal that an operator should hear
+/// of is noted.
 fn follow_answer<T: Wait, S: Drop>(
     rt: &T,
     alloc: Global,
@@ -308,8 +328,10 @@ fn follow_answer<T: Wait, S: Drop>(
     stage: &Stage,
     relay: &Relay,
     news: Option<Arc<Step>>,
+    is_taken: bool,
     answered: Result<Answer, End>,
 ) -> Result<(), End> {
+    count_answer(&mut link.counts, is_taken, &answered);
     match answered {
         Err(end) => {
             drop(news);

@@ -13,6 +13,7 @@
 //! - `link`: a link that is open (`Link`, `Origin`).
 //! - `saying`: what is said over a link.
 //! - `relay`: what all links share: what is handed on, and who is linked (`Relay`).
+//! - `counts`: what is counted of a link (`LinkNumbers`).
 //! - `trouble`: what an operator should hear of (`Trouble`, `Report`).
 //! - `outgoing`: how that goes out, while what comes is read.
 //! - `hearing`: what has come over it.
@@ -24,6 +25,7 @@
 #![tactic(auto)]
 
 mod calling;
+mod counts;
 mod hearing;
 mod link;
 mod outgoing;
@@ -34,6 +36,7 @@ mod talking;
 mod trouble;
 
 pub use calling::{End, call, dropped, is_halted};
+pub use counts::{LinkCounts, LinkNumbers};
 pub use link::{Link, Origin};
 pub use relay::Relay;
 pub use stage::{Phase, Stage};

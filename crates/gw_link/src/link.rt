@@ -4,6 +4,7 @@ ghost use Rattle.std.specs.Prelude.{◌≡◌, true};
 ghost use Rattle.std.specs.Arc.{arc_value};
 ghost use Rattle.gw_link.specs.Adding.{is_of_link};
 
+use crate::counts::{LinkCounts, no_counts};
 use gw_net::LinkIn;
 use gw_shift::gw_node::Step;
 use std::alloc::Global;
@@ -78,6 +79,8 @@ pub struct Link<S: Drop> {
     pub(crate) greeted: bool,
     /// The number of a call of the shift: the delta of each call up to it was told.
     pub told: u64,
+    /// What was counted since the link was made.
+    pub(crate) counts: LinkCounts,
 }
 
 impl<S: Drop> Link<S> {
@@ -86,6 +89,7 @@ impl<S: Drop> Link<S> {
         Link {
             stream,
             origin,
+            counts: no_counts(),
             incoming: LinkIn::new(),
             waiting: VecDeque::new(alloc),
             asked: None,
@@ -109,14 +113,6 @@ impl<S: Drop> Link<S> {
             mute: false,
             greeted: false,
             told: 0,
-        }
-    }
-
-    /// Whether the other end made the connection.
-    pub(crate) fn is_accepted(&self) -> bool {
-        match self.origin {
-            Origin::Accepted => true,
-            Origin::Dialled(_) => false,
         }
     }
 

@@ -4,6 +4,7 @@
 ghost use Rattle.gw_net.specs.Messages.{IsNumbered};
 
 use crate::calling::End;
+use crate::counts::add;
 use crate::link::Link;
 use crate::stage::Phase;
 use gw_net::{LinkMessage, link_out};
@@ -153,6 +154,7 @@ fn write_once<S: Write>(stream: &mut S, octets: &[u8], written: usize) -> Outcom
 
 /// So many octets more of the first message went out. Behind the last one it is done with.
 fn go_on<S: Drop>(link: &mut Link<S>, size: usize) {
+    add(&mut link.counts.sent, size);
     let written = link.written.saturating_add(size);
     match link.outgoing.front() {
         Some(first) if written < first.len() => link.written = written,

@@ -1,9 +1,11 @@
 //! What all links of a gateway share: what is handed on from one to the others, and who is linked.
 
-ghost use Rattle.std.specs.Prelude.{◌≡◌};
+ghost use Rattle.std.specs.Prelude.{◌≡◌, ◌≤◌, IfOk, length};
 ghost use Rattle.gw_link.specs.inner.Weights as spec;
 
 use crate::calling::End;
+use crate::counts::{LinkCounts, LinkNumbers};
+use crate::link::Origin;
 use crate::trouble::{Report, Tally, Trouble, count_one, report_of};
 use gw_relay::{
     Name, brings_news, brings_unnoted, is_lost, may_answer, may_link, name_of, replaces,
@@ -34,6 +36,8 @@ struct Place {
     other: u8,
     /// The other end made the connection.
     is_accepted: bool,
+    /// What whoever watches is shown of the link.
+    numbers: LinkNumbers,
     /// A later connection said the same number.
     is_over: bool,
     /// The other end has asked for what it lacks.
@@ -139,7 +143,8 @@ impl Relay {
     /// An older link that was accepted, and whose other end said the same, is over: who dials again
     /// has lost it. That an operator should hear of, as two gateways may have that number. Nothing
     /// where memory ran out.
-    pub(crate) fn join<T: Wait>(&self, rt: &T, other: u8, is_accepted: bool) -> Option<u64> {
+    pub(crate) fn join<T: Wait>(&self, rt: &T, other: u8, origin: Origin) -> Option<u64> {
+        let is_accepted = origin == Origin::Accepted;
         let mut board = self.board.lock(rt);
         let id = board.ids;
         let at = board.first.saturating_add(board.handed.len() as u64);
@@ -159,6 +164,7 @@ impl Relay {
             id,
             other,
             is_accepted,
+            numbers: LinkNumbers::new(id, origin, other),
             is_over: false,
             has_asked: false,
             at,
@@ -180,6 +186,31 @@ impl Relay {
         board.places.retain(|place| place.id != id);
         board.changes = board.changes.saturating_add(1);
         forget_told(&mut board);
+    }
+
+    /// So much was counted of the link of this place, over which octets last came in this second.
+    pub(crate) fn note_counts<T: Wait>(&self, rt: &T, id: u64, heard: u64, counts: LinkCounts) {
+        let mut board = self.board.lock(rt);
+        for place in board.places.as_mut_slice() {
+            if place.id == id {
+                place.numbers.heard = heard;
+                place.numbers.counts = counts;
+            }
+        }
+    }
+
+    /// The links whose other ends have said their numbers, in numbers: the first of them in the
+    /// order in which they did, at most so many.
+    pub fn links<T: Wait>(
+        &self,
+        rt: &T,
+        alloc: Global,
+        most: usize,
+    ) -> Result<Vec<LinkNumbers>, NoMemory>
+        ensures { IfOk result (λ all. length all.items ≤ most) }
+    {
+        let board = self.board.lock(rt);
+        numbers_of(alloc, board.places.as_slice(), most)
     }
 
     /// How often a link came or went; nothing where the link of this place is over.
@@ -368,6 +399,25 @@ impl Relay {
         board.answers.retain(|answer| answer.number != number);
         let _ = board.answers.push(Answered { number, second });
     }
+}
+
+/// The links at these places in numbers, at most so many.
+fn numbers_of(alloc: Global, places: &[Place], most: usize) -> Result<Vec<LinkNumbers>, NoMemory>
+    ensures { IfOk result (λ all. length all.items ≤ most) }
+{
+    let mut all = Vec::new(alloc);
+    let mut room = most;
+    let mut left = places;
+    'places: while let Some((place, rest)) = left.split_first() {
+        if room == 0 {
+            return Ok(all);
+        }
+        all.reserve(1)?;
+        all.push_reserved(place.numbers);
+        room -= 1;
+        left = rest;
+    }
+    Ok(all)
 }
 
 /// Whether a delta has what this gateway must have made itself, and has lost. Before its digest was

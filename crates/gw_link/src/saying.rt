@@ -4,6 +4,7 @@ ghost use Rattle.std.specs.Prelude.{◌≡◌, IfOk};
 ghost use Rattle.gw_link.specs.Adding.{Adds, is_of_link};
 
 use crate::calling::{End, call, drop_refusal};
+use crate::counts::add;
 use crate::hearing::second_of;
 use crate::link::Link;
 use crate::outgoing::{is_behind, say, say_spelled, spelled};
@@ -85,6 +86,7 @@ pub(crate) fn say_answer<S: Drop>(
     }
     link.answering = pieces;
     link.behind = 0;
+    add(&mut link.counts.told, pieces);
     Ok(())
 }
 
@@ -260,7 +262,7 @@ fn take_place<T: Wait, S: Drop>(
     if let Some(place) = link.place {
         return Ok(place);
     }
-    match relay.join(rt, other, link.is_accepted()) {
+    match relay.join(rt, other, link.origin) {
         None => Err(End::Memory),
         Some(place) => {
             link.place = Some(place);
@@ -418,10 +420,16 @@ fn tell_some<T: Wait, S: Drop>(
             return Err(End::Lost);
         }
         relay.note_made(rt, alloc, number, &delta);
-        say(alloc, link, LinkMessage::Delta(delta))?;
+        say_delta(alloc, link, delta)?;
         link.told = number;
     }
     Ok(())
+}
+
+/// Says a delta, and counts it.
+fn say_delta<S: Drop>(alloc: Global, link: &mut Link<S>, delta: Delta) -> Result<(), End> {
+    add(&mut link.counts.told, 1);
+    say(alloc, link, LinkMessage::Delta(delta))
 }
 
 /// Hands on what other gateways told and what was new here, where it goes on to the other end.
@@ -454,7 +462,7 @@ fn hand<S: Drop>(alloc: Global, link: &mut Link<S>, step: &Step) -> Result<(), E
         return Err(End::Lost);
     }
     match step {
-        Step::Take { delta } => say(alloc, link, LinkMessage::Delta(delta.copied(alloc)?)),
+        Step::Take { delta } => say_delta(alloc, link, delta.copied(alloc)?),
         _ => Ok(()),
     }
 }

@@ -3,6 +3,7 @@
 ghost use Rattle.gw_link.specs.Adding.{Adds, is_of_link};
 
 use crate::calling::End;
+use crate::counts::counts_of;
 use crate::hearing::{answer, hear_all, listen, second_of};
 use crate::link::Link;
 use crate::outgoing::pump;
@@ -109,6 +110,13 @@ fn hear_in_turn<T: Wait + Clock, R: Replica, D: Disk + Drop, S: Drop>(
     answer(rt, alloc, shift, pass, link, stage, relay)
 }
 
+/// Lets whoever watches the gateway see what was counted of a link.
+fn show<T: Wait, S: Drop>(rt: &T, link: &Link<S>, relay: &Relay) {
+    if let Some(place) = link.place {
+        relay.note_counts(rt, place, link.heard.unwrap_or(0), counts_of(link));
+    }
+}
+
 /// Tells what is new, where that is due, and lets go out what the stream takes. A stream that took
 /// nothing lately is not waited for at the shift's end.
 fn tell<T: Wait, R: Replica, D: Disk + Drop, S: Write + Drop>(
@@ -121,6 +129,7 @@ fn tell<T: Wait, R: Replica, D: Disk + Drop, S: Write + Drop>(
     phase: Phase,
     relay: &Relay,
 ) -> Result<(), End> {
+    show(rt, link, relay);
     if link.mute {
         return Ok(());
     }

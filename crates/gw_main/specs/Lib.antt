@@ -3,6 +3,7 @@ pub mod Addresses
 pub mod Keys
 pub mod Patterns
 pub mod Newcomers
+pub mod Levels
 pub mod Reading
 pub mod Beginning
 pub mod Tending

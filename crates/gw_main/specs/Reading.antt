@@ -14,6 +14,7 @@ use Rattle.gw_main.specs.declared.options.Settings.{Settings}
 use Rattle.gw_main.specs.Addresses.{address_of}
 use Rattle.gw_main.specs.Keys.{name_of}
 use Rattle.gw_main.specs.Patterns.{is_pattern}
+use Rattle.gw_main.specs.Levels.{level_of}
 
 -- ---- values
 
@@ -77,6 +78,20 @@ pattern_from text = if is_pattern text then Some text else None
 abbrev pub pattern_item : Data → Option (List ℕ)
 pattern_item found = option_and_then pattern_from (as_str found)
 
+-- what is found, if anything is, as it is read
+abbrev pub optional : {A : Type 0} → (Data → Option A) → Option Data → Option (Option A)
+optional read None = Some None
+optional read (Some found) = option_map (λ value. Some value) (read found)
+
+-- an item that is the word of a level, as its number
+abbrev pub level_item : Data → Option ℕ
+level_item found = option_and_then level_of (as_str found)
+
+-- the number of the level that is found; 0 if nothing is found
+abbrev pub level_in : Option Data → Option ℕ
+level_in None = Some 0
+level_in (Some found) = level_item found
+
 -- entries none of whose ids is reserved or occurs twice
 abbrev pub table_from : Entries → Option Entries
 table_from entries = if is_table entries then Some entries else None
@@ -139,6 +154,14 @@ clients_in members = list_in pattern_item (at keys.Clients members)
 abbrev pub newcomers_in : Members → Option ℕ
 newcomers_in members = number_in 0 65535 (Some 0) (at keys.Newcomers members)
 
+-- the address at which the gateway shows itself, if it is said
+abbrev pub status_in : Members → Option (Option Addr)
+status_in members = optional address_item (at keys.Status members)
+
+-- the greatest number of a level whose events are written; 0, for none, if it is not said
+abbrev pub log_in : Members → Option ℕ
+log_in members = level_in (at keys.Log members)
+
 -- ---- the whole
 
 -- the settings hold what the document says of each key, or the key's default
@@ -156,6 +179,8 @@ pub record Says (members : Members) (settings : Settings) : Type 0 where
   pub numbers : numbers_in members ≡ Some settings.numbers.items
   pub clients : clients_in members ≡ Some settings.clients.items
   pub newcomers : newcomers_in members ≡ Some settings.newcomers
+  pub status : status_in members ≡ Some settings.status
+  pub log : log_in members ≡ Some settings.log
 
 -- the key, if nothing was read, else what is found after it
 abbrev pub or_else : {A : Type 0} → Option A → Key → Option Key → Option Key
@@ -178,7 +203,9 @@ first_bad members =
     (or_else (predefined_in members) keys.Predefined
     (or_else (numbers_in members) keys.Numbers
     (or_else (clients_in members) keys.Clients
-    (or_else (newcomers_in members) keys.Newcomers None))))))))))))
+    (or_else (newcomers_in members) keys.Newcomers
+    (or_else (status_in members) keys.Status
+    (or_else (log_in members) keys.Log None))))))))))))))
 
 -- the text is a document that says these settings
 abbrev pub IsRead : List ℕ → Settings → Type 0

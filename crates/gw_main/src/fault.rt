@@ -42,6 +42,11 @@ pub enum Key {
     /// How many client ids that are new come in within a minute: 1 to 65,535; 0, or else, for any
     /// number.
     Newcomers,
+    /// The address at which the gateway shows itself, or else none.
+    Status,
+    /// Down to which level events are written: `err`, `warning`, `info` or `debug`, or else none
+    /// are.
+    Log,
 }
 
 impl Key {
@@ -63,6 +68,8 @@ impl Key {
             Key::Numbers => "numbers",
             Key::Clients => "clients",
             Key::Newcomers => "newcomers",
+            Key::Status => "status",
+            Key::Log => "log",
         }
     }
 }

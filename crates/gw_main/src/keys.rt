@@ -10,6 +10,7 @@ ghost use Rattle.gw_main.specs.inner.Reading.{IsBadAt};
 
 use super::addresses::address;
 use super::fault::{Key, SettingsFault};
+use super::levels::level;
 use sn_local::Addr;
 use std::alloc::Global;
 use toml::{Table, Value};
@@ -96,6 +97,47 @@ pub(crate) fn address_at(table: &Table, key: Key) -> Result<Addr, SettingsFault>
         Some(value) => match address_item(value) {
             None => Err(SettingsFault::Key(key)),
             Some(addr) => Ok(addr),
+        },
+    }
+}
+
+/// The address at a key, if it is there.
+pub(crate) fn optional_address_at(table: &Table, key: Key) -> Result<Option<Addr>, SettingsFault>
+    ensures ok { IfOk result
+        (λ addr. spec.optional spec.address_item (at key (table_view table.now))
+        ≡ Some addr) }
+    ensures err { IfErr result (IsBadAt (spec.optional spec.address_item
+        (at key (table_view table.now))) key) }
+{
+    match found(table, key.name()) {
+        None => Ok(None),
+        Some(value) => match address_item(value) {
+            None => Err(SettingsFault::Key(key)),
+            Some(addr) => Ok(Some(addr)),
+        },
+    }
+}
+
+/// The level that a value writes.
+fn level_item(value: &Value) -> Option<u8>
+    ensures { result ≡ spec.level_item (view value.now) }
+{
+    match value.as_str() {
+        None => None,
+        Some(text) => level(text.as_bytes()),
+    }
+}
+
+/// The level at a key; 0 if it is not there.
+pub(crate) fn level_at(table: &Table, key: Key) -> Result<u8, SettingsFault>
+    ensures ok { IfOk result (λ level. spec.level_in (at key (table_view table.now)) ≡ Some level) }
+    ensures err { IfErr result (IsBadAt (spec.level_in (at key (table_view table.now))) key) }
+{
+    match found(table, key.name()) {
+        None => Ok(0),
+        Some(value) => match level_item(value) {
+            None => Err(SettingsFault::Key(key)),
+            Some(level) => Ok(level),
         },
     }
 }

@@ -8,6 +8,7 @@
 //! - `addresses`: addresses as `a.b.c.d:port` (`address`).
 //! - `patterns`: patterns of client ids, and who is let in (`lets_in`).
 //! - `newcomers`: how many come in for the first time within a minute (`counted_in`, `may_come`).
+//! - `levels`: levels of events.
 //! - `number`: numbers in decimal digits.
 //! - `beginning`: a gateway as its settings say, opened (`begin`).
 //! - `tending`: what is done with it between two shifts (`tend`).
@@ -16,9 +17,10 @@
 //!
 //! The definitions are in `specs/`: `Numbers`, `Addresses`, `Keys` (how keys are written),
 //! `Patterns` (which client ids are let in), `Newcomers` (how many of them within a minute),
-//! `Reading` (what a document says of each key, and which key is the first that it says nothing
-//! good of), `Beginning` (what the gateway is told, and how a refused opening is), `Tending` (what
-//! becomes of a gateway that is tended), `Growing` (when a journal is written anew).
+//! `Levels`, `Reading` (what a document says of each key, and which key is the first that it says
+//! nothing good of), `Beginning` (what the gateway is told, and how a refused opening is),
+//! `Tending` (what becomes of a gateway that is tended), `Growing` (when a journal is written
+//! anew).
 #![tactic(auto)]
 
 mod addresses;
@@ -26,6 +28,7 @@ mod beginning;
 mod fault;
 mod growing;
 mod keys;
+mod levels;
 mod lists;
 mod newcomers;
 mod number;

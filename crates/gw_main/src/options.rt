@@ -33,4 +33,8 @@ pub struct Settings {
     pub clients: Vec<Octets>,
     /// How many new client ids come in within a minute; 0 for any number.
     pub newcomers: u16,
+    /// The address at which the gateway shows itself, if it does.
+    pub status: Option<Addr>,
+    /// The greatest number of a level whose events are written; 0 for none.
+    pub log: u8,
 }

@@ -4,10 +4,10 @@ ghost use Rattle.std.specs.Prelude.{◌≡◌, ◌≤◌, IfOk, IfErr, Some};
 ghost use Rattle.toml.specs.Data.{Members};
 ghost use Rattle.toml.specs.View.{table_view};
 ghost use Rattle.gw_main.specs.Reading.{Says, IsRead, IsRefused};
-ghost use Rattle.gw_main.specs.inner.Reading.{SaysPlain, SaysLists, IsBad, IsBadAfter};
+ghost use Rattle.gw_main.specs.inner.Reading.{SaysPlain, SaysLists, SaysShown, IsBad, IsBadAfter, IsBadLast};
 
 use super::fault::{Key, SettingsFault};
-use super::keys::{address_at, number_at, text_at};
+use super::keys::{address_at, level_at, number_at, optional_address_at, text_at};
 use super::lists::{addresses_at, clients_at, numbers_at, predefined_at};
 use super::options::Settings;
 use gw_shift::MAX_STEPS;
@@ -61,6 +61,13 @@ pub(crate) struct Lists {
     newcomers: u16,
 }
 
+/// What it says of how the gateway is seen.
+#[derive(Clone, Copy)]
+pub(crate) struct Shown {
+    status: Option<Addr>,
+    log: u8,
+}
+
 /// What a document says.
 fn settings_of(alloc: Global, table: &Table) -> Result<Settings, SettingsFault>
     ensures ok { IfOk result (Says (table_view table.now)) }
@@ -83,14 +90,31 @@ fn with_lists(alloc: Global, table: &Table, plain: Plain) -> Result<Settings, Se
             drop(plain);
             Err(fault)
         }
-        Ok(lists) => Ok(joined(plain, lists)),
+        Ok(lists) => with_shown(table, plain, lists),
     }
 }
 
-/// Settings of both parts.
-fn joined(plain: Plain, lists: Lists) -> Settings
+/// What a document says, all of which but its last keys was read.
+fn with_shown(table: &Table, plain: Plain, lists: Lists) -> Result<Settings, SettingsFault>
+    requires plain { SaysPlain (table_view table.now) plain }
+    requires lists { SaysLists (table_view table.now) lists }
+    ensures ok { IfOk result (Says (table_view table.now)) }
+    ensures err { IfErr result (IsBad (table_view table.now)) }
+{
+    match shown_of(table) {
+        Err(fault) => {
+            drop(plain);
+            drop(lists);
+            Err(fault)
+        }
+        Ok(shown) => Ok(joined(plain, lists, shown)),
+    }
+}
+
+/// Settings of all parts.
+fn joined(plain: Plain, lists: Lists, shown: Shown) -> Settings
     ensures { (members : Members) → SaysPlain members plain → SaysLists members lists
-        → Says members result }
+        → SaysShown members shown → Says members result }
 {
     Settings {
         gateway: plain.gateway,
@@ -106,6 +130,8 @@ fn joined(plain: Plain, lists: Lists) -> Settings
         numbers: lists.numbers,
         clients: lists.clients,
         newcomers: lists.newcomers,
+        status: shown.status,
+        log: shown.log,
     }
 }
 
@@ -152,4 +178,14 @@ fn lists_of(alloc: Global, table: &Table) -> Result<Lists, SettingsFault>
         clients,
         newcomers: newcomers as u16,
     })
+}
+
+/// Reads the last keys. If it refuses them, they are the first bad ones, if those before are good.
+fn shown_of(table: &Table) -> Result<Shown, SettingsFault>
+    ensures ok { IfOk result (SaysShown (table_view table.now)) }
+    ensures err { IfErr result (IsBadLast (table_view table.now)) }
+{
+    let status = optional_address_at(table, Key::Status)?;
+    let log = level_at(table, Key::Log)?;
+    Ok(Shown { status, log })
 }

@@ -1,4 +1,5 @@
 pub mod Parts
+pub mod Glancing
 pub mod Writing
 pub mod Plans
 pub mod Calls

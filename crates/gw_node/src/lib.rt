@@ -25,7 +25,8 @@
 //! (`Event`); that a node stands for such a gateway, before each call and after it, is in
 //! `Standing` here.
 //!
-//! The other definitions are in `specs/`: `Parts` (what contracts see of a node), `Plans` (what a
+//! The other definitions are in `specs/`: `Parts` (what contracts see of a node), `Glancing` (its
+//! clients at a glance), `Plans` (what a
 //! plan comes to), `Calls` (what each call may answer), `Failures` (which answers tell of the
 //! disk), `Writing` (what becomes of the journal), `Taking` (what a node has taken, and what a
 //! crash leaves of it), `Arranging` (a failure is arranged), `Carrying` (how a call carries that

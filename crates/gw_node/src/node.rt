@@ -21,6 +21,8 @@ use super::handling::{
 use super::opening::{not_opened, nothing, start};
 use super::retained::retained_of;
 use gw_answer::{Answer, NodeFault, Step, one_share, three_shares};
+use gw_glance::{glance, messages_known};
+use gw_report::Glimpse;
 use jr_journal::{Disk, Journal, MemoryDisk};
 use octets::NoMemory;
 use rep_digest::Digest;
@@ -48,7 +50,7 @@ pub struct Node<R: Replica, D: Disk> {
 }
 
 impl<R: Replica, D: Disk + Drop> Node<R, D> {
-    ghost use Rattle.std.specs.Prelude.{◌≡◌, ◌≤◌, ◌<◌, ◌++◌, List, [], None, true, false, length, IfOk, IfErr, OnOk, IsTrue, MatchResult};
+    ghost use Rattle.std.specs.Prelude.{◌≡◌, ◌≤◌, ◌<◌, ◌++◌, List, [], None, true, false, length, IfOk, IfErr, OnOk, IsTrue, MatchResult, take};
     ghost use Rattle.rep_op.specs.declared.op.Op.{Op};
     ghost use Rattle.rep_ops.specs.Splitting.{all_of};
     ghost use Rattle.rep_model.specs.Keep.{CountsAs};
@@ -71,6 +73,8 @@ impl<R: Replica, D: Disk + Drop> Node<R, D> {
     ghost use Rattle.gw_node.specs.Opening.{IsStarted, FitInTurn, MayRefuse, IsDiskFault, IsOpenFault, LeavesSlots, GoesOnIn, ReopenCall};
     ghost use Rattle.gw_node.specs.Carrying.{CarriesOn, OwnCarriesOn, TakesNothing, ReopenCarriesOn, StepCarriesOn};
     ghost use Rattle.gw_node.specs.Standing.{EventOn};
+    ghost use Rattle.gw_node.specs.Glancing.{glimpses_of};
+    ghost use Rattle.gw_glance.specs.Knowing as known;
 
     /// Opens a gateway on the disk of its journal, and takes what the journal holds; nothing of
     /// that is written again. The gateway begins without bindings, dialogs and timers.
@@ -368,6 +372,32 @@ impl<R: Replica, D: Disk + Drop> Node<R, D> {
             Ok(clients) => Ok(clients),
             Err(_) => Err(NoMemory),
         }
+    }
+
+    /// The clients at a glance whose ids are above these octets, in ascending order, at most so
+    /// many. A halted node shows them too. It is no call of the node, and changes nothing.
+    pub fn glance(&self, alloc: Global, above: &[u8], most: usize) -> Result<Vec<Glimpse>, NoMemory>
+        ensures { IfOk result (λ all. all.items
+            ≡ take most (glimpses_of (state_of R.kept self.now) above.now)) }
+    {
+        let config = &self.config;
+        glance(
+            alloc,
+            config.gateway,
+            &self.replica,
+            &self.dialogs,
+            above,
+            most,
+        )
+    }
+
+    /// How many messages a gateway has put for a client, as far as this one knows: those that are
+    /// acknowledged count too.
+    pub fn messages_known(&self, client: &ClientId, origin: u8) -> u64
+        ensures { result
+            ≡ known.messages_known client.now origin (state_of R.kept self.now).kept }
+    {
+        messages_known(&self.replica, client, origin)
     }
 }
 

@@ -147,8 +147,11 @@ fn made_without<R: Replica>(
     let Some(last) = events.get(at) else {
         return Ok(None);
     };
-    let calm = calm(alloc, events, at, last.gateway(), first)?;
-    let made = made_last::<R>(alloc, field, calm.as_slice());
+    let mut calm = Vec::new(alloc);
+    let made = match append_calm(alloc, &mut calm, events, at, last.gateway(), first) {
+        Ok(()) => made_last::<R>(alloc, field, calm.as_slice()),
+        Err(fault) => Err(fault),
+    };
     drop(calm);
     made
 }
@@ -169,22 +172,22 @@ fn made_last<R: Replica>(
     }
 }
 
-/// The events up to this index that are played again, where no failure was arranged for the
+/// Appends the events up to this index that are played again, where no failure was arranged for the
 /// gateway from the event `first` on.
-fn calm(
+fn append_calm(
     alloc: Global,
+    calm: &mut Vec<Event>,
     events: &[Event],
     at: usize,
     gateway: u8,
     first: usize,
-) -> Result<Vec<Event>, NoMemory> {
-    let mut calm = Vec::new(alloc);
-    for (index, event) in events.iter().take(at.saturating_add(1)).enumerate() {
-        if is_played(event, gateway, index >= first) {
-            append_copy(alloc, &mut calm, event)?;
+) -> Result<(), NoMemory> {
+    for (index, event) in events.iter().enumerate() {
+        if index <= at && is_played(event, gateway, index >= first) {
+            append_copy(alloc, calm, event)?;
         }
     }
-    Ok(calm)
+    Ok(())
 }
 
 /// The delta that the last answer tells of.

@@ -1,8 +1,8 @@
 //! At the end gateways exchange what they have.
 
 use super::copying::{append, append_copies};
-use super::field::{Field, Played, added};
-use gw_world::Event;
+use super::field::{Field, added_at};
+use gw_world::{Answer, Event};
 use octets::NoMemory;
 use rep_model::Replica;
 use std::alloc::Global;
@@ -42,7 +42,7 @@ fn answered<R: Replica>(
     let Some(played) = field.play::<R>(alloc, events)? else {
         return Ok(None);
     };
-    let takes = takes(alloc, events, &played, from);
+    let takes = takes(alloc, events, played.answers.as_slice(), from);
     drop(played);
     Ok(Some(takes?))
 }
@@ -91,20 +91,35 @@ fn append_questions(all: &mut Vec<Event>, gateways: u8) -> Result<(), NoMemory> 
 fn takes(
     alloc: Global,
     events: &[Event],
-    played: &Played,
+    answers: &[Answer],
     from: usize,
 ) -> Result<Vec<Event>, NoMemory> {
     let mut takes = Vec::new(alloc);
+    match append_answered(&mut takes, events, answers, from) {
+        Ok(()) => Ok(takes),
+        Err(fault) => {
+            drop(takes);
+            Err(fault)
+        }
+    }
+}
+
+/// Appends what gateways take that the events from this index on were answered.
+fn append_answered(
+    takes: &mut Vec<Event>,
+    events: &[Event],
+    answers: &[Answer],
+    from: usize,
+) -> Result<(), NoMemory> {
     let mut listed = 0u64;
-    let both = events.iter().zip(played.answers.as_slice());
-    for (index, (event, answer)) in both.enumerate() {
-        let count = added(answer);
+    for (index, event) in events.iter().enumerate() {
+        let count = added_at(answers, index);
         if index >= from {
-            append_takes(&mut takes, event.gateway(), listed, count)?;
+            append_takes(takes, event.gateway(), listed, count)?;
         }
         listed = listed.saturating_add(count);
     }
-    Ok(takes)
+    Ok(())
 }
 
 /// A gateway takes so many deltas of the list after these.

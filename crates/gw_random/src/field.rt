@@ -74,6 +74,14 @@ fn config(alloc: Global, gateway: u8) -> Result<Config, NoMemory> {
     })
 }
 
+/// How many deltas the answer of this index adds to the list.
+pub(crate) fn added_at(answers: &[Answer], index: usize) -> u64 {
+    match answers.get(index) {
+        Some(answer) => added(answer),
+        None => 0,
+    }
+}
+
 /// How many deltas an answer adds to the list.
 pub(crate) fn added(answer: &Answer) -> u64 {
     match answer {

@@ -146,10 +146,27 @@ impl Invention {
         answers: &[Answer],
         seen: usize,
     ) -> Result<(), NoMemory> {
-        for (event, answer) in events.iter().zip(answers).skip(seen) {
-            self.learn(alloc, event, answer)?;
+        for index in seen..events.len() {
+            self.learn_at(alloc, events, answers, index)?;
         }
         Ok(())
+    }
+
+    /// What the answer to the event of this index tells the inventor.
+    fn learn_at(
+        &mut self,
+        alloc: Global,
+        events: &[Event],
+        answers: &[Answer],
+        index: usize,
+    ) -> Result<(), NoMemory> {
+        let Some(event) = events.get(index) else {
+            return Ok(());
+        };
+        match answers.get(index) {
+            Some(answer) => self.learn(alloc, event, answer),
+            None => Ok(()),
+        }
     }
 
     /// A gateway.
@@ -157,9 +174,14 @@ impl Invention {
         self.draw.octet_below(self.gateways).saturating_add(1)
     }
 
+    /// How many clients there are.
+    fn clients(&self) -> u8 {
+        u8::try_from(self.homes.len()).unwrap_or(1)
+    }
+
     /// A client.
     fn client(&mut self) -> u8 {
-        let count = u8::try_from(self.homes.len()).unwrap_or(1);
+        let count = self.clients();
         self.draw.octet_below(count)
     }
 
@@ -203,8 +225,8 @@ impl Invention {
 
     /// Each client connects.
     fn arrivals(&mut self, alloc: Global, events: &mut Vec<Event>) -> Result<(), NoMemory> {
-        for client in 0..self.homes.len() {
-            self.arrives(alloc, events, u8::try_from(client).unwrap_or(0))?;
+        for client in 0..self.clients() {
+            self.arrives(alloc, events, client)?;
         }
         Ok(())
     }
@@ -288,7 +310,7 @@ impl Invention {
     /// An event at a gateway that it may write for.
     fn writes(&mut self, alloc: Global, gateway: u8) -> Result<Event, NoMemory> {
         match self.draw.octet_below(8) {
-            0..=2 => self.takes(alloc, gateway),
+            0..=2 => Ok(self.takes(gateway)),
             3 => Ok(self.ticks(gateway)),
             4 => Ok(Event::Compact { gateway }),
             _ => {
@@ -317,7 +339,7 @@ impl Invention {
         match self.draw.octet_below(32) {
             0..=8 => self.answers(alloc),
             9..=16 => self.sends(alloc),
-            17..=25 => self.takes(alloc, gateway),
+            17..=25 => Ok(self.takes(gateway)),
             seldom => Ok(self.seldom(gateway, seldom)),
         }
     }
@@ -350,10 +372,10 @@ impl Invention {
     }
 
     /// A gateway takes a delta, if there is one.
-    fn takes(&mut self, alloc: Global, gateway: u8) -> Result<Event, NoMemory> {
-        match self.listed.choose(alloc, &mut self.draw, gateway)? {
-            Some(delta) => Ok(Event::Take { gateway, delta }),
-            None => Ok(self.ticks(gateway)),
+    fn takes(&mut self, gateway: u8) -> Event {
+        match self.listed.choose(&mut self.draw, gateway) {
+            Some(delta) => Event::Take { gateway, delta },
+            None => self.ticks(gateway),
         }
     }
 

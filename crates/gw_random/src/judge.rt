@@ -1,7 +1,7 @@
 //! A run compared with the definitions.
 
 use super::disk::{follow_fault, follow_restart, is_written, may_go_on};
-use super::field::{Field, Played, added};
+use super::field::{Field, Played, added_at};
 use super::seat::{Seat, are_same, has_vanished};
 use gw_world::{Answer, Event, Out};
 use octets::{NoMemory, Sequence};
@@ -135,9 +135,8 @@ impl Seats {
         events: &[Event],
         played: &Played,
     ) -> Result<Option<Difference>, NoMemory> {
-        let both = events.iter().zip(played.answers.as_slice());
-        for (at, (event, answer)) in both.enumerate() {
-            if let Some(what) = self.follow::<R>(alloc, field, events, played, at, event, answer)? {
+        for (at, event) in events.iter().enumerate() {
+            if let Some(what) = self.follow::<R>(alloc, field, events, played, at, event)? {
                 let gateway = event.gateway();
                 return Ok(Some(Difference { at, gateway, what }));
             }
@@ -154,23 +153,14 @@ impl Seats {
         played: &Played,
         at: usize,
         event: &Event,
-        answer: &Answer,
     ) -> Result<Option<What>, NoMemory> {
-        self.listed = self.listed.saturating_add(added(answer));
+        let count = added_at(played.answers.as_slice(), at);
+        let listed = self.listed.saturating_add(count);
+        self.listed = listed;
         let place = usize::from(event.gateway().saturating_sub(1));
-        let Some(seat) = self.seats.get_mut(place) else {
-            return Ok(Some(What::Stopped));
-        };
-        match answer {
-            Answer::Node(Ok(out)) => follow_out(alloc, seat, played, self.listed, event, out),
-            Answer::Node(Err(fault)) => {
-                follow_fault::<R>(alloc, field, events, played, seat, at, event, fault)
-            }
-            Answer::Views(views, topics) => {
-                follow_shown(alloc, seat, played, at, views.as_slice(), topics.as_slice())
-            }
-            Answer::Records(told) => follow_restart(alloc, seat, event, *told),
-            Answer::Nothing => Ok(arranged(seat, at, event)),
+        match self.seats.get_mut(place) {
+            Some(seat) => follow_at::<R>(alloc, field, events, played, seat, listed, at, event),
+            None => Ok(Some(What::Stopped)),
         }
     }
 
@@ -225,6 +215,34 @@ fn show_same(played: &Played, one: &Seat, other: &Seat) -> bool {
     match (views_at(played, one), views_at(played, other)) {
         (Some(one), Some(other)) => are_same(one.as_slice(), other.as_slice()),
         _ => true,
+    }
+}
+
+/// A gateway answered to the event of this index. So many deltas are listed then. What differs, if
+/// something does.
+fn follow_at<R: Replica>(
+    alloc: Global,
+    field: &Field,
+    events: &[Event],
+    played: &Played,
+    seat: &mut Seat,
+    listed: u64,
+    at: usize,
+    event: &Event,
+) -> Result<Option<What>, NoMemory> {
+    let Some(answer) = played.answers.as_slice().get(at) else {
+        return Ok(None);
+    };
+    match answer {
+        Answer::Node(Ok(out)) => follow_out(alloc, seat, played, listed, event, out),
+        Answer::Node(Err(fault)) => {
+            follow_fault::<R>(alloc, field, events, played, seat, at, event, fault)
+        }
+        Answer::Views(views, topics) => {
+            Ok(follow_shown(seat, played, at, views.as_slice(), topics.as_slice()))
+        }
+        Answer::Records(told) => follow_restart(alloc, seat, event, *told),
+        Answer::Nothing => Ok(arranged(seat, at, event)),
     }
 }
 
@@ -305,37 +323,35 @@ fn vanished(seat: &Seat, played: &Played, views: &[(ClientId, ClientView)]) -> b
 
 /// A gateway is shown, with what it retains of topics.
 fn follow_shown(
-    alloc: Global,
     seat: &mut Seat,
     played: &Played,
     at: usize,
     views: &[(ClientId, ClientView)],
     topics: &[(TopicName, Retained)],
-) -> Result<Option<What>, NoMemory> {
+) -> Option<What> {
     if seat.retains(topics) {
-        follow_views(alloc, seat, played, at, views)
+        follow_views(seat, played, at, views)
     } else {
-        Ok(Some(What::Retained))
+        Some(What::Retained)
     }
 }
 
 /// A gateway is shown.
 fn follow_views(
-    alloc: Global,
     seat: &mut Seat,
     played: &Played,
     at: usize,
     views: &[(ClientId, ClientView)],
-) -> Result<Option<What>, NoMemory> {
+) -> Option<What> {
     if vanished(seat, played, views) {
-        return Ok(Some(What::Vanished));
+        return Some(What::Vanished);
     }
     seat.shown = Some(at);
     seat.latest = None;
     seat.joined = None;
-    if seat.shows(alloc, views)? {
-        Ok(None)
+    if seat.shows(views) {
+        None
     } else {
-        Ok(Some(What::Views))
+        Some(What::Views)
     }
 }

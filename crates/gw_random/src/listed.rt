@@ -24,11 +24,6 @@ impl Listed {
         }
     }
 
-    /// How many deltas there are.
-    pub(crate) fn count(&self) -> u64 {
-        self.holders.len() as u64
-    }
-
     /// One more delta, which this gateway has.
     pub(crate) fn add(&mut self, gateway: u8) -> Result<(), NoMemory> {
         self.holders.push(bit_of(gateway))?;
@@ -45,36 +40,51 @@ impl Listed {
         }
     }
 
-    /// The number of a delta that the gateway is to take: mostly one that it has not, and sometimes
-    /// any.
-    pub(crate) fn choose(
-        &mut self,
-        alloc: Global,
-        draw: &mut Draw,
-        gateway: u8,
-    ) -> Result<Option<u64>, NoMemory> {
+    /// The number of a delta that the gateway is to take, if there is one: mostly one that it has
+    /// not, and sometimes any.
+    pub(crate) fn choose(&mut self, draw: &mut Draw, gateway: u8) -> Option<u64> {
         let bit = bit_of(gateway);
-        let any = draw.is_once_in(10);
-        let open = self.open(alloc, bit, any)?;
-        let chosen = draw.one_of(open.as_slice()).copied();
-        drop(open);
-        let Some(index) = chosen else {
-            return Ok(None);
-        };
+        let bits = if draw.is_once_in(10) { 0 } else { bit };
+        let open = self.count_open(bits);
+        if open == 0 {
+            return None;
+        }
+        match self.open_after(bits, draw.below(open)) {
+            Some(index) => Some(self.give(index, bit)),
+            None => None,
+        }
+    }
+
+    /// How many deltas there are that no gateway of these bits has.
+    fn count_open(&self, bits: u8) -> u64 {
+        let mut count = 0u64;
+        for holders in self.holders.as_slice() {
+            if *holders & bits == 0 {
+                count = count.saturating_add(1);
+            }
+        }
+        count
+    }
+
+    /// The index of one of these deltas, the one after so many others of them.
+    fn open_after(&self, bits: u8, others: u64) -> Option<usize> {
+        let mut left = others;
+        for (index, holders) in self.holders.as_slice().iter().enumerate() {
+            if *holders & bits == 0 {
+                if left == 0 {
+                    return Some(index);
+                }
+                left = left.saturating_sub(1);
+            }
+        }
+        None
+    }
+
+    /// The gateway of this bit has the delta of this index. The number of the delta.
+    fn give(&mut self, index: usize, bit: u8) -> u64 {
         if let Some(holders) = self.holders.get_mut(index) {
             *holders |= bit;
         }
-        Ok(Some((index as u64).saturating_add(1)))
-    }
-
-    /// The indices of the deltas that the gateway of this bit has not, or of all.
-    fn open(&self, alloc: Global, bit: u8, any: bool) -> Result<Vec<usize>, NoMemory> {
-        let mut open = Vec::new(alloc);
-        for (index, holders) in self.holders.as_slice().iter().enumerate() {
-            if any || *holders & bit == 0 {
-                open.push(index)?;
-            }
-        }
-        Ok(open)
+        (index as u64).saturating_add(1)
     }
 }

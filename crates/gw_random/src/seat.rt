@@ -41,39 +41,22 @@ impl Seat {
 
     /// Takes a delta. False where it does not fit.
     pub(crate) fn take(&mut self, alloc: Global, delta: &Delta) -> Result<bool, NoMemory> {
-        match self.plain.prepare(alloc, delta) {
-            Ok(staged) => {
-                self.plain.commit(staged);
-                Ok(true)
-            }
-            Err(TakeFault::Memory) => Err(NoMemory),
-            Err(_) => Ok(false),
-        }
+        take_into(alloc, &mut self.plain, delta)
     }
 
-    /// Whether these are the views of the set.
-    pub(crate) fn shows(
-        &self,
-        alloc: Global,
-        views: &[(ClientId, ClientView)],
-    ) -> Result<bool, NoMemory> {
-        let Ok(clients) = self.plain.clients(alloc) else {
-            return Err(NoMemory);
-        };
-        Ok(self.shows_each(clients.as_slice(), views))
-    }
-
-    /// Whether these are the views of these clients, one by one.
-    fn shows_each(&self, clients: &[ClientId], views: &[(ClientId, ClientView)]) -> bool {
-        if clients.len() != views.len() {
-            return false;
-        }
-        for (client, row) in clients.iter().zip(views) {
-            if !self.sees(client, row) {
+    /// Whether these are the clients of the set, and their views.
+    pub(crate) fn shows(&self, views: &[(ClientId, ClientView)]) -> bool {
+        let mut place = 0;
+        for (client, view) in views {
+            let Some((behind, own, seen)) = self.plain.client_at(place) else {
+                return false;
+            };
+            if !same_client(own, client) || !same_view(seen, view) {
                 return false;
             }
+            place = behind;
         }
-        true
+        self.plain.client_at(place).is_none()
     }
 
     /// Whether this is what the set retains of topics.
@@ -90,16 +73,19 @@ impl Seat {
         }
         self.plain.topic_at(place).is_none()
     }
+}
 
-    /// Whether this is the client, and its view.
-    fn sees(&self, client: &ClientId, row: &(ClientId, ClientView)) -> bool {
-        let (shown, view) = row;
-        if !same_client(client, shown) {
-            return false;
+/// A replica takes a delta. False where it does not fit.
+fn take_into<R: Replica>(alloc: Global, replica: &mut R, delta: &Delta) -> Result<bool, NoMemory> {
+    match replica.prepare(alloc, delta) {
+        Ok(staged) => {
+            replica.commit(staged);
+            Ok(true)
         }
-        match self.plain.view_of(client) {
-            Some(seen) => same_view(seen, view),
-            None => false,
+        Err(fault) => {
+            let is_short = matches!(&fault, TakeFault::Memory);
+            drop(fault);
+            if is_short { Err(NoMemory) } else { Ok(false) }
         }
     }
 }
@@ -109,17 +95,20 @@ pub(crate) fn are_same(a: &[(ClientId, ClientView)], b: &[(ClientId, ClientView)
     if a.len() != b.len() {
         return false;
     }
-    for (one, other) in a.iter().zip(b) {
-        if !is_same_row(one, other) {
+    for (index, one) in a.iter().enumerate() {
+        if !is_same_row(one, b.get(index)) {
             return false;
         }
     }
     true
 }
 
-/// Whether these are equal clients with equal views.
-fn is_same_row(one: &(ClientId, ClientView), other: &(ClientId, ClientView)) -> bool {
-    same_client(&one.0, &other.0) && same_view(&one.1, &other.1)
+/// Whether these are equal clients with equal views, where both are there.
+fn is_same_row(one: &(ClientId, ClientView), other: Option<&(ClientId, ClientView)>) -> bool {
+    match other {
+        Some(other) => same_client(&one.0, &other.0) && same_view(&one.1, &other.1),
+        None => false,
+    }
 }
 
 /// Whether a message waited before, waits no more, and this delta does not acknowledge it.

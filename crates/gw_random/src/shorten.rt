@@ -40,6 +40,17 @@ enum Outcome {
     Differs(Difference),
 }
 
+/// An event of a script, and the deltas that it adds.
+#[derive(Clone, Copy)]
+struct Part {
+    /// The index of the event.
+    index: usize,
+    /// How many deltas there are before it.
+    first: u64,
+    /// How many it adds.
+    count: u64,
+}
+
 /// A script that differs.
 #[derive(Drop)]
 pub(crate) struct Short {
@@ -122,69 +133,119 @@ pub(crate) fn shortened<R: Replica>(
     all: Vec<Event>,
     difference: Difference,
 ) -> Result<Short, NoMemory> {
-    let mut events = script;
-    events.truncate(difference.at.saturating_add(1));
     let mut short = Short {
-        events,
+        events: cut_after(script, difference.at),
         all,
         difference,
     };
-    for _ in 0..PASSES {
-        let before = short.events.len();
-        pass::<R>(alloc, field, &mut short)?;
-        if short.events.len() >= before {
-            break;
+    match pass_all::<R>(alloc, field, &mut short) {
+        Ok(()) => Ok(short),
+        Err(fault) => {
+            drop(short);
+            Err(fault)
         }
     }
-    Ok(short)
 }
 
-/// Leaves out each event once, where the script still differs without it.
-fn pass<R: Replica>(alloc: Global, field: &Field, short: &mut Short) -> Result<(), NoMemory> {
-    let counts = counts::<R>(alloc, field, short.events.as_slice())?;
-    let done = leave_out_each::<R>(alloc, field, short, counts.as_slice());
-    drop(counts);
-    done
-}
-
-/// Leaves out each event once, by how many deltas there are before it and how many it adds.
-fn leave_out_each<R: Replica>(
-    alloc: Global,
-    field: &Field,
-    short: &mut Short,
-    counts: &[(u64, u64)],
-) -> Result<(), NoMemory> {
-    for (index, (first, count)) in counts.iter().enumerate().rev() {
-        let is_left_out = leave_out::<R>(alloc, field, short, index, *first, *count)?;
-        if !is_left_out && *count > 0 {
-            leave_out::<R>(alloc, field, short, index, *first, 0)?;
+/// Looks at all events, again and again where that makes the script shorter.
+fn pass_all<R: Replica>(alloc: Global, field: &Field, short: &mut Short) -> Result<(), NoMemory> {
+    for _ in 0..PASSES {
+        let before = short.events.len();
+        pass::<R>(alloc, field, short)?;
+        if short.events.len() >= before {
+            break;
         }
     }
     Ok(())
 }
 
-/// For each event, how many deltas there are before it, and how many it adds.
-fn counts<R: Replica>(
+/// The events up to this index.
+fn cut_after(events: Vec<Event>, at: usize) -> Vec<Event> {
+    let mut kept = events;
+    kept.truncate(at.saturating_add(1));
+    kept
+}
+
+/// Leaves out each event once, where the script still differs without it.
+fn pass<R: Replica>(alloc: Global, field: &Field, short: &mut Short) -> Result<(), NoMemory> {
+    let mut parts = Vec::new(alloc);
+    let done = match append_parts::<R>(alloc, &mut parts, field, short.events.as_slice()) {
+        Ok(()) => leave_out_each::<R>(alloc, field, short, parts.as_slice()),
+        Err(fault) => Err(fault),
+    };
+    drop(parts);
+    done
+}
+
+/// Leaves out each of these parts once, from the back.
+fn leave_out_each<R: Replica>(
     alloc: Global,
     field: &Field,
+    short: &mut Short,
+    parts: &[Part],
+) -> Result<(), NoMemory> {
+    for part in parts.iter().rev() {
+        leave_out_or_keep::<R>(alloc, field, short, *part)?;
+    }
+    Ok(())
+}
+
+/// Leaves an event out with the deltas that it adds, or else as if it added none. Whether it is
+/// left out.
+fn leave_out_or_keep<R: Replica>(
+    alloc: Global,
+    field: &Field,
+    short: &mut Short,
+    part: Part,
+) -> Result<bool, NoMemory> {
+    let is_left_out = leave_out::<R>(alloc, field, short, part)?;
+    if is_left_out || part.count == 0 {
+        return Ok(is_left_out);
+    }
+    leave_out::<R>(alloc, field, short, Part { count: 0, ..part })
+}
+
+/// Appends the parts of a script, none if it cannot be played.
+fn append_parts<R: Replica>(
+    alloc: Global,
+    parts: &mut Vec<Part>,
+    field: &Field,
     events: &[Event],
-) -> Result<Vec<(u64, u64)>, NoMemory> {
+) -> Result<(), NoMemory> {
     match field.play::<R>(alloc, events)? {
-        Some(played) => counted(alloc, played.answers.as_slice()),
-        None => Ok(Vec::new(alloc)),
+        Some(played) => {
+            let done = append_counted(parts, played.answers.as_slice());
+            drop(played);
+            done
+        }
+        None => Ok(()),
     }
 }
 
-/// For each answer, how many deltas there are before it, and how many it adds.
-fn counted(alloc: Global, answers: &[Answer]) -> Result<Vec<(u64, u64)>, NoMemory> {
-    let mut counts = Vec::new(alloc);
-    let mut listed = 0u64;
-    for answer in answers {
+/// Appends a part for each of these answers.
+fn append_counted(parts: &mut Vec<Part>, answers: &[Answer]) -> Result<(), NoMemory> {
+    let mut first = 0u64;
+    for (index, answer) in answers.iter().enumerate() {
         let count = added(answer);
-        counts.push((listed, count))?;
-        listed = listed.saturating_add(count);
+        append_part(parts, index, first, count)?;
+        first = first.saturating_add(count);
     }
-    Ok(counts)
+    Ok(())
+}
+
+/// Appends the part of the event of this index, which follows so many deltas and adds so many.
+fn append_part(
+    parts: &mut Vec<Part>,
+    index: usize,
+    first: u64,
+    count: u64,
+) -> Result<(), NoMemory> {
+    parts.push(Part {
+        index,
+        first,
+        count,
+    })?;
+    Ok(())
 }
 
 /// Leaves an event out, if the script still differs in the same way without it.
@@ -192,49 +253,58 @@ fn leave_out<R: Replica>(
     alloc: Global,
     field: &Field,
     short: &mut Short,
-    index: usize,
-    first: u64,
-    count: u64,
+    part: Part,
 ) -> Result<bool, NoMemory> {
-    let fewer = without(alloc, short.events.as_slice(), index, first, count)?;
+    let fewer = without(alloc, short.events.as_slice(), part)?;
     match examined::<R>(alloc, field, fewer.as_slice()) {
         Ok(verdict) => Ok(replace(short, fewer, verdict)),
-        Err(fault) => Err(fault),
+        Err(fault) => {
+            drop(fewer);
+            Err(fault)
+        }
     }
 }
 
 /// Takes these events in place of a script, if they differ in the same way. Whether they do.
 fn replace(short: &mut Short, fewer: Vec<Event>, verdict: Verdict) -> bool {
-    let Verdict::Differs { events, difference } = verdict else {
-        return false;
-    };
+    match verdict {
+        Verdict::Differs { events, difference } => replace_by(short, fewer, events, difference),
+        Verdict::Stuck | Verdict::Same => {
+            drop(fewer);
+            false
+        }
+    }
+}
+
+/// Takes these events, without and with the exchange, in place of a script, if the same differs in
+/// them. Whether it does.
+fn replace_by(
+    short: &mut Short,
+    fewer: Vec<Event>,
+    all: Vec<Event>,
+    difference: Difference,
+) -> bool {
     if difference.what != short.difference.what {
+        drop(all);
+        drop(fewer);
         return false;
     }
-    let mut kept = fewer;
-    kept.truncate(difference.at.saturating_add(1));
     let shorter = Short {
-        events: kept,
-        all: events,
+        events: cut_after(fewer, difference.at),
+        all,
         difference,
     };
     drop(mem::replace(short, shorter));
     true
 }
 
-/// The events without one, which follows so many deltas and added so many. These are taken no more,
-/// and later ones have other numbers.
-fn without(
-    alloc: Global,
-    events: &[Event],
-    index: usize,
-    first: u64,
-    count: u64,
-) -> Result<Vec<Event>, NoMemory> {
+/// The events without one, and without its deltas: these are taken no more, and later ones have
+/// other numbers.
+fn without(alloc: Global, events: &[Event], part: Part) -> Result<Vec<Event>, NoMemory> {
     let mut made = Vec::new(alloc);
     for (at, event) in events.iter().enumerate() {
-        if at != index {
-            push_moved(alloc, &mut made, event, first, count)?;
+        if at != part.index {
+            push_moved(alloc, &mut made, event, part)?;
         }
     }
     Ok(made)
@@ -245,13 +315,12 @@ fn push_moved(
     alloc: Global,
     made: &mut Vec<Event>,
     event: &Event,
-    first: u64,
-    count: u64,
+    part: Part,
 ) -> Result<(), NoMemory> {
     let Event::Take { gateway, delta } = event else {
         return append_copy(alloc, made, event);
     };
-    match moved(*delta, first, count) {
+    match moved(*delta, part.first, part.count) {
         Some(delta) => append(
             made,
             Event::Take {

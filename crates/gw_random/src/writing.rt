@@ -23,10 +23,10 @@ pub(crate) fn script(alloc: Global, gateways: u8, events: &[Event]) -> Result<St
 
 /// The lines of a gateway and of its predefined topic id.
 fn gateway_lines(alloc: Global, text: &mut String, number: u8) -> Result<(), AllocError> {
-    let name = hex::encode(alloc, PREDEFINED)?;
     let id = PREDEFINED_ID;
-    writeln!(text, "gateway {number}")?;
-    writeln!(text, "predefine {number} {id} {name}")
+    plain_line(text, "gateway", number)?;
+    write!(text, "predefine {number} {id} ")?;
+    digits_line(alloc, text, PREDEFINED)
 }
 
 /// The line of an event.

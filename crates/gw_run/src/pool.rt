@@ -55,6 +55,18 @@ pub struct Pool<S: Drop> {
     /// since; else 0.
     backlog: AtomicU64,
     ticked: AtomicU64,
+    /// How often the clock's thread has begun a round.
+    pub rounds: AtomicU64,
+}
+
+/// Puts the same word so often after others. Whether there was memory for it.
+fn add_all(words: &mut Vec<bool>, word: bool, many: usize) -> bool {
+    for _ in 0..many {
+        if words.push(word).is_err() {
+            return false;
+        }
+    }
+    true
 }
 
 impl<S: Drop> Pool<S> {
@@ -62,17 +74,23 @@ impl<S: Drop> Pool<S> {
     /// ran out.
     pub fn new(alloc: Global, peers: usize, numbers: &[u8]) -> Option<Pool<S>> {
         let mut allowed = Vec::new(alloc);
-        if allowed.extend_from_slice(numbers).is_err() {
-            return None;
-        }
         let mut dialled = Vec::new(alloc);
         let mut spoken = Vec::new(alloc);
-        for _ in 0..peers {
-            if dialled.push(false).is_err() || spoken.push(true).is_err() {
-                return None;
-            }
+        let is_whole = allowed.extend_from_slice(numbers).is_ok()
+            && add_all(&mut dialled, false, peers)
+            && add_all(&mut spoken, true, peers);
+        if is_whole {
+            return Some(Pool::of(alloc, allowed, dialled, spoken));
         }
-        Some(Pool {
+        drop(allowed);
+        drop(dialled);
+        drop(spoken);
+        None
+    }
+
+    /// No link is open. These gateways may be linked, and so it stands with the peers.
+    fn of(alloc: Global, allowed: Vec<u8>, dialled: Vec<bool>, spoken: Vec<bool>) -> Pool<S> {
+        Pool {
             links: Mutex::new(Links {
                 waiting: Vec::new(alloc),
                 talked: Vec::new(alloc),
@@ -89,7 +107,8 @@ impl<S: Drop> Pool<S> {
             listening: Listening::new(),
             backlog: AtomicU64::new(0),
             ticked: AtomicU64::new(0),
-        })
+            rounds: AtomicU64::new(0),
+        }
     }
 
     /// The reader's queue is full.

@@ -11,6 +11,7 @@ use gw_wire::{FieldClock, Post};
 use jr_disk::Disk;
 use rep_model::Replica;
 use std::alloc::Global;
+use std::sync::atomic::Ordering;
 use std::sync::{Arc, Wait};
 use std::time::Clock;
 
@@ -77,6 +78,7 @@ fn tick_in_turn<T: Wait + Clock, R: Replica, D: Disk + Drop, P: Post, S: Drop>(
 ) -> (Pass, Option<End>)
     ensures { AddsOfClock pass result.1 result.0 }
 {
+    let _ = pool.rounds.fetch_add(1, Ordering::SeqCst);
     if pool.outage.lasts(rt, post) {
         stage.wait(rt, Phase::Serving, TIME_TO_READ);
         return tick_still(rt, alloc, shift, pass, stage, post, pool.clock.second());

@@ -5,6 +5,7 @@ use Rattle.std.specs.Arc.{arc_value}
 use Rattle.std.specs.declared.sync.Arc.{Arc}
 use Rattle.std.specs.declared.alloc.Global.{Global}
 use Rattle.rep_op.specs.declared.op.Op.{Op}
+use Rattle.gw_report.specs.declared.glimpse.Glimpse.{Glimpse}
 use Rattle.gw_answer.specs.declared.out.Out.{Out}
 use Rattle.gw_shift.specs.Calls.{Call}
 use Rattle.gw_shift.specs.Passes.{Climb}
@@ -80,3 +81,8 @@ pub taken_few : (most : ℕ) (entries : List (ℕ × List Op)) → length (take 
 taken_few zero entries = omega arith
 taken_few (suc most) [] = omega arith
 taken_few (suc most) (e ∷ entries) = omega (arith, taken_few most entries)
+
+pub shown_few : (most : ℕ) (all : List Glimpse) → length (take most all) ≤ most
+shown_few zero all = omega arith
+shown_few (suc most) [] = omega arith
+shown_few (suc most) (one ∷ all) = omega (arith, shown_few most all)

@@ -13,7 +13,9 @@ use super::first::First;
 use super::gathering::shares;
 use super::pass::Pass;
 use gw_node::{Answer, Node, Out, Step};
+use gw_report::Glimpse;
 use jr_journal::Disk;
+use octets::NoMemory;
 use rep_model::Replica;
 use rep_ops::Delta;
 use std::alloc::Global;
@@ -39,11 +41,13 @@ pub struct Locked<R: Replica, D: Disk> {
 }
 
 impl<R: Replica, D: Disk + Drop> Locked<R, D> {
-    ghost use Rattle.std.specs.Prelude.{◌≡◌, ◌≤◌, ◌<◌, ◌+◌, ◌++◌, ◌∷◌, [], ℕ, IfOk, IfErr, vec_len, take, drop};
+    ghost use Rattle.std.specs.Prelude.{◌≡◌, ◌≤◌, ◌<◌, ◌+◌, ◌++◌, ◌∷◌, [], ℕ, IfOk, IfErr, vec_len, take, drop, length};
     ghost use Rattle.gw_answer.specs.Answers.{said};
     ghost use Rattle.gw_shift.specs.Calls.{Call};
     ghost use Rattle.gw_shift.specs.inner.Passes.{call, made_after, told_by};
     ghost use Rattle.gw_shift.specs.inner.Calling.{Entered, NotEntered, IsNotTold};
+    ghost use Rattle.gw_shift.specs.inner.Glances.{all_known};
+    ghost use Rattle.gw_node.specs.Glancing.{glimpses_of};
 
     /// Makes a call at the node, and enters it. The answer comes back twice.
     fn make(&mut self, alloc: Global, place: u64, step: Arc<Step>) -> (Answer, Answer)
@@ -114,6 +118,45 @@ impl<R: Replica, D: Disk + Drop> Locked<R, D> {
         let behind = &self.history.as_slice()[number as usize..];
         let found = shares(alloc, behind, number, max)?;
         Ok(found)
+    }
+
+    /// The clients of the node at a glance whose ids are above these octets: the first of them, at
+    /// most so many. It is no call.
+    #[tactic(auto, using(crate::proofs::Handing::shown_few))]
+    pub(crate) fn glance(
+        &self,
+        alloc: Global,
+        above: &[u8],
+        most: usize,
+    ) -> Result<Vec<Glimpse>, NoMemory>
+        ensures shown { IfOk result (λ all. all.items
+            ≡ take most (glimpses_of (state_of R.kept self.now.node) above.now)) }
+        ensures few { IfOk result (λ all. length all.items ≤ most) }
+    {
+        let all = self.node.glance(alloc, above, most)?;
+        Ok(all)
+    }
+
+    /// For each of these clients, how many messages a gateway has put for it, as far as the node
+    /// knows. It is no call.
+    pub(crate) fn messages_known(
+        &self,
+        alloc: Global,
+        clients: &[Glimpse],
+        origin: u8,
+    ) -> Result<Vec<u64>, NoMemory>
+        ensures known { IfOk result (λ all. all.items
+            ≡ all_known (state_of R.kept self.now.node).kept origin clients.now) }
+        ensures many { IfOk result (λ all. length all.items ≡ length clients.now) }
+    {
+        let mut all = Vec::new(alloc);
+        let mut left = clients;
+        'clients: while let Some((client, rest)) = left.split_first() {
+            all.reserve(1)?;
+            all.push_reserved(self.node.messages_known(&client.client, origin));
+            left = rest;
+        }
+        Ok(all)
     }
 
     /// The shift is over, and all of it comes back.

@@ -5,7 +5,7 @@ ghost use Rattle.std.specs.Arc.{arc_value};
 ghost use Rattle.rep_op.specs.declared.op.Op.{Op};
 ghost use Rattle.rep_model.specs.Held.{IsHeld};
 ghost use Rattle.gw_node.specs.Parts.{state_of};
-ghost use Rattle.gw_shift.specs.declared.shift.TheConstants.{MAX_STEPS};
+ghost use Rattle.gw_shift.specs.declared.shift.TheConstants.{MAX_STEPS, MOST_GLANCED};
 ghost use Rattle.gw_shift.specs.Legal.{IsLegal};
 ghost use Rattle.gw_shift.specs.Passes.{Climb, fresh};
 ghost use Rattle.gw_shift.specs.Calling.{Made, NotMade, MayNotTell};
@@ -19,7 +19,9 @@ use super::gathering::copies;
 use super::locked::Locked;
 use super::pass::{Pass, passes_of};
 use gw_node::{Node, Out, Step};
+use gw_report::Glimpse;
 use jr_journal::Disk;
+use octets::NoMemory;
 use rep_model::Replica;
 use rep_ops::Delta;
 use std::alloc::Global;
@@ -27,6 +29,9 @@ use std::sync::{Arc, Mutex, Wait};
 
 /// The most calls of one shift.
 pub const MAX_STEPS: u64 = 4096;
+
+/// For how many clients the lock is held at most.
+pub const MOST_GLANCED: usize = 32;
 
 /// A node under a lock, with the history of its calls. Threads share it by reference.
 #[derive(Drop)]
@@ -159,6 +164,40 @@ impl<R: Replica, D: Disk + Drop> Shift<R, D> {
             Ok(shares) => Ok(copies(alloc, shares.as_slice())?),
             Err(fault) => Err(fault),
         }
+    }
+
+    /// The clients of the gateway at a glance whose ids are above these octets: the first of them,
+    /// at most so many, and no more than `MOST_GLANCED`. It is no call: nothing stands in the
+    /// history, and no pass is asked for. The lock is held for these clients alone. The contract
+    /// says only how many there are at most;
+    /// `Node::glance` says the rest of the gateway as it was then.
+    pub fn glance(
+        &self,
+        rt: &impl Wait,
+        alloc: Global,
+        above: &[u8],
+        most: usize,
+    ) -> Result<Vec<Glimpse>, NoMemory>
+        ensures few { IfOk result (λ all. length all.items ≤ most) }
+        ensures most { IfOk result (λ all. length all.items ≤ MOST_GLANCED) }
+    {
+        self.locked
+            .lock(rt)
+            .glance(alloc, above, most.min(MOST_GLANCED))
+    }
+
+    /// For each of these clients, how many messages a gateway has put for it, as far as this one
+    /// knows (`Node::messages_known`). It is no call, and the lock is held for these clients alone.
+    pub fn messages_known(
+        &self,
+        rt: &impl Wait,
+        alloc: Global,
+        clients: &[Glimpse],
+        origin: u8,
+    ) -> Result<Vec<u64>, NoMemory>
+        ensures { IfOk result (λ all. length all.items ≡ length clients.now) }
+    {
+        self.locked.lock(rt).messages_known(alloc, clients, origin)
     }
 
     /// Ends the shift: the gateway comes back, with what it had to keep at the opening and the

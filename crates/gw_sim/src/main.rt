@@ -18,12 +18,11 @@ mod rows;
 mod stop;
 mod words;
 
-use crate::rows::play_rows;
+use crate::rows::{play_rows, tell_stop};
 use crate::stop::Stop;
-use crate::words::{Asked, Options, read_words};
-use gw_play::{Counted, Held, play, play_with};
-use gw_random::{Found, Report, random_run};
-use rep_model::Replica;
+use crate::words::{Asked, Form, Options, read_words};
+use gw_play::{Counted, Held, Source, play, play_with};
+use gw_random::{Found, RandomFault, Report, random_run};
 use rep_plain::Plain;
 use std::alloc::Global;
 use std::env::Env;
@@ -37,18 +36,17 @@ fn main(rt: HostRuntime) -> ExitCode {
     let mut out = io::writer(&rt);
     let mut err = io::writer(&errors);
     let status = match asked(&rt, alloc) {
-        Err(stop) => {
-            let _ = writeln!(&mut err, "gw_sim: {stop}");
-            1
+        Ok(Asked::Read(form)) => {
+            play_read(
+                alloc,
+                form,
+                &mut Counted::new(rt.reader()),
+                &mut out,
+                &mut err,
+            )
         }
-        Ok(Asked::Script { plain: false }) => {
-            play(alloc, &mut Counted::new(rt.reader()), &mut out)
-        }
-        Ok(Asked::Script { plain: true }) => {
-            play_with::<Plain, _, _>(alloc, &mut Counted::new(rt.reader()), &mut out)
-        }
-        Ok(Asked::Rows) => play_rows(alloc, &mut Counted::new(rt.reader()), &mut out, &mut err),
         Ok(Asked::Random { plain, options }) => invent(alloc, plain, options, &mut out, &mut err),
+        Err(stop) => tell_stop(stop, &mut err),
     };
     ExitCode::from(status)
 }
@@ -68,6 +66,21 @@ fn given<T: Env>(rt: &T, alloc: Global) -> Result<Vec<String>, Stop> {
     }
 }
 
+/// Plays what a source says. The exit status.
+fn play_read<S: Source, O: Write, E: Write>(
+    alloc: Global,
+    form: Form,
+    source: &mut S,
+    out: &mut O,
+    err: &mut E,
+) -> u8 {
+    match form {
+        Form::Script { plain: false } => play(alloc, source, out),
+        Form::Script { plain: true } => play_with::<Plain, _, _>(alloc, source, out),
+        Form::Rows => play_rows(alloc, source, out, err),
+    }
+}
+
 /// Plays random scripts, and prints what came of them. The exit status is 0 where none differs from
 /// the definitions.
 fn invent<O: Write, E: Write>(
@@ -77,30 +90,27 @@ fn invent<O: Write, E: Write>(
     out: &mut O,
     err: &mut E,
 ) -> u8 {
-    if plain {
-        return invent_with::<Plain, _, _>(alloc, options, out, err);
+    match invented(alloc, plain, options) {
+        Ok(report) => {
+            let status = tell(&report, options, out, err);
+            drop(report);
+            status
+        }
+        Err(fault) => tell_stop(Stop::Seed(fault), err),
     }
-    invent_with::<Held, _, _>(alloc, options, out, err)
 }
 
-/// The same with replicas of a kind.
-fn invent_with<R: Replica, O: Write, E: Write>(
-    alloc: Global,
-    options: Options,
-    out: &mut O,
-    err: &mut E,
-) -> u8 {
+/// What comes of random scripts on plain replicas, or on folded ones.
+fn invented(alloc: Global, plain: bool, options: Options) -> Result<Report, RandomFault> {
     let Options {
         seed,
         events,
         gateways,
     } = options;
-    match random_run::<R>(alloc, seed, events, gateways) {
-        Ok(report) => tell(&report, options, out, err),
-        Err(fault) => {
-            let _ = writeln!(err, "gw_sim: {fault}");
-            1
-        }
+    if plain {
+        random_run::<Plain>(alloc, seed, events, gateways)
+    } else {
+        random_run::<Held>(alloc, seed, events, gateways)
     }
 }
 
@@ -108,7 +118,7 @@ fn invent_with<R: Replica, O: Write, E: Write>(
 /// differs.
 fn tell<O: Write, E: Write>(report: &Report, options: Options, out: &mut O, err: &mut E) -> u8 {
     match &report.found {
-        None => tell_same(report, options, out),
+        None => tell_same(report.events, report.scripts, options, out),
         Some(found) => {
             tell_found(found, options, out, err);
             1
@@ -116,10 +126,9 @@ fn tell<O: Write, E: Write>(report: &Report, options: Options, out: &mut O, err:
     }
 }
 
-/// Prints that nothing differs.
-fn tell_same<O: Write>(report: &Report, options: Options, out: &mut O) -> u8 {
+/// Prints that nothing differs in so many events of so many scripts.
+fn tell_same<O: Write>(events: u64, scripts: u64, options: Options, out: &mut O) -> u8 {
     let Options { seed, gateways, .. } = options;
-    let (events, scripts) = (report.events, report.scripts);
     let line = writeln!(
         out,
         "seed {seed}, events {events}, gateways {gateways}, scripts {scripts}: no difference"

@@ -17,7 +17,7 @@ use gw_random::{Found, Report, random_run};
 use rep_model::Replica;
 use rep_plain::Plain;
 use std::alloc::Global;
-use std::io::{self, Write};
+use std::io::Write;
 
 /// What stands in front of a name.
 const MARK: &str = "== ";
@@ -27,6 +27,9 @@ const NEXT: &str = "\n== ";
 
 /// What a script begins with that stands for scripts from a seed.
 const RANDOM: &str = "random ";
+
+/// What stands in front of what the plain replica prints if that is something else.
+const OTHERWISE: &[u8] = b"the plain replica prints otherwise:\n";
 
 /// Plays all scripts of a text, and prints what came of them once all are played. The exit status
 /// is 0 where the text is one of scripts, whatever came of each of them.
@@ -38,14 +41,24 @@ pub(crate) fn play_rows<S: Source, O: Write, E: Write>(
 ) -> u8 {
     match read_and_play(alloc, source) {
         Ok(printed) => {
-            let written = out.write_all(printed.as_slice());
-            if written.is_ok() { 0 } else { 1 }
+            let status = print(printed.as_slice(), out);
+            drop(printed);
+            status
         }
-        Err(stop) => {
-            let _ = writeln!(err, "gw_sim: {stop}");
-            1
-        }
+        Err(stop) => tell_stop(stop, err),
     }
+}
+
+/// Prints octets. The exit status.
+fn print<O: Write>(octets: &[u8], out: &mut O) -> u8 {
+    let written = out.write_all(octets);
+    if written.is_ok() { 0 } else { 1 }
+}
+
+/// Says why nothing is played. The exit status.
+pub(crate) fn tell_stop<E: Write>(stop: Stop, err: &mut E) -> u8 {
+    let _ = writeln!(err, "gw_sim: {stop}");
+    1
 }
 
 /// What is printed for all scripts of a source.
@@ -63,8 +76,13 @@ fn play_all(alloc: Global, text: &str) -> Result<Vec<u8>, Stop> {
         return Err(Stop::Name);
     };
     let mut printed = Vec::new(alloc);
-    play_each(alloc, scripts, &mut printed)?;
-    Ok(printed)
+    match play_each(alloc, scripts, &mut printed) {
+        Ok(()) => Ok(printed),
+        Err(stop) => {
+            drop(printed);
+            Err(stop)
+        }
+    }
 }
 
 /// Plays these scripts.
@@ -85,66 +103,110 @@ fn play_row(alloc: Global, row: &str, printed: &mut Vec<u8>) -> Result<(), Stop>
     let Some((name, script)) = row.split_once('\n') else {
         return Err(Stop::Name);
     };
-    writeln!(printed, "== {name}")?;
+    if !print_name(name, printed) {
+        return Err(Stop::Memory);
+    }
     match script.strip_prefix(RANDOM) {
         Some(words) => play_random(alloc, words, printed),
         None => play_on_both(alloc, script, printed),
     }
 }
 
+/// Prints the line in front of a script. False if memory ran out.
+fn print_name(name: &str, printed: &mut Vec<u8>) -> bool {
+    writeln!(printed, "== {name}").is_ok()
+}
+
 /// Plays a script on the folded replica, and on the plain one, and prints what comes of it; twice
 /// where these differ.
 fn play_on_both(alloc: Global, script: &str, printed: &mut Vec<u8>) -> Result<(), Stop> {
-    let folded = played::<Held>(alloc, script)?;
-    let plain = played::<Plain>(alloc, script)?;
-    let done = print_both(folded.as_slice(), plain.as_slice(), printed);
-    drop(folded);
+    let mut folded = Vec::new(alloc);
+    let mut plain = Vec::new(alloc);
+    let is_printed = print_played::<Held>(alloc, script, &mut folded)
+        && print_played::<Plain>(alloc, script, &mut plain)
+        && print_both(folded.as_slice(), plain.as_slice(), printed);
     drop(plain);
-    Ok(done?)
+    drop(folded);
+    unless_short(is_printed)
+}
+
+/// Prints what a script prints on a replica, and a line with the exit status. False if memory ran
+/// out.
+fn print_played<R: Replica>(alloc: Global, script: &str, printed: &mut Vec<u8>) -> bool {
+    let status = play_on::<R>(alloc, script, printed);
+    writeln!(printed, "status {status}").is_ok()
+}
+
+/// Plays a script on a replica. The exit status.
+fn play_on<R: Replica>(alloc: Global, script: &str, printed: &mut Vec<u8>) -> u8 {
+    let mut source = Counted::new(script.as_bytes());
+    play_with::<R, _, _>(alloc, &mut source, printed)
 }
 
 /// Prints what the folded replica prints, and what the plain one does where that is something else.
-fn print_both(folded: &[u8], plain: &[u8], printed: &mut Vec<u8>) -> io::Result<()> {
-    printed.write_all(folded)?;
+/// False if memory ran out.
+fn print_both(folded: &[u8], plain: &[u8], printed: &mut Vec<u8>) -> bool {
     if folded == plain {
-        return Ok(());
+        return add(folded, printed);
     }
-    writeln!(printed, "the plain replica prints otherwise:")?;
-    printed.write_all(plain)
+    add(folded, printed) && add(OTHERWISE, printed) && add(plain, printed)
 }
 
-/// What a script prints on a replica, and a line with the exit status.
-fn played<R: Replica>(alloc: Global, script: &str) -> Result<Vec<u8>, Stop> {
-    let mut printed = Vec::new(alloc);
-    let mut source = Counted::new(script.as_bytes());
-    let status = play_with::<R, _, _>(alloc, &mut source, &mut printed);
-    writeln!(&mut printed, "status {status}")?;
-    Ok(printed)
+/// Prints these octets after what is printed. False if memory ran out.
+fn add(octets: &[u8], printed: &mut Vec<u8>) -> bool {
+    printed.extend_from_slice(octets).is_ok()
+}
+
+/// What is printed stands in memory until all scripts are played, so that some of it is missing for
+/// want of memory alone.
+fn unless_short(is_printed: bool) -> Result<(), Stop> {
+    if is_printed {
+        Ok(())
+    } else {
+        Err(Stop::Memory)
+    }
 }
 
 /// Plays scripts from a seed on the folded replica, and prints whether gateways showed what the
 /// definitions say.
 fn play_random(alloc: Global, words: &str, printed: &mut Vec<u8>) -> Result<(), Stop> {
-    let asked = numbers(alloc, words)?;
-    let report = random_run::<Held>(alloc, asked.seed, asked.events, asked.gateways)?;
-    print_report(&report, printed)
+    match numbers(alloc, words) {
+        Ok(asked) => play_asked(alloc, asked, printed),
+        Err(stop) => Err(stop),
+    }
 }
 
-/// Prints a report: one line where nothing differs, else the script, and what differs.
-fn print_report(report: &Report, printed: &mut Vec<u8>) -> Result<(), Stop> {
-    let (events, scripts) = (report.events, report.scripts);
-    let done = match &report.found {
-        None => writeln!(printed, "events {events}, scripts {scripts}: no difference"),
+/// The same of so many events and gateways, from this seed.
+fn play_asked(alloc: Global, asked: Options, printed: &mut Vec<u8>) -> Result<(), Stop> {
+    match random_run::<Held>(alloc, asked.seed, asked.events, asked.gateways) {
+        Ok(report) => {
+            let is_printed = print_report(&report, printed);
+            drop(report);
+            unless_short(is_printed)
+        }
+        Err(fault) => Err(Stop::Seed(fault)),
+    }
+}
+
+/// Prints a report: one line where nothing differs, else the script, and what differs. False if
+/// memory ran out.
+fn print_report(report: &Report, printed: &mut Vec<u8>) -> bool {
+    match &report.found {
+        None => print_same(report.events, report.scripts, printed),
         Some(found) => print_found(found, printed),
-    };
-    Ok(done?)
+    }
 }
 
-/// Prints a script, and what differs.
-fn print_found(found: &Found, printed: &mut Vec<u8>) -> io::Result<()> {
-    printed.write_all(found.script.as_bytes())?;
-    let told = found.told.as_str();
-    writeln!(printed, "{told}")
+/// Prints that nothing differs in so many events of so many scripts. False if memory ran out.
+fn print_same(events: u64, scripts: u64, printed: &mut Vec<u8>) -> bool {
+    writeln!(printed, "events {events}, scripts {scripts}: no difference").is_ok()
+}
+
+/// Prints a script, and what differs. False if memory ran out.
+fn print_found(found: &Found, printed: &mut Vec<u8>) -> bool {
+    add(found.script.as_bytes(), printed)
+        && add(found.told.as_bytes(), printed)
+        && add(b"\n", printed)
 }
 
 /// The seed, the number of events and that of gateways.
@@ -152,15 +214,18 @@ fn numbers(alloc: Global, words: &str) -> Result<Options, Stop> {
     let words: Vec<&str> = words.trim_end().split(' ').collect(alloc)?;
     let options = options_of(words.as_slice());
     drop(words);
-    options
+    match options {
+        Some(options) => Ok(options),
+        None => Err(Stop::Random),
+    }
 }
 
-/// What these words say.
-fn options_of(words: &[&str]) -> Result<Options, Stop> {
+/// What these words say, if they are three numbers.
+fn options_of(words: &[&str]) -> Option<Options> {
     let [seed, events, gateways] = words else {
-        return Err(Stop::Random);
+        return None;
     };
-    Ok(Options {
+    Some(Options {
         seed: number(seed)?,
         events: number(events)?,
         gateways: small_number(gateways)?,
@@ -168,17 +233,17 @@ fn options_of(words: &[&str]) -> Result<Options, Stop> {
 }
 
 /// A number.
-fn number(text: &str) -> Result<u64, Stop> {
+fn number(text: &str) -> Option<u64> {
     match text.parse::<u64>() {
-        Ok(number) => Ok(number),
-        Err(_) => Err(Stop::Random),
+        Ok(number) => Some(number),
+        Err(_) => None,
     }
 }
 
 /// A number below 256.
-fn small_number(text: &str) -> Result<u8, Stop> {
+fn small_number(text: &str) -> Option<u8> {
     match text.parse::<u8>() {
-        Ok(number) => Ok(number),
-        Err(_) => Err(Stop::Random),
+        Ok(number) => Some(number),
+        Err(_) => None,
     }
 }

@@ -3,7 +3,7 @@
 use gw_play::ReadFault;
 use gw_random::RandomFault;
 use std::alloc::AllocError;
-use std::{fmt, io};
+use std::fmt;
 
 /// Why nothing is played.
 #[derive(Clone, Copy)]
@@ -45,22 +45,8 @@ impl From<ReadFault> for Stop {
     }
 }
 
-impl From<RandomFault> for Stop {
-    fn from(fault: RandomFault) -> Stop {
-        Stop::Seed(fault)
-    }
-}
-
 impl From<AllocError> for Stop {
     fn from(_error: AllocError) -> Stop {
-        Stop::Memory
-    }
-}
-
-/// What is printed stands in memory until all scripts are played, so that a write fails for want of
-/// it alone.
-impl From<io::Error> for Stop {
-    fn from(_error: io::Error) -> Stop {
         Stop::Memory
     }
 }

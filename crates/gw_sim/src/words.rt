@@ -3,17 +3,24 @@
 use crate::stop::Stop;
 use clap::error::ErrorKind;
 use clap::{Arg, ArgAction, ArgMatches, Command, Error};
-use std::alloc::{AllocError, Global};
+use std::alloc::Global;
 
 /// What was asked for.
 #[derive(Clone, Copy)]
 pub enum Asked {
-    /// A script from standard input is to be played.
-    Script { plain: bool },
-    /// Many scripts from standard input are to be played, each by itself.
-    Rows,
+    /// What standard input says is to be played.
+    Read(Form),
     /// Scripts are to be made from a seed, and played.
     Random { plain: bool, options: Options },
+}
+
+/// What standard input says.
+#[derive(Clone, Copy)]
+pub enum Form {
+    /// A script.
+    Script { plain: bool },
+    /// Many scripts, each of which is to be played by itself.
+    Rows,
 }
 
 /// What scripts from a seed are made of.
@@ -29,108 +36,179 @@ pub struct Options {
 
 /// Reads the words, the program's name first.
 pub(crate) fn read_words(alloc: Global, words: &[String]) -> Result<Asked, Stop> {
-    let matches = matched(alloc, words)?;
-    Ok(ask_for(&matches))
+    match matched(alloc, words) {
+        Ok(matches) => {
+            let asked = ask_for(&matches);
+            drop(matches);
+            Ok(asked)
+        }
+        Err(stop) => Err(stop),
+    }
 }
 
 /// The words, matched with the command line.
 fn matched<'a>(alloc: Global, words: &'a [String]) -> Result<ArgMatches<'a>, Stop> {
-    match command_line(alloc)?.try_get_matches_from(words) {
+    match command_line(alloc) {
+        Some(command) => matched_with(command, words),
+        None => Err(Stop::Memory),
+    }
+}
+
+/// The words, matched with this command line.
+fn matched_with<'a>(command: Command<'a>, words: &'a [String]) -> Result<ArgMatches<'a>, Stop> {
+    match command.try_get_matches_from(words) {
         Ok(matches) => Ok(matches),
-        Err(error) => Err(reason(&error)),
+        Err(error) => Err(reason(error)),
     }
 }
 
 /// Why words are not matched.
-fn reason(error: &Error) -> Stop {
-    match error.kind() {
-        ErrorKind::OutOfMemory => Stop::Memory,
-        _ => Stop::Words,
+fn reason(error: Error) -> Stop {
+    let is_short = matches!(error.kind(), ErrorKind::OutOfMemory);
+    drop(error);
+    if is_short { Stop::Memory } else { Stop::Words }
+}
+
+/// The command line that the program reads. `None` if memory ran out.
+fn command_line<'a>(alloc: Global) -> Option<Command<'a>> {
+    match all_options(alloc) {
+        Some(options) => with(program(alloc), options),
+        None => None,
     }
 }
 
-/// The command line that the program reads.
-fn command_line<'a>(alloc: Global) -> Result<Command<'a>, AllocError> {
-    let options = all_options(alloc)?;
-    Command::new(alloc, "gw_sim").args(options)
-}
-
-/// All options.
-fn all_options<'a>(alloc: Global) -> Result<Vec<Arg<'a>>, AllocError> {
+/// All options. `None` if memory ran out.
+fn all_options<'a>(alloc: Global) -> Option<Vec<Arg<'a>>> {
     let mut options = Vec::new(alloc);
-    add_options(alloc, &mut options)?;
-    Ok(options)
+    if add_options(alloc, &mut options) {
+        Some(options)
+    } else {
+        drop(options);
+        None
+    }
 }
 
-/// Adds all options.
-fn add_options<'a>(alloc: Global, options: &mut Vec<Arg<'a>>) -> Result<(), AllocError> {
-    add(options, plain(alloc))?;
-    add(options, rows(alloc))?;
-    add(options, seed(alloc))?;
-    add_bounds(alloc, options)
+/// Adds all options. False if memory ran out.
+fn add_options<'a>(alloc: Global, options: &mut Vec<Arg<'a>>) -> bool {
+    add_plain(alloc, options)
+        && add_rows(alloc, options)
+        && add_random(alloc, options)
+        && add_events(alloc, options)
+        && add_gateways(alloc, options)
 }
 
-/// Adds how much there is to be of scripts from a seed.
-fn add_bounds<'a>(alloc: Global, options: &mut Vec<Arg<'a>>) -> Result<(), AllocError> {
-    add(options, events(alloc)?)?;
-    add(options, gateways(alloc)?)
+/// Adds the option `--plain`.
+fn add_plain<'a>(alloc: Global, options: &mut Vec<Arg<'a>>) -> bool {
+    add(options, flag(word(alloc, "plain")))
 }
 
-/// Adds an option.
-fn add<'a>(options: &mut Vec<Arg<'a>>, option: Arg<'a>) -> Result<(), AllocError> {
-    options.push(option)?;
-    Ok(())
+/// Adds the option `--rows`.
+fn add_rows<'a>(alloc: Global, options: &mut Vec<Arg<'a>>) -> bool {
+    add(options, alone(flag(word(alloc, "rows"))))
 }
 
-/// The option `--plain`.
-fn plain<'a>(alloc: Global) -> Arg<'a> {
-    Arg::new(alloc, "plain")
-        .long("plain")
-        .action(ArgAction::SetTrue)
+/// Adds the option `--random`.
+fn add_random<'a>(alloc: Global, options: &mut Vec<Arg<'a>>) -> bool {
+    add(options, seed(valued(word(alloc, "random"))))
 }
 
-/// The option `--rows`.
-fn rows<'a>(alloc: Global) -> Arg<'a> {
-    Arg::new(alloc, "rows")
-        .long("rows")
-        .action(ArgAction::SetTrue)
-        .exclusive(true)
+/// Adds the option `--events`.
+fn add_events<'a>(alloc: Global, options: &mut Vec<Arg<'a>>) -> bool {
+    add_bound(options, events(valued(word(alloc, "events"))))
 }
 
-/// The option `--random`.
-fn seed<'a>(alloc: Global) -> Arg<'a> {
-    Arg::new(alloc, "random")
-        .long("random")
-        .action(ArgAction::Set)
-        .value_parser(clap::value_parser!(u64).range(0..=i64::MAX))
+/// Adds the option `--gateways`.
+fn add_gateways<'a>(alloc: Global, options: &mut Vec<Arg<'a>>) -> bool {
+    add_bound(options, gateways(valued(word(alloc, "gateways"))))
 }
 
-/// The option `--events`.
-fn events<'a>(alloc: Global) -> Result<Arg<'a>, AllocError> {
-    Arg::new(alloc, "events")
-        .long("events")
-        .action(ArgAction::Set)
-        .value_parser(clap::value_parser!(u64).range(1..=1_000_000_000))
-        .requires_arg("random")
+/// Adds an option that says how much there is to be of scripts from a seed.
+fn add_bound<'a>(options: &mut Vec<Arg<'a>>, option: Arg<'a>) -> bool {
+    match beside_random(option) {
+        Some(option) => add(options, option),
+        None => false,
+    }
 }
 
-/// The option `--gateways`.
-fn gateways<'a>(alloc: Global) -> Result<Arg<'a>, AllocError> {
-    Arg::new(alloc, "gateways")
-        .long("gateways")
-        .action(ArgAction::Set)
-        .value_parser(clap::value_parser!(u8).range(1..=8))
-        .requires_arg("random")
+/// Adds an option. False if memory ran out.
+fn add<'a>(options: &mut Vec<Arg<'a>>, option: Arg<'a>) -> bool {
+    let pushed = options.push(option);
+    let is_added = pushed.is_ok();
+    drop(pushed);
+    is_added
+}
+
+/// A word with two hyphens in front.
+fn word<'a>(alloc: Global, name: &'a str) -> Arg<'a> {
+    long(named(alloc, name), name)
+}
+
+// The calls of clap that the command line is made of, each by itself. They say nothing of what they
+// make, so that who calls them carries nothing on.
+
+/// The program, without its options.
+fn program<'a>(alloc: Global) -> Command<'a> {
+    Command::new(alloc, "gw_sim")
+}
+
+/// A command with these options. `None` if memory ran out.
+fn with<'a>(command: Command<'a>, options: Vec<Arg<'a>>) -> Option<Command<'a>> {
+    command.args(options).ok()
+}
+
+/// A word of this name.
+fn named<'a>(alloc: Global, name: &'a str) -> Arg<'a> {
+    Arg::new(alloc, name)
+}
+
+/// A word that stands there by this name.
+fn long<'a>(arg: Arg<'a>, name: &'a str) -> Arg<'a> {
+    arg.long(name)
+}
+
+/// A word that is there or not.
+fn flag<'a>(arg: Arg<'a>) -> Arg<'a> {
+    arg.action(ArgAction::SetTrue)
+}
+
+/// A word with a value.
+fn valued<'a>(arg: Arg<'a>) -> Arg<'a> {
+    arg.action(ArgAction::Set)
+}
+
+/// A word that nothing may stand beside.
+fn alone<'a>(arg: Arg<'a>) -> Arg<'a> {
+    arg.exclusive(true)
+}
+
+/// A word that may stand only beside `--random`. `None` if memory ran out.
+fn beside_random<'a>(arg: Arg<'a>) -> Option<Arg<'a>> {
+    arg.requires_arg("random").ok()
+}
+
+/// What scripts are made from.
+fn seed<'a>(arg: Arg<'a>) -> Arg<'a> {
+    arg.value_parser(clap::value_parser!(u64).range(0..=i64::MAX))
+}
+
+/// A number of events.
+fn events<'a>(arg: Arg<'a>) -> Arg<'a> {
+    arg.value_parser(clap::value_parser!(u64).range(1..=1_000_000_000))
+}
+
+/// A number of gateways.
+fn gateways<'a>(arg: Arg<'a>) -> Arg<'a> {
+    arg.value_parser(clap::value_parser!(u8).range(1..=8))
 }
 
 /// What the words ask for.
 fn ask_for(matches: &ArgMatches) -> Asked {
     if matches.get_flag("rows") {
-        return Asked::Rows;
+        return Asked::Read(Form::Rows);
     }
     let plain = matches.get_flag("plain");
     let Some(seed) = matches.get_one::<u64>("random") else {
-        return Asked::Script { plain };
+        return Asked::Read(Form::Script { plain });
     };
     Asked::Random {
         plain,

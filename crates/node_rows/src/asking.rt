@@ -17,11 +17,7 @@ use sn_topic::TopicName;
 pub(crate) fn ask<R: Replica>(page: &mut Page, node: &mut Node<R, MemoryDisk>, words: &mut Words) {
     match words.word() {
         "retained" => ask_retained(page, node, words),
-        "digest" => ask_step(page, node, Step::Digest, words),
-        what => {
-            words.require(what == "answer");
-            ask_step(page, node, answer_step(words), words)
-        }
+        what => ask_step(page, node, what, words),
     }
 }
 
@@ -46,6 +42,17 @@ fn print_all(page: &mut Page, all: &[(TopicName, Retained)]) {
     }
 }
 
+/// The call that asks for what a word says.
+fn step_of(what: &str, words: &mut Words) -> Step {
+    match what {
+        "digest" => Step::Digest,
+        what => {
+            words.require(what == "answer");
+            answer_step(words)
+        }
+    }
+}
+
 /// The call for an answer to the digest that the words spell.
 fn answer_step(words: &mut Words) -> Step {
     match words.digest() {
@@ -58,15 +65,21 @@ fn answer_step(words: &mut Words) -> Step {
 fn ask_step<R: Replica>(
     page: &mut Page,
     node: &mut Node<R, MemoryDisk>,
-    step: Step,
+    what: &str,
     words: &mut Words,
 ) {
+    let step = step_of(what, words);
     if words.end(page) {
-        let answer = call(page.alloc(), node, &step);
-        print_said(page, &answer, node.starved());
-        drop(answer);
+        make(page, node, &step);
     }
     drop(step);
+}
+
+/// Makes a call of the gateway, and prints what it says.
+fn make<R: Replica>(page: &mut Page, node: &mut Node<R, MemoryDisk>, step: &Step) {
+    let answer = call(page.alloc(), node, step);
+    print_said(page, &answer, node.starved());
+    drop(answer);
 }
 
 /// What a gateway said.

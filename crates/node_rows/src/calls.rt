@@ -2,13 +2,13 @@
 //! in view of who makes the call, and no row needs it.
 
 use gw_node::{Answer, Node, NodeFault, Step};
+use gw_report::Glimpse;
 use gw_shift::{CallFault, CloseFault, Closed, Ended, Pass, Shift};
 use jr_journal::{Disk, Journal, JournalFault, MemoryDisk, Slot};
 use octets::{NoMemory, Sequence};
 use rep_digest::Digest;
 use rep_model::{Replica, TakeFault};
 use rep_ops::{ClientId, Delta, Op, OpsFault, Retained};
-use rep_plain::Plain;
 use sn_frame::{Frame, FrameFault};
 use sn_local::{Addr, Config};
 use sn_topic::{Predefined, TopicName};
@@ -17,8 +17,17 @@ use std::sync::{Arc, Wait};
 
 /// The client of this name: a copy of it, so that a row that names a client runs that call too.
 pub(crate) fn read_client(alloc: Global, name: &[u8]) -> Result<ClientId, OpsFault> {
-    let client = ClientId::new(alloc, name)?;
-    client.copy(alloc)
+    match ClientId::new(alloc, name) {
+        Ok(client) => copied(alloc, client),
+        Err(fault) => Err(fault),
+    }
+}
+
+/// A copy of a client in its place.
+fn copied(alloc: Global, client: ClientId) -> Result<ClientId, OpsFault> {
+    let copy = client.copy(alloc);
+    drop(client);
+    copy
 }
 
 /// The delta that octets spell.
@@ -63,23 +72,46 @@ pub(crate) fn told(
     advertise: u16,
     field: Sequence<Addr>,
 ) -> Option<Config> {
-    let predefined = no_predefined(alloc)?;
-    let config = Config {
-        gateway,
-        advertise,
-        field,
-        predefined,
-    };
-    config.copy(alloc).ok()
+    match no_predefined(alloc) {
+        Some(predefined) => {
+            let config = Config {
+                gateway,
+                advertise,
+                field,
+                predefined,
+            };
+            told_again(alloc, config)
+        }
+        None => {
+            drop(field);
+            None
+        }
+    }
+}
+
+/// A copy of what a gateway is told in its place; nothing if memory ran out.
+fn told_again(alloc: Global, config: Config) -> Option<Config> {
+    let copy = config.copy(alloc).ok();
+    drop(config);
+    copy
 }
 
 /// The octets that stand in a slot; nothing if memory ran out.
 pub(crate) fn slot_octets(alloc: Global, disk: &mut MemoryDisk, slot: Slot) -> Option<Vec<u8>> {
     let size = disk.len(slot).ok()?;
-    let mut octets = vec![in alloc; 0u8; size].ok()?;
+    let octets = vec![in alloc; 0u8; size].ok()?;
+    filled(disk, slot, octets)
+}
+
+/// The octets from the beginning of a slot on, in place of these.
+fn filled(disk: &mut MemoryDisk, slot: Slot, octets: Vec<u8>) -> Option<Vec<u8>> {
+    let mut octets = octets;
     match disk.read_at(slot, 0, &mut octets) {
         Ok(()) => Some(octets),
-        Err(_) => None,
+        Err(_) => {
+            drop(octets);
+            None
+        }
     }
 }
 
@@ -156,6 +188,25 @@ pub(crate) fn clients<R: Replica>(
     node.clients(alloc)
 }
 
+/// The clients above these octets at a glance, at most so many.
+pub(crate) fn glimpses<R: Replica>(
+    alloc: Global,
+    node: &Node<R, MemoryDisk>,
+    above: &[u8],
+    most: usize,
+) -> Result<Vec<Glimpse>, NoMemory> {
+    node.glance(alloc, above, most)
+}
+
+/// How many messages of a gateway are known for a client.
+pub(crate) fn messages_known<R: Replica>(
+    node: &Node<R, MemoryDisk>,
+    client: &ClientId,
+    origin: u8,
+) -> u64 {
+    node.messages_known(client, origin)
+}
+
 /// The deltas of the calls of a shift above a number, at most so many.
 pub(crate) fn after<W: Wait, R: Replica>(
     rt: &W,
@@ -166,6 +217,17 @@ pub(crate) fn after<W: Wait, R: Replica>(
     most: usize,
 ) -> Result<Vec<(u64, Delta)>, CallFault> {
     shift.after(rt, alloc, pass, number, most)
+}
+
+/// A call to be shared; nothing if memory ran out.
+pub(crate) fn shared_step(alloc: Global, step: Step) -> Option<Arc<Step>> {
+    match Arc::new(alloc, step) {
+        Ok(shared) => Some(shared),
+        Err(refused) => {
+            drop(refused);
+            None
+        }
+    }
 }
 
 /// A shift is over.
@@ -200,31 +262,35 @@ pub(crate) fn append(
 }
 
 /// A replica takes a delta.
-pub(crate) fn take_delta(
+pub(crate) fn take_delta<R: Replica>(
     alloc: Global,
-    replica: &mut Plain,
+    replica: &mut R,
     delta: &Delta,
 ) -> Result<(), TakeFault> {
-    let staged = replica.prepare(alloc, delta)?;
-    replica.commit(staged);
-    Ok(())
+    match replica.prepare(alloc, delta) {
+        Ok(staged) => {
+            replica.commit(staged);
+            Ok(())
+        }
+        Err(fault) => Err(fault),
+    }
 }
 
 /// The digest of what a replica has.
-pub(crate) fn digest_of(alloc: Global, replica: &Plain) -> Result<Digest, OpsFault> {
+pub(crate) fn digest_of<R: Replica>(alloc: Global, replica: &R) -> Result<Digest, OpsFault> {
     rep_digest::digest_of(alloc, replica)
 }
 
 /// A replica's answer to a digest.
-pub(crate) fn answer_to(
+pub(crate) fn answer_to<R: Replica>(
     alloc: Global,
-    replica: &Plain,
+    replica: &R,
     asked: &Digest,
 ) -> Result<Vec<Delta>, OpsFault> {
     rep_answer::answer(alloc, replica, asked)
 }
 
 /// All that a replica holds; nothing if memory ran out.
-pub(crate) fn held_by(alloc: Global, replica: &Plain) -> Option<Vec<Delta>> {
+pub(crate) fn held_by<R: Replica>(alloc: Global, replica: &R) -> Option<Vec<Delta>> {
     replica.held(alloc).ok()
 }

@@ -84,19 +84,33 @@ fn play_view(page: &mut Page, peer: &Peer, view: &Option<ClientView>, first: &st
 
 /// Plays a line about a client of this session.
 fn play_session(page: &mut Page, peer: &Peer, view: &ClientView, first: &str, octets: &[u8]) {
+    match &view.session {
+        Some(session) => play_pending(page, peer, session, view.pending.as_slice(), first, octets),
+        None => page.stop(Stop::Line),
+    }
+}
+
+/// Plays a line about a client of this session, for which these messages wait.
+fn play_pending(
+    page: &mut Page,
+    peer: &Peer,
+    session: &Session,
+    pending: &[Put],
+    first: &str,
+    octets: &[u8],
+) {
     let predefined = no_predefined(page.alloc());
-    match (&view.session, &predefined) {
-        (Some(session), Some(predefined)) => {
+    match &predefined {
+        Some(predefined) => {
             let visit = Visit {
                 predefined,
                 peer,
                 session,
-                pending: view.pending.as_slice(),
+                pending,
             };
             play_visit(page, &visit, first, octets);
         }
-        (Some(_), None) => page.stop(Stop::Memory),
-        (None, _) => page.stop(Stop::Line),
+        None => page.stop(Stop::Memory),
     }
     drop(predefined);
 }

@@ -30,12 +30,33 @@ impl<R: Replica> Store<R> {
         }
     }
 
-    /// The disk; a gateway that is open on it is closed.
-    fn closed(&mut self) -> &mut MemoryDisk {
-        if let Some(node) = self.node.take() {
-            self.disk = node.into_disk();
+    /// Takes the gateway that is open.
+    pub(crate) fn taken(&mut self) -> Option<Node<R, MemoryDisk>> {
+        self.node.take()
+    }
+
+    /// The gateway that is open is this one.
+    pub(crate) fn hold(&mut self, node: Node<R, MemoryDisk>) {
+        drop(mem::replace(&mut self.node, Some(node)));
+    }
+
+    /// Closes the gateway that is open.
+    fn close(&mut self) {
+        match self.taken() {
+            Some(node) => self.keep(node.into_disk()),
+            None => {}
         }
-        &mut self.disk
+    }
+
+    /// Takes the disk, and an empty one is there; a gateway that is open on it is closed.
+    fn take_disk(&mut self, alloc: Global) -> MemoryDisk {
+        self.close();
+        mem::replace(&mut self.disk, MemoryDisk::new(alloc))
+    }
+
+    /// Keeps a disk in place of the one that is there.
+    fn keep(&mut self, disk: MemoryDisk) {
+        drop(mem::replace(&mut self.disk, disk));
     }
 }
 
@@ -43,10 +64,17 @@ impl<R: Replica> Store<R> {
 pub(crate) fn open<R: Replica>(page: &mut Page, store: &mut Store<R>, words: &mut Words) {
     let config = config(words);
     if words.end(page) {
-        match config {
-            Some(config) => start(page, store, config),
-            None => page.stop(Stop::Memory),
-        }
+        start(page, store, config);
+    } else {
+        drop(config);
+    }
+}
+
+/// Opens a gateway that is told this, in place of the one that is open.
+fn start<R: Replica>(page: &mut Page, store: &mut Store<R>, config: Option<Config>) {
+    match config {
+        Some(config) => start_with(page, store, config),
+        None => page.stop(Stop::Memory),
     }
 }
 
@@ -64,20 +92,33 @@ fn config(words: &mut Words) -> Option<Config> {
 }
 
 /// Opens a gateway on the disk, and prints the records that it read, or the number of its refusal.
-fn start<R: Replica>(page: &mut Page, store: &mut Store<R>, config: Config) {
-    let disk = mem::replace(store.closed(), MemoryDisk::new(page.alloc()));
+fn start_with<R: Replica>(page: &mut Page, store: &mut Store<R>, config: Config) {
+    let disk = store.take_disk(page.alloc());
     match open_node(page.alloc(), config, disk) {
-        Ok(node) => {
-            page.number("records ", node.records());
-            page.end();
-            store.node = Some(node);
-        }
-        Err((disk, fault)) => {
-            print_refused(page, &fault, disk.starved());
-            drop(fault);
-            store.disk = disk;
-        }
+        Ok(node) => started(page, store, node),
+        Err((disk, fault)) => not_started(page, store, disk, fault),
     }
+}
+
+/// Prints the records that a gateway read, which is open from here on.
+fn started<R: Replica>(page: &mut Page, store: &mut Store<R>, node: Node<R, MemoryDisk>) {
+    let records = node.records();
+    store.hold(node);
+    page.number("records ", records);
+    page.end();
+}
+
+/// Prints the number of a refusal, with which the disk came back.
+fn not_started<R: Replica>(
+    page: &mut Page,
+    store: &mut Store<R>,
+    disk: MemoryDisk,
+    fault: NodeFault,
+) {
+    let is_starved = disk.starved();
+    store.keep(disk);
+    print_refused(page, &fault, is_starved);
+    drop(fault);
 }
 
 /// The number of a refused opening.
@@ -92,23 +133,27 @@ pub(crate) fn fail<R: Replica>(page: &mut Page, store: &mut Store<R>, words: &mu
     let is_sync = words.takes("sync");
     let far = if is_sync { 0 } else { words.count() };
     if words.end(page) {
-        store.closed().fail_next(far, is_sync);
+        store.close();
+        store.disk.fail_next(far, is_sync);
     }
 }
 
 /// `slots`: the octets of both slots.
 pub(crate) fn slots<R: Replica>(page: &mut Page, store: &mut Store<R>, words: &mut Words) {
     if words.end(page) {
-        let disk = store.closed();
-        print_slot(page, disk, "first ", Slot::First);
-        print_slot(page, disk, "second ", Slot::Second);
+        store.close();
+        print_slot(page, &mut store.disk, "first ", Slot::First);
+        print_slot(page, &mut store.disk, "second ", Slot::Second);
     }
 }
 
 /// The octets of a slot.
 fn print_slot(page: &mut Page, disk: &mut MemoryDisk, text: &str, slot: Slot) {
     match slot_octets(page.alloc(), disk, slot) {
-        Some(octets) => print_octets(page, text, &octets),
+        Some(octets) => {
+            print_octets(page, text, &octets);
+            drop(octets);
+        }
         None => page.stop(Stop::Memory),
     }
 }
@@ -120,7 +165,10 @@ pub(crate) fn state<R: Replica>(page: &mut Page, node: &Node<R, MemoryDisk>, wor
         page.number("records ", node.records());
         page.shown(", halted: ", &node.is_halted());
         match clients(page.alloc(), node) {
-            Ok(clients) => print_length(page, ", clients ", clients.len()),
+            Ok(clients) => {
+                print_length(page, ", clients ", clients.len());
+                drop(clients);
+            }
             Err(_) => page.stop(Stop::Memory),
         }
     }

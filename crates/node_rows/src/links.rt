@@ -38,6 +38,7 @@ pub(crate) fn digest(page: &mut Page, words: &mut Words) {
     if words.end(page) {
         print_spelled(page, &octets);
     }
+    drop(octets);
 }
 
 /// `beginnings OCTETS ..`: the same of each beginning of them but the whole.
@@ -46,6 +47,7 @@ pub(crate) fn beginnings(page: &mut Page, words: &mut Words) {
     if words.end(page) {
         print_beginnings(page, &octets);
     }
+    drop(octets);
 }
 
 /// The digests that the beginnings of octets spell.
@@ -149,6 +151,7 @@ pub(crate) fn feed(page: &mut Page, link: &mut LinkIn, words: &mut Words) {
     if words.end(page) {
         print_piece(page, link, &octets);
     }
+    drop(octets);
 }
 
 /// What these octets give where they come in.

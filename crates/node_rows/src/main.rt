@@ -29,6 +29,8 @@
 //!   sync fails.
 //! - `slots`: the octets of both slots.
 //! - `state`: the records of its opening, whether it has halted, and how many clients it knows.
+//! - `glance MOST OCTETS ..`: the clients above these octets at a glance, at most so many.
+//! - `known CLIENT GATEWAY`: how many messages of a gateway are known for a client.
 //!
 //! Calls of the gateway, each with its answer:
 //!
@@ -96,15 +98,19 @@
 //! - `close PLACE ..`: it is closed with the passes at these places: how many calls it has, and the
 //!   gateway is open again. If it is refused, the passes sit down behind the others.
 //!
-//! Behind the heading `=== benchmarks` each line is a work; the head of `works.rt` has them.
+//! After the heading `=== wires` rows are of settings, of serving and of links; the head of
+//! `wires.rt` has their words.
+//!
+//! After the heading `=== benchmarks` each line is a work; the head of `works.rt` has them.
 //!
 //! The files:
 //!
 //! - `row`: what the lines of a row have brought about (`Row`), and the play of one more.
 //! - `words`, `names`: lines that are read, by a cursor over their words.
 //! - `page`, `printing`, `passing`: what is printed, and why no more is.
-//! - `gateways`, `steps`, `asking`, `deliveries`, `links`: lines that are played on both replicas.
-//! - `shifts`, `works`: those that are played once.
+//! - `gateways`, `steps`, `asking`, `glances`, `deliveries`, `links`: lines that are played on both
+//!   replicas.
+//! - `shifts`, `wires`, `works`: those that are played once.
 //! - `seats`: passes in their seats, and calls by threads.
 //! - `calls`: calls of the libraries.
 //! - `stop`: why a line is not played.
@@ -114,6 +120,7 @@ mod asking;
 mod calls;
 mod deliveries;
 mod gateways;
+mod glances;
 mod links;
 mod names;
 mod page;
@@ -124,6 +131,7 @@ mod seats;
 mod shifts;
 mod steps;
 mod stop;
+mod wires;
 mod words;
 mod works;
 
@@ -137,7 +145,10 @@ use rep_model::Replica;
 use rep_plain::Plain;
 use rep_state::Folded;
 use std::alloc::{AllocError, Global};
+use std::fs::{File, Files};
 use std::io::{self, Input, Write};
+use std::mem;
+use std::net::Net;
 use std::process::ExitCode;
 use std::sync::Wait;
 use std::thread::Threads;
@@ -150,6 +161,8 @@ enum Part {
     Rows,
     /// These, and lines about shifts.
     Shifts,
+    /// Lines about settings, serving and links.
+    Wires,
     /// Works of the benchmarks.
     Works,
 }
@@ -159,18 +172,32 @@ enum Part {
 struct Play<R: Replica> {
     part: Part,
     names: Names,
+    begun: Begun<R>,
+}
+
+/// What the lines of the row that has begun have brought about.
+#[derive(Drop)]
+struct Begun<R: Replica> {
     row: Row<R>,
     shifts: Shifts<R>,
+    wires: wires::row::Row,
 }
 
 fn main(rt: HostRuntime) -> ExitCode {
     let mut page = Page::new(rt.alloc());
     play_input(&rt, &mut page);
     write(&rt, &mut page);
-    match page.reason() {
+    let reason = page.reason();
+    drop(page);
+    end(&rt, reason)
+}
+
+/// The status to end with. Tells the reason, if there is one.
+fn end<T: Eprint>(rt: &T, reason: Option<Stop>) -> ExitCode {
+    match reason {
         None => ExitCode::SUCCESS,
         Some(stop) => {
-            let _ = eprintln!(&rt; "node_rows: {stop}");
+            let _ = eprintln!(rt; "node_rows: {stop}");
             ExitCode::FAILURE
         }
     }
@@ -179,29 +206,46 @@ fn main(rt: HostRuntime) -> ExitCode {
 /// Plays all lines of standard input.
 fn play_input<T>(rt: &T, page: &mut Page)
 where
-    T: Threads + Wait + Sync + Clock + Input + Eprint + AllocGlobal,
+    T: Threads + Wait + Sync + Clock + Net + Files<File = File> + Input + Eprint + AllocGlobal,
 {
     let mut lines = Vec::new(rt.alloc());
     match read_lines(rt, &mut lines) {
         Ok(()) => play_parts(rt, page, lines.as_slice()),
         Err(stop) => page.stop(stop),
     }
+    drop(lines);
 }
 
 /// The lines of standard input.
 fn read_lines<T: Input + AllocGlobal>(rt: &T, lines: &mut Vec<String>) -> Result<(), Stop> {
+    let mut read = Ok(());
     for line in rt.lines(rt.alloc()) {
-        read_line(lines, line)?;
+        read = read_line(lines, line);
+        if read.is_err() {
+            break;
+        }
     }
-    Ok(())
+    read
 }
 
 /// A line after those that are there.
 fn read_line(lines: &mut Vec<String>, line: io::Result<String>) -> Result<(), Stop> {
     match line {
-        Ok(line) => lines.push(line).map_err(|_| Stop::Memory),
-        Err(error) => Err(broken(&error)),
+        Ok(line) => push(lines, line),
+        Err(error) => {
+            let stop = broken(&error);
+            drop(error);
+            Err(stop)
+        }
     }
+}
+
+/// Adds a line.
+fn push(lines: &mut Vec<String>, line: String) -> Result<(), Stop> {
+    let pushed = lines.push(line);
+    let is_short = pushed.is_err();
+    drop(pushed);
+    if is_short { Err(Stop::Memory) } else { Ok(()) }
 }
 
 /// Writes the page, unless something else than a line ended the play.
@@ -211,6 +255,7 @@ fn write<T: Print>(rt: &T, page: &mut Page) {
         if let Err(error) = &written {
             page.stop(broken(error));
         }
+        drop(written);
     }
 }
 
@@ -218,7 +263,7 @@ fn write<T: Print>(rt: &T, page: &mut Page) {
 /// it on once.
 fn play_parts<T>(rt: &T, page: &mut Page, lines: &[String])
 where
-    T: Threads + Wait + Sync + Clock + Eprint + AllocGlobal,
+    T: Threads + Wait + Sync + Clock + Net + Files<File = File> + Eprint + AllocGlobal,
 {
     let (rows, others) = lines.split_at(front(lines).min(lines.len()));
     if !rows.is_empty() {
@@ -241,11 +286,17 @@ fn front(lines: &[String]) -> usize {
 /// so; where it is not, what each prints.
 fn play_both<T>(rt: &T, page: &mut Page, lines: &[String])
 where
-    T: Threads + Wait + Sync + Clock + Eprint + AllocGlobal,
+    T: Threads + Wait + Sync + Clock + Net + Files<File = File> + Eprint + AllocGlobal,
 {
     let mut plain = Page::new(rt.alloc());
     play_lines::<T, Folded>(rt, page, lines);
     play_lines::<T, Plain>(rt, &mut plain, lines);
+    compare(page, &plain);
+    drop(plain);
+}
+
+/// Whether the page of the plain replica is another one.
+fn compare(page: &mut Page, plain: &Page) {
     if let Some(reason) = plain.reason() {
         page.stop(reason);
     }
@@ -265,17 +316,28 @@ fn print_difference(page: &mut Page, plain: &str) {
 /// Plays lines on a replica, one after the other, until something else than a line ends the play.
 fn play_lines<T, R>(rt: &T, page: &mut Page, lines: &[String])
 where
-    T: Threads + Wait + Sync + Clock + Eprint + AllocGlobal,
+    T: Threads + Wait + Sync + Clock + Net + Files<File = File> + Eprint + AllocGlobal,
     R: Replica + Send,
     R::Staged: Send,
 {
     let mut play: Play<R> = begin(rt.alloc());
+    play_all(rt, page, &mut play, lines);
+    leave(page, &mut play.begun.shifts);
+    drop(play);
+}
+
+/// Plays lines, one after the other, until something else than a line ends the play.
+fn play_all<T, R>(rt: &T, page: &mut Page, play: &mut Play<R>, lines: &[String])
+where
+    T: Threads + Wait + Sync + Clock + Net + Files<File = File> + Eprint + AllocGlobal,
+    R: Replica + Send,
+    R::Staged: Send,
+{
     for line in lines {
         if page.reason().is_none() {
-            answer(rt, page, &mut play, line.as_str());
+            answer(rt, page, play, line.as_str());
         }
     }
-    leave(page, &mut play.shifts);
 }
 
 /// No line has brought anything about.
@@ -283,31 +345,48 @@ fn begin<R: Replica>(alloc: Global) -> Play<R> {
     Play {
         part: Part::Rows,
         names: Names::new(alloc),
+        begun: blank(alloc),
+    }
+}
+
+/// No line of a row has brought anything about.
+fn blank<R: Replica>(alloc: Global) -> Begun<R> {
+    Begun {
         row: Row::new(alloc),
         shifts: Shifts::new(alloc),
+        wires: wires::row::Row::new(alloc),
     }
 }
 
 /// Plays a line; empty ones and explanations say nothing.
 fn answer<T, R>(rt: &T, page: &mut Page, play: &mut Play<R>, line: &str)
 where
-    T: Threads + Wait + Sync + Clock + Eprint + AllocGlobal,
+    T: Threads + Wait + Sync + Clock + Net + Files<File = File> + Eprint + AllocGlobal,
     R: Replica + Send,
     R::Staged: Send,
 {
-    if !line.is_empty() && !line.starts_with('#') {
+    if !is_silent(line) {
         match line.strip_prefix("== ") {
-            Some(name) => begin_row(page, play, name),
+            Some(name) => begin_row(page, &mut play.begun, name),
             None => answer_words(rt, page, play, line),
         }
     }
 }
 
+/// Whether a line says nothing.
+fn is_silent(line: &str) -> bool {
+    line.is_empty() || line.starts_with('#')
+}
+
 /// A row of this name begins.
-fn begin_row<R: Replica>(page: &mut Page, play: &mut Play<R>, name: &str) {
-    leave(page, &mut play.shifts);
-    play.row = Row::new(page.alloc());
-    play.shifts = Shifts::new(page.alloc());
+fn begin_row<R: Replica>(page: &mut Page, begun: &mut Begun<R>, name: &str) {
+    leave(page, &mut begun.shifts);
+    drop(mem::replace(begun, blank(page.alloc())));
+    print_name(page, name);
+}
+
+/// Prints the name of a row.
+fn print_name(page: &mut Page, name: &str) {
     page.text("== ");
     page.text(name);
     page.end();
@@ -316,61 +395,109 @@ fn begin_row<R: Replica>(page: &mut Page, play: &mut Play<R>, name: &str) {
 /// Plays a heading or a line of words; tells a line that is none of the language.
 fn answer_words<T, R>(rt: &T, page: &mut Page, play: &mut Play<R>, line: &str)
 where
-    T: Threads + Wait + Sync + Clock + Eprint + AllocGlobal,
+    T: Threads + Wait + Sync + Clock + Net + Files<File = File> + Eprint + AllocGlobal,
     R: Replica + Send,
     R::Staged: Send,
 {
-    match line {
-        "=== shifts" => play.part = Part::Shifts,
-        "=== benchmarks" => play.part = Part::Works,
-        line => play_words(rt, page, play, line),
+    match heading(line) {
+        Some(part) => play.part = part,
+        None => play_text(rt, page, play, line),
     }
     if page.forgive() {
-        page.text("no such line: ");
-        page.text(line);
-        page.end();
+        print_refused(page, line);
+    }
+}
+
+/// The part after a heading, if a line is one.
+fn heading(line: &str) -> Option<Part> {
+    match line {
+        "=== shifts" => Some(Part::Shifts),
+        "=== wires" => Some(Part::Wires),
+        "=== benchmarks" => Some(Part::Works),
+        _ => None,
+    }
+}
+
+/// Tells a line that is none of the language.
+fn print_refused(page: &mut Page, line: &str) {
+    page.text("no such line: ");
+    page.text(line);
+    page.end();
+}
+
+/// Plays a line of the text of settings, or one of words.
+fn play_text<T, R>(rt: &T, page: &mut Page, play: &mut Play<R>, line: &str)
+where
+    T: Threads + Wait + Sync + Clock + Net + Files<File = File> + Eprint + AllocGlobal,
+    R: Replica + Send,
+    R::Staged: Send,
+{
+    match line.strip_prefix("toml ") {
+        Some(more) => wires::add(page, &mut play.begun.wires, more),
+        None => play_words(rt, page, play, line),
     }
 }
 
 /// Plays a line of words.
 fn play_words<T, R>(rt: &T, page: &mut Page, play: &mut Play<R>, line: &str)
 where
-    T: Threads + Wait + Sync + Clock + Eprint + AllocGlobal,
+    T: Threads + Wait + Sync + Clock + Net + Files<File = File> + Eprint + AllocGlobal,
     R: Replica + Send,
     R::Staged: Send,
 {
-    let words: Result<Vec<&str>, AllocError> = line.split(' ').collect(page.alloc());
+    let words = words_of(page.alloc(), line);
     match &words {
         Ok(words) => play_line(rt, page, play, words.as_slice()),
         Err(_) => page.stop(Stop::Memory),
     }
+    drop(words);
+}
+
+/// The words of a line.
+fn words_of(alloc: Global, line: &str) -> Result<Vec<&str>, AllocError> {
+    line.split(' ').collect(alloc)
 }
 
 /// Plays a line that is about names, or one of the part.
 fn play_line<T, R>(rt: &T, page: &mut Page, play: &mut Play<R>, words: &[&str])
 where
-    T: Threads + Wait + Sync + Clock + Eprint + AllocGlobal,
+    T: Threads + Wait + Sync + Clock + Net + Files<File = File> + Eprint + AllocGlobal,
     R: Replica + Send,
     R::Staged: Send,
 {
+    if !play_name(page, &mut play.names, words) {
+        let mut words = Words::new(rt.alloc(), &play.names, words);
+        play_part(rt, page, play.part, &mut play.begun, &mut words);
+    }
+}
+
+/// Plays a line if it is about names. Whether it is.
+fn play_name(page: &mut Page, names: &mut Names, words: &[&str]) -> bool {
     match words {
-        ["name", fields @ ..] => add(page, &mut play.names, fields),
-        ["repeat", fields @ ..] => repeat(page, &mut play.names, fields),
-        words => {
-            let mut words = Words::new(rt.alloc(), &play.names, words);
-            let first = words.word();
-            match play.part {
-                Part::Rows => row::play(page, &mut play.row, first, &mut words),
-                Part::Shifts => shifts::play(
-                    rt,
-                    page,
-                    &mut play.row,
-                    &mut play.shifts,
-                    first,
-                    &mut words,
-                ),
-                Part::Works => works::play(rt, page, first, &mut words),
-            }
+        ["name", fields @ ..] => {
+            add(page, names, fields);
+            true
         }
+        ["repeat", fields @ ..] => {
+            repeat(page, names, fields);
+            true
+        }
+        _ => false,
+    }
+}
+
+/// Plays a line of a part.
+fn play_part<T, R>(rt: &T, page: &mut Page, part: Part, begun: &mut Begun<R>, words: &mut Words)
+where
+    T: Threads + Wait + Sync + Clock + Net + Files<File = File> + Eprint + AllocGlobal,
+    R: Replica + Send,
+    R::Staged: Send,
+{
+    let first = words.word();
+    match part {
+        Part::Rows => row::play(page, &mut begun.row, first, words),
+        Part::Shifts => shifts::play(rt, page, &mut begun.row, &mut begun.shifts, first, words),
+        Part::Wires => wires::row::play(rt, page, &mut begun.wires, first, words),
+        Part::Works => works::play(rt, page, first, words),
     }
 }

@@ -44,18 +44,28 @@ pub(crate) fn add(page: &mut Page, names: &mut Names, fields: &[&str]) {
     let octets = words.octets();
     if words.end(page) {
         keep(page, names, name, octets);
+    } else {
+        drop(octets);
     }
 }
 
 /// From here on the name is these octets.
 fn keep(page: &mut Page, names: &mut Names, name: &str, octets: Vec<u8>) {
     match String::from_str(page.alloc(), name) {
-        Ok(name) => {
-            let is_short = names.all.push(Named { name, octets }).is_err();
-            page.stop_if_short(is_short);
+        Ok(name) => push(page, names, Named { name, octets }),
+        Err(_) => {
+            drop(octets);
+            page.stop(Stop::Memory);
         }
-        Err(_) => page.stop(Stop::Memory),
     }
+}
+
+/// One more name.
+fn push(page: &mut Page, names: &mut Names, named: Named) {
+    let pushed = names.all.push(named);
+    let is_short = pushed.is_err();
+    drop(pushed);
+    page.stop_if_short(is_short);
 }
 
 /// `repeat COUNT OCTETS ..`: these stand after the octets of the latest name so many times.
@@ -66,6 +76,7 @@ pub(crate) fn repeat(page: &mut Page, names: &mut Names, fields: &[&str]) {
     if words.end(page) {
         extend_latest(page, names, &octets);
     }
+    drop(octets);
 }
 
 /// Puts octets after those of the latest name.

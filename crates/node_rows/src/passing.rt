@@ -88,9 +88,10 @@ fn print_numbers(page: &mut Page, first: u64, second: u64, other: u64) {
 }
 
 /// How many deltas calls made, or why that is not told.
-pub(crate) fn print_made(page: &mut Page, made: &Result<Vec<(u64, Delta)>, CallFault>) {
-    match made {
+pub(crate) fn print_made(page: &mut Page, made: Result<Vec<(u64, Delta)>, CallFault>) {
+    match &made {
         Ok(deltas) => print_length(page, "deltas ", deltas.len()),
         Err(fault) => print_uncalled(page, fault),
     }
+    drop(made);
 }

@@ -108,6 +108,7 @@ pub(crate) fn print_digest(page: &mut Page, digest: &Digest) {
     let is_short = write_digest(page.alloc(), digest, &mut octets).is_err();
     page.stop_if_short(is_short);
     print_octets(page, "digest ", &octets);
+    drop(octets);
 }
 
 /// The octets of a delta.
@@ -116,6 +117,7 @@ pub(crate) fn print_delta(page: &mut Page, delta: &Delta) {
     let is_short = write_delta(page.alloc(), delta, &mut octets).is_err();
     page.stop_if_short(is_short);
     print_octets(page, "delta ", &octets);
+    drop(octets);
 }
 
 /// A line of octets after a text.

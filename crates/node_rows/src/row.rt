@@ -3,6 +3,7 @@
 use crate::asking::ask;
 use crate::deliveries;
 use crate::gateways::{Store, fail, open, slots, state};
+use crate::glances::{glance, known};
 use crate::links::{beginnings, digest, feed, say, within};
 use crate::page::Page;
 use crate::steps::{call_as_value, call_once};
@@ -35,26 +36,56 @@ impl<R: Replica> Row<R> {
     }
 }
 
-/// Plays a line whose first word this is. Each of the functions below knows the words of some
-/// lines, and leaves all others to the next.
+/// Plays a line whose first word this is.
 pub(crate) fn play<R: Replica>(page: &mut Page, row: &mut Row<R>, first: &str, words: &mut Words) {
+    if is_of_disk(first) {
+        play_disk(page, &mut row.store, first, words);
+    } else if is_of_link(first) {
+        play_link(page, &mut row.link, &mut row.said, first, words);
+    } else {
+        play_opened(page, &mut row.store, first, words);
+    }
+}
+
+/// Whether a line with this first word is about a disk.
+fn is_of_disk(first: &str) -> bool {
     match first {
-        "open" => open(page, &mut row.store, words),
-        "fail" => fail(page, &mut row.store, words),
-        "slots" => slots(page, &mut row.store, words),
-        first => play_link(page, row, first, words),
+        "open" | "fail" | "slots" => true,
+        _ => false,
+    }
+}
+
+/// Whether a line with this first word is about digests, or about a link.
+fn is_of_link(first: &str) -> bool {
+    match first {
+        "digest" | "beginnings" | "say" | "within" | "feed" => true,
+        _ => false,
+    }
+}
+
+/// Lines about a disk, and a gateway that is opened on it.
+fn play_disk<R: Replica>(page: &mut Page, store: &mut Store<R>, first: &str, words: &mut Words) {
+    match first {
+        "open" => open(page, store, words),
+        "fail" => fail(page, store, words),
+        _ => slots(page, store, words),
     }
 }
 
 /// Lines about digests, and about a link.
-fn play_link<R: Replica>(page: &mut Page, row: &mut Row<R>, first: &str, words: &mut Words) {
+fn play_link(
+    page: &mut Page,
+    link: &mut LinkIn,
+    said: &mut Vec<u8>,
+    first: &str,
+    words: &mut Words,
+) {
     match first {
         "digest" => digest(page, words),
         "beginnings" => beginnings(page, words),
-        "say" => say(page, &mut row.said, words),
+        "say" => say(page, said, words),
         "within" => within(page, words),
-        "feed" => feed(page, &mut row.link, words),
-        first => play_opened(page, &mut row.store, first, words),
+        _ => feed(page, link, words),
     }
 }
 
@@ -66,7 +97,8 @@ fn play_opened<R: Replica>(page: &mut Page, store: &mut Store<R>, first: &str, w
     }
 }
 
-/// Lines about the gateway that is open.
+/// Lines about the gateway that is open. Each of the functions below knows the words of some lines,
+/// and leaves all others to the next.
 fn play_node<R: Replica>(
     page: &mut Page,
     node: &mut Node<R, MemoryDisk>,
@@ -78,6 +110,20 @@ fn play_node<R: Replica>(
         "ask" => ask(page, node, words),
         "thrice" => call_as_value(page, node, words),
         "deliver" | "resend" | "hear" | "meaning" => deliveries::play(page, node, first, words),
+        first => play_glance(page, node, first, words),
+    }
+}
+
+/// Lines about its clients at a glance, and calls of it.
+fn play_glance<R: Replica>(
+    page: &mut Page,
+    node: &mut Node<R, MemoryDisk>,
+    first: &str,
+    words: &mut Words,
+) {
+    match first {
+        "glance" => glance(page, node, words),
+        "known" => known(page, node, words),
         first => call_once(page, node, first, words),
     }
 }

@@ -9,8 +9,8 @@ use rep_model::Replica;
 use std::alloc::Global;
 use std::sync::atomic::{AtomicBool, AtomicU64, Ordering};
 use std::sync::{Arc, Wait};
-use std::thread;
 use std::thread::{Threads, join};
+use std::{mem, thread};
 
 /// How often a thread looks whether the others have come too.
 const TURNS: u64 = 100_000;
@@ -84,38 +84,78 @@ impl Turn {
     /// Notes what a call brought; nothing if nobody sits there to make it.
     fn note(&mut self, called: Option<Called>) {
         match called {
-            Some(Ok((out, number))) => {
-                self.answered = self.answered.saturating_add(1);
-                self.before = self.number;
-                self.number = number;
-                self.out = Some(out);
+            Some(Ok((out, number))) => self.note_answer(out, number),
+            Some(Err(fault)) => {
+                self.is_short = self.is_short || is_memory(&fault);
+                drop(fault);
             }
-            Some(Err(fault)) => self.is_short = self.is_short || is_memory(&fault),
             None => {}
         }
+    }
+
+    /// Notes an answer, and the number of its call.
+    fn note_answer(&mut self, out: Arc<Out>, number: u64) {
+        self.answered = self.answered.saturating_add(1);
+        self.before = self.number;
+        self.number = number;
+        drop(mem::replace(&mut self.out, Some(out)));
     }
 }
 
 /// Seats passes after those that are seated.
 pub(crate) fn seat_all(page: &mut Page, seats: &mut Vec<Seat>, passes: Vec<Pass>) {
     for pass in passes {
-        let is_short = seats.push(Some(pass)).is_err();
-        page.stop_if_short(is_short);
+        add_seat(page, seats, pass);
     }
 }
 
+/// Seats a pass after those that are seated.
+fn add_seat(page: &mut Page, seats: &mut Vec<Seat>, pass: Pass) {
+    let pushed = seats.push(Some(pass));
+    let is_short = pushed.is_err();
+    drop(pushed);
+    page.stop_if_short(is_short);
+}
+
+/// Puts the pass that sat in a seat, if there was one, after those that are there.
+pub(crate) fn add_seated(page: &mut Page, passes: &mut Vec<Pass>, seat: Seat) {
+    match seat {
+        Some(pass) => add_pass(page, passes, pass),
+        None => {}
+    }
+}
+
+/// Puts a pass after those that are there.
+fn add_pass(page: &mut Page, passes: &mut Vec<Pass>, pass: Pass) {
+    let pushed = passes.push(pass);
+    let is_short = pushed.is_err();
+    drop(pushed);
+    page.stop_if_short(is_short);
+}
+
 /// The pass in a seat gets up.
+fn get_up(seat: &mut Seat) -> Seat {
+    seat.take()
+}
+
+/// A pass sits down in a seat.
+fn sit(seat: &mut Seat, pass: Seat) {
+    drop(mem::replace(seat, pass));
+}
+
+/// The pass at a place gets up.
 pub(crate) fn rise(seats: &mut [Seat], place: usize) -> Seat {
     match seats.get_mut(place) {
-        Some(seat) => seat.take(),
+        Some(seat) => get_up(seat),
         None => None,
     }
 }
 
 /// The pass that got up from a place sits down there again.
 pub(crate) fn sit_down(seats: &mut [Seat], place: usize, pass: Seat) {
-    if let Some(seat) = seats.get_mut(place) {
-        *seat = pass;
+    match seats.get_mut(place) {
+        Some(seat) => sit(seat, pass),
+        None => drop(pass),
     }
 }
 
@@ -132,12 +172,26 @@ pub(crate) fn call<W: Wait, R: Replica, D: Disk + Drop>(
     seat: &mut Seat,
     step: &Arc<Step>,
 ) -> Option<Called> {
-    let pass = seat.take()?;
+    match get_up(seat) {
+        Some(pass) => Some(call_by(rt, alloc, shift, seat, pass, step)),
+        None => None,
+    }
+}
+
+/// A pass that got up from a seat makes a call, and sits down again.
+fn call_by<W: Wait, R: Replica, D: Disk + Drop>(
+    rt: &W,
+    alloc: Global,
+    shift: &Shift<R, D>,
+    seat: &mut Seat,
+    pass: Pass,
+    step: &Arc<Step>,
+) -> Called {
     match step.clone() {
-        Ok(step) => Some(returned(seat, shift.call(rt, alloc, pass, step))),
+        Ok(step) => returned(seat, shift.call(rt, alloc, pass, step)),
         Err(_) => {
-            *seat = Some(pass);
-            Some(Err(CallFault::Memory))
+            sit(seat, Some(pass));
+            Err(CallFault::Memory)
         }
     }
 }
@@ -146,11 +200,11 @@ pub(crate) fn call<W: Wait, R: Replica, D: Disk + Drop>(
 fn returned(seat: &mut Seat, made: Result<(Pass, Arc<Out>, u64), (Pass, CallFault)>) -> Called {
     match made {
         Ok((pass, out, number)) => {
-            *seat = Some(pass);
+            sit(seat, Some(pass));
             Ok((out, number))
         }
         Err((pass, fault)) => {
-            *seat = Some(pass);
+            sit(seat, Some(pass));
             Err(fault)
         }
     }
@@ -209,10 +263,10 @@ where
     let threads = seats.len();
     let start = Start::new(threads);
     if threads > 0 {
-        let sit = |_place: usize, seat: &mut Seat| {
+        let take_turn = |_place: usize, seat: &mut Seat| {
             call_at_once(rt, alloc, shift, &start, seat, step, calls)
         };
-        thread::for_each_mut(rt, seats, threads, &sit);
+        thread::for_each_mut(rt, seats, threads, &take_turn);
     }
     start.is_short.load(Ordering::SeqCst)
 }

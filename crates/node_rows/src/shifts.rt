@@ -2,14 +2,15 @@
 
 ghost use Rattle.std.specs.Prelude.{◌<◌, ◌≤◌};
 
-use crate::calls::{after, close_by, over};
+use crate::calls::{after, close_by, over, shared_step};
 use crate::gateways::Store;
 use crate::page::Page;
 use crate::passing::{print_beside, print_called, print_made};
 use crate::printing::print_length;
 use crate::row::{self, Row};
 use crate::seats::{
-    Seat, Turn, call, call_all, call_often, rise, seat_all, side_by_side, sit_down, sits,
+    Called, Seat, Turn, add_seated, call, call_all, call_often, rise, seat_all, side_by_side,
+    sit_down, sits,
 };
 use crate::steps::step;
 use crate::stop::Stop;
@@ -19,8 +20,42 @@ use gw_shift::{CloseFault, Closed, Ended, Pass, Shift};
 use jr_journal::MemoryDisk;
 use rep_model::Replica;
 use std::alloc::Global;
+use std::mem;
 use std::sync::{Arc, Wait};
 use std::thread::Threads;
+
+/// How passes make a call.
+#[derive(Clone, Copy)]
+enum Manner {
+    /// One pass, once.
+    Once,
+    /// One pass, so many times.
+    Often,
+    /// The passes from a place on, so many times each and all at once.
+    Together,
+}
+
+impl Manner {
+    /// How many times the words say.
+    fn count(self, words: &mut Words) -> usize {
+        match self {
+            Manner::Once => 1,
+            Manner::Often | Manner::Together => words.count(),
+        }
+    }
+}
+
+/// A call that passes are to make.
+#[derive(Drop)]
+struct Order {
+    manner: Manner,
+    /// The place of the pass, or of the first one.
+    place: usize,
+    /// How many times each pass makes it.
+    count: usize,
+    /// The call; nothing if memory ran out.
+    step: Option<Arc<Step>>,
+}
 
 /// A shift of the row's gateway, and the passes of all shifts of the row.
 #[derive(Drop)]
@@ -45,10 +80,24 @@ impl<R: Replica> Shifts<R> {
             planned: Vec::new(alloc),
         }
     }
+
+    /// Whether a shift is open.
+    fn is_open(&self) -> bool {
+        self.open.is_some()
+    }
+
+    /// Whether the passes at two places can make the latest three calls that are planned.
+    fn may_pair(&self, first: usize, second: usize) -> bool {
+        let seats = self.seats.as_slice();
+        first != second
+            && self.is_open()
+            && sits(seats, first)
+            && sits(seats, second)
+            && self.planned.len() >= 3
+    }
 }
 
-/// Plays a line whose first word this is. Each of the functions below knows the words of some
-/// lines, and leaves all others to the next.
+/// Plays a line whose first word this is; one that is not about a shift as in other rows.
 pub(crate) fn play<T, R>(
     rt: &T,
     page: &mut Page,
@@ -62,30 +111,58 @@ where
     R: Replica + Send,
     R::Staged: Send,
 {
+    if is_of_calls(first) {
+        play_calls(rt, page, shifts, first, words);
+    } else if is_of_bounds(first) {
+        play_bounds(page, &mut row.store, shifts, first, words);
+    } else {
+        row::play(page, row, first, words);
+    }
+}
+
+/// Whether a line with this first word is about calls of passes.
+fn is_of_calls(first: &str) -> bool {
     match first {
-        "pass" => call_by(rt, page, shifts, words),
-        "often" => call_repeatedly(rt, page, shifts, words),
-        "together" => call_together(rt, page, shifts, words),
+        "pass" | "often" | "together" | "beside" | "after" => true,
+        _ => false,
+    }
+}
+
+/// Whether a line with this first word begins or ends a shift, or plans a call.
+fn is_of_bounds(first: &str) -> bool {
+    match first {
+        "shift" | "plan" | "end" | "close" => true,
+        _ => false,
+    }
+}
+
+/// Lines about calls of passes.
+fn play_calls<T, R>(rt: &T, page: &mut Page, shifts: &mut Shifts<R>, first: &str, words: &mut Words)
+where
+    T: Threads + Wait + Sync + AllocGlobal,
+    R: Replica + Send,
+    R::Staged: Send,
+{
+    match first {
         "beside" => call_beside(rt, page, shifts, words),
         "after" => ask_after(rt, page, shifts, words),
-        first => play_bounds(page, row, shifts, first, words),
+        first => make_call(rt, page, shifts, first, words),
     }
 }
 
 /// Lines that begin and end a shift, and plan calls.
 fn play_bounds<R: Replica>(
     page: &mut Page,
-    row: &mut Row<R>,
+    store: &mut Store<R>,
     shifts: &mut Shifts<R>,
     first: &str,
     words: &mut Words,
 ) {
     match first {
-        "shift" => begin(page, &mut row.store, shifts, words),
-        "plan" => plan(page, shifts, words),
+        "shift" => begin(page, store, shifts, words),
+        "plan" => plan(page, &mut shifts.planned, words),
         "end" => end(page, shifts, words),
-        "close" => close(page, &mut row.store, shifts, words),
-        first => row::play(page, row, first, words),
+        _ => close(page, store, shifts, words),
     }
 }
 
@@ -98,12 +175,29 @@ fn begin<R: Replica>(
 ) {
     let passes = words.count();
     let steps = words.moment();
-    words.require(store.node.is_some());
     if words.end(page) {
-        if let Some(node) = store.node.take() {
-            let opened = open(page, node, passes, steps);
-            take_over(page, shifts, opened);
+        match store.taken() {
+            Some(node) => begin_with(page, shifts, node, passes, steps),
+            None => page.stop(Stop::Line),
         }
+    }
+}
+
+/// The shift of the row is one of this gateway, and its passes sit down.
+fn begin_with<R: Replica>(
+    page: &mut Page,
+    shifts: &mut Shifts<R>,
+    node: Node<R, MemoryDisk>,
+    passes: usize,
+    steps: u64,
+) {
+    match open(page, node, passes, steps) {
+        Some((shift, passes)) => {
+            leave(page, shifts);
+            drop(mem::replace(&mut shifts.open, Some(shift)));
+            seat_all(page, &mut shifts.seats, passes);
+        }
+        None => {}
     }
 }
 
@@ -115,149 +209,180 @@ pub(crate) fn open<R: Replica>(
     steps: u64,
 ) -> Option<(Shift<R, MemoryDisk>, Vec<Pass>)> {
     if passes == 0 || steps == 0 || steps > 4096 {
+        drop(node);
         page.stop(Stop::Line);
-        return None;
-    }
-    let opened = Shift::open(page.alloc(), node, passes, steps).ok();
-    page.stop_if_short(opened.is_none());
-    opened
-}
-
-/// The shift of the row is this one, and its passes sit down.
-fn take_over<R: Replica>(
-    page: &mut Page,
-    shifts: &mut Shifts<R>,
-    opened: Option<(Shift<R, MemoryDisk>, Vec<Pass>)>,
-) {
-    if let Some((shift, passes)) = opened {
-        leave(page, shifts);
-        shifts.open = Some(shift);
-        seat_all(page, &mut shifts.seats, passes);
+        None
+    } else {
+        match Shift::open(page.alloc(), node, passes, steps) {
+            Ok(opened) => Some(opened),
+            Err(refused) => {
+                drop(refused);
+                page.stop(Stop::Memory);
+                None
+            }
+        }
     }
 }
 
 /// Leaves the shift that is open, if there is one. Memory that was refused in its disk ends the
 /// program.
 pub(crate) fn leave<R: Replica>(page: &mut Page, shifts: &mut Shifts<R>) {
-    if let Some(shift) = shifts.open.take() {
-        let over = over(shift);
-        page.stop_if_short(over.node.starved());
-        drop(over);
+    drop(ended(page, shifts));
+}
+
+/// The shift that is open is over, if there is one.
+fn ended<R: Replica>(page: &mut Page, shifts: &mut Shifts<R>) -> Option<Ended<R, MemoryDisk>> {
+    match shifts.open.take() {
+        Some(shift) => {
+            let over = over(shift);
+            page.stop_if_short(over.node.starved());
+            Some(over)
+        }
+        None => None,
     }
 }
 
 /// The call that words say, to be shared.
 fn shared(words: &mut Words) -> Option<Arc<Step>> {
     let step = step(words.word(), words);
-    let shared = Arc::new(words.alloc(), step).ok();
+    let shared = shared_step(words.alloc(), step);
     words.fail_if_short(shared.is_none());
     shared
 }
 
-/// `pass PLACE CALL`: the pass at this place makes a call.
-fn call_by<T, R>(rt: &T, page: &mut Page, shifts: &mut Shifts<R>, words: &mut Words)
-where
-    T: Wait + AllocGlobal,
-    R: Replica,
-{
-    let place = words.count();
-    let step = shared(words);
-    words.require(shifts.open.is_some() && sits(shifts.seats.as_slice(), place));
-    if words.end(page) {
-        if let Some(step) = &step {
-            call_at(rt, page, shifts, place, step);
-        }
+/// How passes make the call of a line with this first word.
+fn manner_of(first: &str) -> Manner {
+    match first {
+        "often" => Manner::Often,
+        "together" => Manner::Together,
+        _ => Manner::Once,
     }
-    drop(step);
+}
+
+/// What the words of a line with this first word say of a call.
+fn read_order(first: &str, words: &mut Words) -> Order {
+    let manner = manner_of(first);
+    let place = words.count();
+    let count = manner.count(words);
+    let step = shared(words);
+    Order {
+        manner,
+        place,
+        count,
+        step,
+    }
+}
+
+/// `pass PLACE CALL`, `often PLACE COUNT CALL`, `together PLACE COUNT CALL`: passes make a call.
+fn make_call<T, R>(rt: &T, page: &mut Page, shifts: &mut Shifts<R>, first: &str, words: &mut Words)
+where
+    T: Threads + Wait + Sync + AllocGlobal,
+    R: Replica + Send,
+    R::Staged: Send,
+{
+    let order = read_order(first, words);
+    if words.end(page) {
+        call_by(rt, page, shifts, &order);
+    }
+    drop(order);
+}
+
+/// Passes make a call in the shift that is open.
+fn call_by<T, R>(rt: &T, page: &mut Page, shifts: &mut Shifts<R>, order: &Order)
+where
+    T: Threads + Wait + Sync + AllocGlobal,
+    R: Replica + Send,
+    R::Staged: Send,
+{
+    match &shifts.open {
+        Some(shift) => call_in(rt, page, shift, shifts.seats.as_mut_slice(), order),
+        None => page.stop(Stop::Line),
+    }
+}
+
+/// Passes in these seats make a call in a shift.
+fn call_in<T, R>(
+    rt: &T,
+    page: &mut Page,
+    shift: &Shift<R, MemoryDisk>,
+    seats: &mut [Seat],
+    order: &Order,
+)
+where
+    T: Threads + Wait + Sync + AllocGlobal,
+    R: Replica + Send,
+    R::Staged: Send,
+{
+    match &order.step {
+        Some(step) => match order.manner {
+            Manner::Once => call_once(rt, page, shift, seats, order, step),
+            Manner::Often => call_repeatedly(rt, page, shift, seats, order, step),
+            Manner::Together => call_together(rt, page, shift, seats, order, step),
+        },
+        None => page.stop(Stop::Memory),
+    }
 }
 
 /// The pass at a place makes a call.
-fn call_at<T, R>(rt: &T, page: &mut Page, shifts: &mut Shifts<R>, place: usize, step: &Arc<Step>)
-where
-    T: Wait + AllocGlobal,
-    R: Replica,
-{
-    if let Some(shift) = &shifts.open {
-        if let Some(seat) = shifts.seats.as_mut_slice().get_mut(place) {
+fn call_once<T: Wait + AllocGlobal, R: Replica>(
+    rt: &T,
+    page: &mut Page,
+    shift: &Shift<R, MemoryDisk>,
+    seats: &mut [Seat],
+    order: &Order,
+    step: &Arc<Step>,
+) {
+    match seats.get_mut(order.place) {
+        Some(seat) => {
             let called = call(rt, rt.alloc(), shift, seat, step);
-            if let Some(called) = &called {
-                print_called(page, called);
-            }
-            drop(called);
+            print_call(page, called);
         }
+        None => page.stop(Stop::Line),
     }
 }
 
-/// `often PLACE COUNT CALL`: the pass at this place makes a call so many times. It prints how many
-/// were answered.
-fn call_repeatedly<T, R>(rt: &T, page: &mut Page, shifts: &mut Shifts<R>, words: &mut Words)
-where
-    T: Wait + AllocGlobal,
-    R: Replica,
-{
-    let place = words.count();
-    let count = words.count();
-    let step = shared(words);
-    words.require(shifts.open.is_some() && place < shifts.seats.len());
-    if words.end(page) {
-        if let Some(step) = &step {
-            call_often_at(rt, page, shifts, place, count, step);
-        }
+/// What a call was answered, which somebody is to have made.
+fn print_call(page: &mut Page, called: Option<Called>) {
+    match &called {
+        Some(called) => print_called(page, called),
+        None => page.stop(Stop::Line),
     }
-    drop(step);
+    drop(called);
 }
 
 /// The pass at a place makes a call so many times.
-fn call_often_at<T, R>(
+fn call_repeatedly<T: Wait + AllocGlobal, R: Replica>(
     rt: &T,
     page: &mut Page,
-    shifts: &mut Shifts<R>,
-    place: usize,
-    count: usize,
+    shift: &Shift<R, MemoryDisk>,
+    seats: &mut [Seat],
+    order: &Order,
     step: &Arc<Step>,
-)
-where
-    T: Wait + AllocGlobal,
-    R: Replica,
-{
-    if let Some(shift) = &shifts.open {
-        if let Some(seat) = shifts.seats.as_mut_slice().get_mut(place) {
-            let turn = call_often(rt, rt.alloc(), shift, seat, step, count);
-            page.stop_if_short(turn.is_short);
-            page.number("answered ", turn.answered);
-            drop(turn);
-            page.end();
+) {
+    match seats.get_mut(order.place) {
+        Some(seat) => {
+            let turn = call_often(rt, rt.alloc(), shift, seat, step, order.count);
+            print_count(page, turn);
         }
+        None => page.stop(Stop::Line),
     }
 }
 
-/// `together PLACE COUNT CALL`: the passes from this place on make a call so many times each, all
-/// at the same time.
-fn call_together<T, R>(rt: &T, page: &mut Page, shifts: &mut Shifts<R>, words: &mut Words)
-where
-    T: Threads + Wait + Sync + AllocGlobal,
-    R: Replica + Send,
-    R::Staged: Send,
-{
-    let place = words.count();
-    let count = words.count();
-    let step = shared(words);
-    words.require(shifts.open.is_some() && place <= shifts.seats.len());
-    if words.end(page) {
-        if let Some(step) = &step {
-            call_all_from(rt, page, shifts, place, count, step);
-        }
-    }
-    drop(step);
+/// How many calls of a turn were answered.
+fn print_count(page: &mut Page, turn: Turn) {
+    page.stop_if_short(turn.is_short);
+    page.number("answered ", turn.answered);
+    page.end();
+    drop(turn);
 }
 
-/// The passes from a place on make a call so many times each.
-fn call_all_from<T, R>(
+/// The passes from a place on make a call so many times each, all at the same time.
+fn call_together<T, R>(
     rt: &T,
     page: &mut Page,
-    shifts: &mut Shifts<R>,
-    place: usize,
-    count: usize,
+    shift: &Shift<R, MemoryDisk>,
+    seats: &mut [Seat],
+    order: &Order,
     step: &Arc<Step>,
 )
 where
@@ -265,22 +390,36 @@ where
     R: Replica + Send,
     R::Staged: Send,
 {
-    if let Some(shift) = &shifts.open {
-        let from = place.min(shifts.seats.len());
-        let (_others, seats) = shifts.seats.as_mut_slice().split_at_mut(from);
-        let is_short = call_all(rt, rt.alloc(), shift, seats, step, count);
+    if order.place > seats.len() {
+        page.stop(Stop::Line);
+    } else {
+        let from = order.place.min(seats.len());
+        let (_others, seats) = seats.split_at_mut(from);
+        let is_short = call_all(rt, rt.alloc(), shift, seats, step, order.count);
         page.stop_if_short(is_short);
     }
 }
 
 /// `plan CALL`: one more call for the next `beside`.
-fn plan<R: Replica>(page: &mut Page, shifts: &mut Shifts<R>, words: &mut Words) {
+fn plan(page: &mut Page, planned: &mut Vec<Arc<Step>>, words: &mut Words) {
     let step = shared(words);
     if words.end(page) {
-        if let Some(step) = step {
-            let is_short = shifts.planned.push(step).is_err();
+        add_planned(page, planned, step);
+    } else {
+        drop(step);
+    }
+}
+
+/// One more call is planned, unless memory ran out.
+fn add_planned(page: &mut Page, planned: &mut Vec<Arc<Step>>, step: Option<Arc<Step>>) {
+    match step {
+        Some(step) => {
+            let pushed = planned.push(step);
+            let is_short = pushed.is_err();
+            drop(pushed);
             page.stop_if_short(is_short);
         }
+        None => page.stop(Stop::Memory),
     }
 }
 
@@ -294,15 +433,17 @@ where
 {
     let first = words.count();
     let second = words.count();
-    words.require(first != second && shifts.open.is_some());
-    words.require(sits(shifts.seats.as_slice(), first));
-    words.require(sits(shifts.seats.as_slice(), second));
-    words.require(shifts.planned.len() >= 3);
+    words.require(shifts.may_pair(first, second));
     if words.end(page) {
         call_two(rt, page, shifts, first, second);
-        let left = shifts.planned.len().saturating_sub(3);
-        shifts.planned.truncate(left);
+        forget_three(&mut shifts.planned);
     }
+}
+
+/// The latest three calls are planned no more.
+fn forget_three(planned: &mut Vec<Arc<Step>>) {
+    let left = planned.len().saturating_sub(3);
+    planned.truncate(left);
 }
 
 /// The passes at two places make the latest three calls that are planned, each in a thread of its
@@ -317,8 +458,8 @@ where
         if let [.., one, other, last] = shifts.planned.as_slice() {
             let seats = shifts.seats.as_mut_slice();
             let passes = (rise(seats, first), rise(seats, second));
-            let (one, other) = side_by_side(rt, rt.alloc(), shift, passes, (one, other, last));
-            sit(page, seats, (first, one), (second, other));
+            let made = side_by_side(rt, rt.alloc(), shift, passes, (one, other, last));
+            sit(page, seats, (first, second), made);
         }
     }
 }
@@ -327,8 +468,8 @@ where
 fn sit(
     page: &mut Page,
     seats: &mut [Seat],
-    (first, (one, calls)): (usize, (Seat, Turn)),
-    (second, (other, call)): (usize, (Seat, Turn)),
+    (first, second): (usize, usize),
+    ((one, calls), (other, call)): ((Seat, Turn), (Seat, Turn)),
 ) {
     print_turns(page, &calls, &call);
     drop(calls);
@@ -357,7 +498,7 @@ where
     let place = words.count();
     let above = words.moment();
     let most = words.count();
-    words.require(shifts.open.is_some() && sits(shifts.seats.as_slice(), place));
+    words.require(shifts.is_open() && sits(shifts.seats.as_slice(), place));
     if words.end(page) {
         print_after(rt, page, shifts, place, above, most);
     }
@@ -379,22 +520,23 @@ where
     if let Some(shift) = &shifts.open {
         if let Some(Some(pass)) = shifts.seats.as_slice().get(place) {
             let made = after(rt, rt.alloc(), shift, pass, above, most);
-            print_made(page, &made);
-            drop(made);
+            print_made(page, made);
         }
     }
 }
 
 /// `end`: the shift is over.
 fn end<R: Replica>(page: &mut Page, shifts: &mut Shifts<R>, words: &mut Words) {
-    words.require(shifts.open.is_some());
+    words.require(shifts.is_open());
     if words.end(page) {
-        if let Some(shift) = shifts.open.take() {
-            let over = over(shift);
-            page.stop_if_short(over.node.starved());
-            shifts.over = Some(over);
-        }
+        let over = ended(page, shifts);
+        keep_over(shifts, over);
     }
+}
+
+/// The shift that is over and is not closed is this one.
+fn keep_over<R: Replica>(shifts: &mut Shifts<R>, over: Option<Ended<R, MemoryDisk>>) {
+    drop(mem::replace(&mut shifts.over, over));
 }
 
 /// `close PLACE ..`: the shift is closed with the passes at these places.
@@ -405,12 +547,26 @@ fn close<R: Replica>(
     words: &mut Words,
 ) {
     let places = words.counts();
-    words.require(shifts.over.is_some() && all_sit(shifts.seats.as_slice(), &places));
+    words.require(all_sit(shifts.seats.as_slice(), &places));
     if words.end(page) {
-        if let Some(over) = shifts.over.take() {
-            let passes = risen(page, shifts.seats.as_mut_slice(), &places);
+        close_at(page, store, shifts, &places);
+    }
+    drop(places);
+}
+
+/// The shift that is over is closed with the passes at these places.
+fn close_at<R: Replica>(
+    page: &mut Page,
+    store: &mut Store<R>,
+    shifts: &mut Shifts<R>,
+    places: &[usize],
+) {
+    match shifts.over.take() {
+        Some(over) => {
+            let passes = risen(page, shifts.seats.as_mut_slice(), places);
             close_with(page, store, shifts, over, passes);
         }
+        None => page.stop(Stop::Line),
     }
 }
 
@@ -427,10 +583,8 @@ fn all_sit(seats: &[Seat], places: &[usize]) -> bool {
 fn risen(page: &mut Page, seats: &mut [Seat], places: &[usize]) -> Vec<Pass> {
     let mut passes = Vec::new(page.alloc());
     for place in places {
-        if let Some(pass) = rise(seats, *place) {
-            let is_short = passes.push(pass).is_err();
-            page.stop_if_short(is_short);
-        }
+        let seat = rise(seats, *place);
+        add_seated(page, &mut passes, seat);
     }
     passes
 }
@@ -446,18 +600,20 @@ fn close_with<R: Replica>(
     match close_by(over, passes) {
         Ok(closed) => go_on(page, store, closed),
         Err((over, passes, fault)) => {
+            keep_over(shifts, Some(over));
+            seat_all(page, &mut shifts.seats, passes);
             print_unclosed(page, &fault);
             drop(fault);
-            shifts.over = Some(over);
-            seat_all(page, &mut shifts.seats, passes);
         }
     }
 }
 
 /// The gateway of a closed shift is the row's.
 fn go_on<R: Replica>(page: &mut Page, store: &mut Store<R>, closed: Closed<R, MemoryDisk>) {
-    print_length(page, "closed, calls ", closed.history.len());
-    store.node = Some(closed.node);
+    let Closed { node, history } = closed;
+    print_length(page, "closed, calls ", history.len());
+    drop(history);
+    store.hold(node);
 }
 
 /// Why a shift is not closed.

@@ -74,11 +74,16 @@ pub(crate) fn call_once<R: Replica>(
 ) {
     let step = step(first, words);
     if words.end(page) {
-        let answer = call(page.alloc(), node, &step);
-        print_called(page, &answer, node.starved());
-        drop(answer);
+        make(page, node, &step);
     }
     drop(step);
+}
+
+/// Makes a call of the gateway, and prints its answer.
+fn make<R: Replica>(page: &mut Page, node: &mut Node<R, MemoryDisk>, step: &Step) {
+    let answer = call(page.alloc(), node, step);
+    print_called(page, &answer, node.starved());
+    drop(answer);
 }
 
 /// What a gateway answered.
@@ -95,11 +100,16 @@ pub(crate) fn call_as_value<R: Replica>(
 ) {
     let step = step(words.word(), words);
     if words.end(page) {
-        let answers = call_thrice(page.alloc(), node, &step);
-        print_thrice(page, &answers, node.starved());
-        drop(answers);
+        make_as_value(page, node, &step);
     }
     drop(step);
+}
+
+/// Makes a call of the gateway as a value, and prints its answer three times.
+fn make_as_value<R: Replica>(page: &mut Page, node: &mut Node<R, MemoryDisk>, step: &Step) {
+    let answers = call_thrice(page.alloc(), node, step);
+    print_thrice(page, &answers, node.starved());
+    drop(answers);
 }
 
 /// What a gateway answered, three times.

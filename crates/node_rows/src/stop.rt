@@ -7,7 +7,7 @@ use std::{fmt, io};
 /// Why a line is not played.
 #[derive(Clone, Copy)]
 pub(crate) enum Stop {
-    /// The line is none of the language.
+    /// The line is none of the language, or wants what is not there.
     Line,
     /// Memory ran out.
     Memory,
@@ -15,6 +15,9 @@ pub(crate) enum Stop {
     Stream,
     /// A call that a work makes was refused.
     Work,
+    /// A datagram, or its answer, came too late over a socket. A thread that is refused runs after
+    /// the other ones.
+    TooLate,
 }
 
 impl fmt::Display for Stop {
@@ -24,6 +27,7 @@ impl fmt::Display for Stop {
             Stop::Memory => "out of memory",
             Stop::Stream => "standard input or output failed",
             Stop::Work => "a call of a work was refused",
+            Stop::TooLate => "too late: memory or a thread was refused",
         };
         f.write_str(words)
     }
@@ -55,5 +59,13 @@ pub(crate) fn broken(error: &io::Error) -> Stop {
     match error.kind() {
         io::ErrorKind::OutOfMemory => Stop::Memory,
         _ => Stop::Stream,
+    }
+}
+
+/// Why a socket or a file of a line is not there.
+pub(crate) fn missing(error: &io::Error) -> Stop {
+    match error.kind() {
+        io::ErrorKind::OutOfMemory => Stop::Memory,
+        _ => Stop::Line,
     }
 }

@@ -123,6 +123,25 @@ impl<'a, 'n> Words<'a, 'n> {
         }
     }
 
+    /// A number below 2^64.
+    pub(crate) fn whole(&mut self) -> u64 {
+        match self.word().parse::<u64>() {
+            Ok(number) => number,
+            Err(_) => {
+                self.fail(Stop::Line);
+                0
+            }
+        }
+    }
+
+    /// The octets of the next word, which is hexadecimal digits.
+    pub(crate) fn digits(&mut self) -> Vec<u8> {
+        let word = self.word();
+        let mut octets = Vec::new(self.alloc);
+        self.add_digits(&mut octets, word);
+        octets
+    }
+
     /// A number below 65,536 that counts something.
     pub(crate) fn count(&mut self) -> usize {
         usize::from(self.number())
@@ -164,12 +183,17 @@ impl<'a, 'n> Words<'a, 'n> {
         let word = self.word();
         match word.strip_prefix("0x") {
             None => self.named(word.as_bytes()),
-            Some(digits) => {
-                let mut name = Vec::new(self.alloc);
-                self.add_digits(&mut name, digits);
-                self.named(&name)
-            }
+            Some(digits) => self.spelled(digits),
         }
+    }
+
+    /// The client whose name hexadecimal digits write.
+    fn spelled(&mut self, digits: &str) -> Option<ClientId> {
+        let mut name = Vec::new(self.alloc);
+        self.add_digits(&mut name, digits);
+        let client = self.named(&name);
+        drop(name);
+        client
     }
 
     /// The client of this name.
@@ -218,7 +242,10 @@ impl<'a, 'n> Words<'a, 'n> {
     /// Puts a number, written in four hexadecimal digits, after the octets that are there.
     fn add_written(&mut self, octets: &mut Vec<u8>, number: u16) {
         match format!(in self.alloc; "{number:04x}") {
-            Ok(digits) => self.add(octets, digits.as_bytes()),
+            Ok(digits) => {
+                self.add(octets, digits.as_bytes());
+                drop(digits);
+            }
             Err(_) => self.fail(Stop::Memory),
         }
     }
@@ -234,7 +261,10 @@ impl<'a, 'n> Words<'a, 'n> {
     /// Puts the octets that hexadecimal digits write after those that are there.
     fn add_digits(&mut self, octets: &mut Vec<u8>, digits: &str) {
         match hex::decode(self.alloc, digits.as_bytes()) {
-            Ok(written) => self.add(octets, &written),
+            Ok(written) => {
+                self.add(octets, &written);
+                drop(written);
+            }
             Err(hex::FromHexError::OutOfMemory) => self.fail(Stop::Memory),
             Err(_) => self.fail(Stop::Line),
         }
@@ -249,7 +279,9 @@ impl<'a, 'n> Words<'a, 'n> {
     /// The delta that the words that are left spell; an empty one if they spell none.
     pub(crate) fn delta(&mut self) -> Delta {
         let octets = self.octets();
-        match read_delta(self.alloc, &octets) {
+        let read = read_delta(self.alloc, &octets);
+        drop(octets);
+        match read {
             Ok(delta) => delta,
             Err(fault) => {
                 self.fail(misread(&fault));
@@ -261,7 +293,9 @@ impl<'a, 'n> Words<'a, 'n> {
     /// The digest that the words that are left spell.
     pub(crate) fn digest(&mut self) -> Option<Digest> {
         let octets = self.octets();
-        match read_digest(self.alloc, &octets) {
+        let read = read_digest(self.alloc, &octets);
+        drop(octets);
+        match read {
             Ok(digest) => Some(digest),
             Err(fault) => {
                 self.fail(misread(&fault));

@@ -71,13 +71,10 @@ fn work(page: &mut Page, name: &str, rounds: u32) {
     }
 }
 
-/// What a call of a work gave; nothing if it was refused.
-fn worked<T>(page: &mut Page, given: Result<T, OpsFault>) -> Option<T> {
+/// Notes a call of a work that was refused.
+fn check(page: &mut Page, given: Result<(), OpsFault>) {
     match given {
-        Ok(given) => Some(given),
-        Err(fault) => {
-            page.stop(unworked(&fault));
-            None
-        }
+        Ok(()) => {}
+        Err(fault) => page.stop(unworked(&fault)),
     }
 }

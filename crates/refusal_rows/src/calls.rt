@@ -16,6 +16,7 @@ const TWICE: &str = "
     LinkIn::feed
     link_out
     settings
+    page
 ";
 
 /// The calls of some rows, with what they need.
@@ -54,6 +55,16 @@ pub(crate) fn is_one_of(word: &str, words: &str) -> bool {
         }
     }
     false
+}
+
+/// Whether a word is this one.
+pub(crate) fn is_word(word: &str, other: &str) -> bool {
+    word == other
+}
+
+/// Whether octets are these.
+pub(crate) fn is_same(octets: &[u8], others: &[u8]) -> bool {
+    octets == others
 }
 
 /// Makes what a call of a row needs, and plays it.

@@ -1,6 +1,6 @@
 //! Settings, the start of a daemon, and its files.
 
-use crate::calls::{Calls, Made, Shown, given, play_call};
+use crate::calls::{Calls, Made, Shown, given, is_same, is_word, play_call};
 use crate::page::Page;
 use crate::said::{Said, Stop};
 use file_disk::{FileDisk, FileDiskFault};
@@ -33,16 +33,23 @@ impl Made for Starts {
 
 impl Calls for Starts {
     fn call_once(&mut self, said: &mut Said, call: &str) {
-        if call == "settings" {
+        if is_word(call, "settings") {
             let read = settings(said.alloc, self.text);
             given(said, read, SettingsFault::Memory);
         } else {
-            match &settings(said.alloc, LONG) {
-                Ok(read) => begin_once(said, read),
-                Err(_) => said.stop(Stop::Memory),
-            }
+            begin_read(said);
         }
     }
+}
+
+/// Starts a gateway of all settings, which are read beside the call.
+fn begin_read(said: &mut Said) {
+    let read = settings(said.alloc, LONG);
+    match &read {
+        Ok(read) => begin_once(said, read),
+        Err(_) => said.stop(Stop::Memory),
+    }
+    drop(read);
 }
 
 impl Shown for Settings {
@@ -81,10 +88,10 @@ fn begun(said: &mut Said, read: &Settings, out: &mut Page, err: &mut Page) -> Op
 
 /// Looks at what a refused start prints. The disk, which begins empty, is gone then.
 fn look(said: &mut Said, line: &[u8]) {
-    if line == b"sngw: journal J4\n".as_slice() {
+    if is_same(line, b"sngw: journal J4\n") {
         said.refuse(true);
     } else {
-        said.keep(line == b"sngw: journal J1\n".as_slice());
+        said.keep(is_same(line, b"sngw: journal J1\n"));
         said.starve();
     }
 }

@@ -1,6 +1,6 @@
 //! Names of clients, and deltas.
 
-use crate::calls::{Calls, Made, Shown, beside, front, given, written};
+use crate::calls::{Calls, Made, Shown, beside, front, given, is_word, written};
 use crate::said::{Said, Stop};
 use rep_ops::{ClientId, Delta, Op, OpsFault};
 
@@ -25,7 +25,7 @@ impl Made for Clients {
 
 impl Calls for Clients {
     fn call_once(&mut self, said: &mut Said, call: &str) {
-        let made = if call == "ClientId::new" {
+        let made = if is_word(call, "ClientId::new") {
             ClientId::new(said.alloc, b"s1")
         } else {
             self.client.copy(said.alloc)
@@ -54,7 +54,7 @@ impl Made for Deltas {
 
 impl Calls for Deltas {
     fn call_once(&mut self, said: &mut Said, call: &str) {
-        if call == "Delta::encode" {
+        if is_word(call, "Delta::encode") {
             self.write(said);
         } else {
             let made = self.made(said, call);
@@ -98,6 +98,7 @@ impl Shown for Delta {
         let is_short = self.append_to(&mut octets).is_err();
         said.stop_if_short(is_short);
         said.octets(octets.as_slice());
+        drop(octets);
     }
 }
 
@@ -112,12 +113,13 @@ impl Shown for Vec<Delta> {
 }
 
 /// The octets of deltas, one after the other.
-pub(crate) fn spelled(said: &mut Said, deltas: &[Delta]) -> Vec<u8> {
+pub(crate) fn spelled(said: &mut Said, deltas: Vec<Delta>) -> Vec<u8> {
     let mut octets = Vec::new(said.alloc);
-    for delta in deltas {
+    for delta in deltas.as_slice() {
         let is_short = delta.append_to(&mut octets).is_err();
         said.stop_if_short(is_short);
     }
+    drop(deltas);
     octets
 }
 
@@ -138,15 +140,26 @@ fn acks(said: &mut Said) -> Vec<Op> {
 /// An acknowledgement of messages of gateway 2 comes after the others.
 fn add_ack(said: &mut Said, ops: &mut Vec<Op>, first: u64, last: u64) {
     if let Some(client) = client(said) {
-        let ack = Op::Ack {
-            client,
-            origin: 2,
-            first,
-            last,
-        };
-        let is_short = ops.push(ack).is_err();
-        said.stop_if_short(is_short);
+        push(said, ops, ack(client, first, last));
     }
+}
+
+/// An acknowledgement of messages of gateway 2.
+fn ack(client: ClientId, first: u64, last: u64) -> Op {
+    Op::Ack {
+        client,
+        origin: 2,
+        first,
+        last,
+    }
+}
+
+/// An operation comes after the others.
+fn push(said: &mut Said, ops: &mut Vec<Op>, op: Op) {
+    let pushed = ops.push(op);
+    let is_short = pushed.is_err();
+    drop(pushed);
+    said.stop_if_short(is_short);
 }
 
 /// The octets that hexadecimal digits spell.
@@ -160,13 +173,20 @@ pub(crate) fn octets_of(said: &mut Said, parts: &[&str]) -> Vec<u8> {
 
 /// The octets that hexadecimal digits spell come after the others.
 fn add_octets(said: &mut Said, octets: &mut Vec<u8>, digits: &str) {
-    match &hex::decode(said.alloc, digits.as_bytes()) {
+    match hex::decode(said.alloc, digits.as_bytes()) {
         Ok(found) => {
             let is_short = octets.extend_from_slice(found.as_slice()).is_err();
+            drop(found);
             said.stop_if_short(is_short);
         }
-        Err(_) => said.stop(Stop::Memory),
+        Err(_fault) => said.stop(Stop::Memory),
     }
+}
+
+/// The delta of operations, made beside the call.
+pub(crate) fn delta_of(said: &mut Said, ops: Vec<Op>) -> Option<Delta> {
+    let made = Delta::from_ops(said.alloc, ops);
+    beside(said, made)
 }
 
 /// The delta that hexadecimal digits spell.

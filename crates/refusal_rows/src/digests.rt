@@ -1,6 +1,6 @@
 //! Digests, and answers to them.
 
-use crate::calls::{Calls, Made, Shown, beside, front, given, written};
+use crate::calls::{Calls, Made, Shown, beside, front, given, is_word, written};
 use crate::replicas::{new, replica_with};
 use crate::said::Said;
 use rep_answer::answer;
@@ -19,20 +19,37 @@ pub(crate) struct Digests<R: Replica> {
 
 impl<R: Replica> Made for Digests<R> {
     fn make(said: &mut Said, call: &str, is_second: bool) -> Option<Digests<R>> {
-        let is_answer = call == "answer";
-        let is_small = is_answer || (call == "digest_of" && !is_second);
-        let replica: R = replica_with(said, !is_small)?;
-        let digest = if is_answer && !is_second {
-            digest_of_none::<R>(said)
-        } else {
-            digest(said, &replica)
-        }?;
-        Some(Digests {
+        let is_answer = is_word(call, "answer");
+        let is_small = is_answer || (is_word(call, "digest_of") && !is_second);
+        match replica_with::<R>(said, !is_small) {
+            Some(replica) => digests_of(said, replica, is_answer && !is_second),
+            None => None,
+        }
+    }
+}
+
+/// A replica with its digest, or with that of one that has taken nothing.
+fn digests_of<R: Replica>(said: &mut Said, replica: R, is_of_none: bool) -> Option<Digests<R>> {
+    match some_digest(said, &replica, is_of_none) {
+        Some(digest) => Some(Digests {
             replica,
             octets: octets_of(said, &digest),
             digest,
             out: front(said),
-        })
+        }),
+        None => {
+            drop(replica);
+            None
+        }
+    }
+}
+
+/// The digest of a replica, or of one that has taken nothing.
+fn some_digest<R: Replica>(said: &mut Said, replica: &R, is_of_none: bool) -> Option<Digest> {
+    if is_of_none {
+        digest_of_none::<R>(said)
+    } else {
+        digest(said, replica)
     }
 }
 
@@ -55,7 +72,7 @@ impl<R: Replica> Calls for Digests<R> {
 impl<R: Replica> Digests<R> {
     /// The digest of the replica, or the digest that is read.
     fn made(&self, said: &mut Said, call: &str) -> Result<Digest, OpsFault> {
-        if call == "digest_of" {
+        if is_word(call, "digest_of") {
             digest_of(said.alloc, &self.replica)
         } else {
             Digest::decode(said.alloc, self.octets.as_slice())
@@ -73,8 +90,14 @@ impl<R: Replica> Digests<R> {
 
 /// The digest of a replica that has taken nothing.
 fn digest_of_none<R: Replica>(said: &mut Said) -> Option<Digest> {
-    let replica: R = new(said)?;
-    digest(said, &replica)
+    match new::<R>(said) {
+        Some(replica) => {
+            let made = digest(said, &replica);
+            drop(replica);
+            made
+        }
+        None => None,
+    }
 }
 
 /// The digest of a replica.
@@ -95,5 +118,6 @@ impl Shown for Digest {
     fn show(&self, said: &mut Said) {
         let octets = octets_of(said, self);
         said.octets(octets.as_slice());
+        drop(octets);
     }
 }

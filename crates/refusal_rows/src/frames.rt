@@ -1,6 +1,6 @@
 //! Frames.
 
-use crate::calls::{Calls, Made, Shown, beside, front, given, octets_or_none, written};
+use crate::calls::{Calls, Made, Shown, beside, front, given, is_word, octets_or_none, written};
 use crate::deltas::octets_of;
 use crate::said::{Said, Stop};
 use octets::Octets;
@@ -44,7 +44,7 @@ impl Made for Frames {
 
 impl Calls for Frames {
     fn call_once(&mut self, said: &mut Said, call: &str) {
-        if call == "decode" {
+        if is_word(call, "decode") {
             let read = decode(said.alloc, self.datagram.as_slice());
             given(said, read, FrameFault::Memory);
         } else {

@@ -1,6 +1,6 @@
 //! One gateway.
 
-use crate::calls::{Calls, Made, Shown, beside, given};
+use crate::calls::{Calls, Made, Shown, beside, given, is_one_of, is_same, is_word};
 use crate::deltas::{client, delta, octets_of, spelled};
 use crate::locals::{HERE, config};
 use crate::said::{Said, Stop};
@@ -9,7 +9,9 @@ use jr_journal::MemoryDisk;
 use octets::{NoMemory, Octets};
 use rep_digest::Digest;
 use rep_model::Replica;
+use sn_local::Config;
 use std::alloc::Global;
+use std::marker::PhantomData;
 use std::mem;
 
 /// The first CONNECT of client s1, and its SUBSCRIBE to `t/#`.
@@ -34,11 +36,14 @@ const RETAINED: [&str; 2] = ["0200000001", "040003742f61000000000000000101010001
 /// A gateway on a disk in memory.
 pub(crate) type Gateway<R> = Node<R, MemoryDisk>;
 
-/// A disk on which a gateway is opened, and that gateway.
+/// What the opening of a gateway gives.
+type Opened<R> = Result<Gateway<R>, (MemoryDisk, NodeFault)>;
+
+/// A disk on which a gateway is opened.
 #[derive(Drop)]
 pub(crate) struct Openings<R: Replica> {
     disk: MemoryDisk,
-    opened: Option<Gateway<R>>,
+    replica: PhantomData<R>,
 }
 
 impl<R: Replica> Made for Openings<R> {
@@ -48,28 +53,53 @@ impl<R: Replica> Made for Openings<R> {
         } else {
             MemoryDisk::new(said.alloc)
         };
-        Some(Openings { disk, opened: None })
+        Some(Openings {
+            disk,
+            replica: PhantomData,
+        })
     }
 }
 
 impl<R: Replica> Calls for Openings<R> {
     fn call_once(&mut self, said: &mut Said, _call: &str) {
         if let Some(config) = config(said) {
-            let disk = mem::replace(&mut self.disk, MemoryDisk::new(said.alloc));
-            match Node::open(said.alloc, config, disk) {
-                Ok(node) => {
-                    said.number("records", node.records() as usize);
-                    show_kept(said, &node);
-                    said.answer();
-                    self.opened = Some(node);
-                }
-                Err((disk, fault)) => {
-                    self.disk = disk;
-                    look_closed(said, self.disk.starved(), &fault);
-                }
+            let disk = replaced(&mut self.disk, MemoryDisk::new(said.alloc));
+            let opened = open::<R>(said.alloc, config, disk);
+            self.look(said, opened);
+        }
+    }
+}
+
+impl<R: Replica> Openings<R> {
+    /// Looks at an opening. If it was refused, the disk came back.
+    fn look(&mut self, said: &mut Said, opened: Opened<R>) {
+        match opened {
+            Ok(node) => show_opened(said, node),
+            Err((disk, fault)) => {
+                look_closed(said, disk.starved(), &fault);
+                drop(fault);
+                drop(replaced(&mut self.disk, disk));
             }
         }
     }
+}
+
+/// The disk that was in this place, where there is another one now.
+fn replaced(place: &mut MemoryDisk, disk: MemoryDisk) -> MemoryDisk {
+    mem::replace(place, disk)
+}
+
+/// Opens a gateway on a disk.
+fn open<R: Replica>(alloc: Global, config: Config, disk: MemoryDisk) -> Opened<R> {
+    Node::open(alloc, config, disk)
+}
+
+/// Prints how many records a gateway has read, and what it keeps.
+fn show_opened<R: Replica>(said: &mut Said, node: Gateway<R>) {
+    said.number("records", node.records() as usize);
+    show_kept(said, &node);
+    drop(node);
+    said.answer();
 }
 
 /// Looks at a refused opening.
@@ -95,19 +125,36 @@ pub(crate) struct Gateways<R: Replica> {
 
 impl<R: Replica> Made for Gateways<R> {
     fn make(said: &mut Said, call: &str, is_second: bool) -> Option<Gateways<R>> {
-        let is_connected = is_second || (call != "Node::frame" && call != "Node::retained");
-        let mut node = gateway(said, is_connected)?;
-        if call == "Node::retained" {
-            let retained = step_of(said, &RETAINED);
-            call_beside(said, &mut node, retained);
+        let is_connected = is_second || !is_one_of(call, "Node::frame Node::retained");
+        match gateway(said, is_connected) {
+            Some(node) => Some(ready(said, node, call, is_connected)),
+            None => None,
         }
-        Some(Gateways {
-            stood: kept(said, &node),
-            node,
-            step: step(said, call, is_connected),
-            is_connected,
-        })
     }
+}
+
+/// A gateway of which this call is made.
+fn ready<R: Replica>(
+    said: &mut Said,
+    mut node: Gateway<R>,
+    call: &str,
+    is_connected: bool,
+) -> Gateways<R> {
+    if is_word(call, "Node::retained") {
+        retain(said, &mut node);
+    }
+    Gateways {
+        stood: kept(said, &node),
+        node,
+        step: step(said, call, is_connected),
+        is_connected,
+    }
+}
+
+/// A gateway takes what is retained of a topic.
+fn retain<R: Replica>(said: &mut Said, node: &mut Gateway<R>) {
+    let retained = step_of(said, &RETAINED);
+    call_beside(said, node, retained);
 }
 
 impl<R: Replica> Calls for Gateways<R> {
@@ -125,6 +172,10 @@ impl<R: Replica> Calls for Gateways<R> {
                 let retained = self.node.retained(said.alloc);
                 given(said, retained, NoMemory);
             }
+            "Node::glance" => {
+                let found = self.node.glance(said.alloc, b"", 9);
+                given(said, found, NoMemory);
+            }
             call => self.answer_once(said, call),
         }
     }
@@ -133,33 +184,46 @@ impl<R: Replica> Calls for Gateways<R> {
 impl<R: Replica> Gateways<R> {
     /// Makes a call, and looks at the answer.
     fn answer_once(&mut self, said: &mut Said, call: &str) {
-        let answer = if call == "Node::step" {
+        let answer = self.answered(said, call);
+        match &answer {
+            Ok(out) => self.show(said, out),
+            Err(fault) => self.look(said, fault),
+        }
+        drop(answer);
+    }
+
+    /// What the gateway answers to the call.
+    fn answered(&mut self, said: &mut Said, call: &str) -> Answer {
+        if is_word(call, "Node::step") {
             called_thrice(said, &mut self.node, &self.step)
         } else {
             called(said.alloc, &mut self.node, &self.step)
-        };
-        match &answer {
-            Ok(out) => {
-                show_out(said, out);
-                show_kept(said, &self.node);
-                said.answer();
-            }
-            Err(fault) => self.look(said, fault),
         }
+    }
+
+    /// Prints an answer, and what the gateway keeps then.
+    fn show(&self, said: &mut Said, out: &Out) {
+        show_out(said, out);
+        show_kept(said, &self.node);
+        said.answer();
     }
 
     /// Looks at a refusal: all is as it was, but that the gateway halts if its disk fails.
     fn look(&mut self, said: &mut Said, fault: &NodeFault) {
         match fault {
             NodeFault::Disk { out } => self.look_halted(said, out),
-            fault => {
-                said.keep(!self.node.is_halted());
-                said.refuse(matches!(fault, NodeFault::Memory));
-            }
+            fault => self.look_going(said, fault),
         }
         let stands = kept(said, &self.node);
-        said.keep(stands.as_slice() == self.stood.as_slice());
+        said.keep(is_same(stands.as_slice(), self.stood.as_slice()));
+        drop(stands);
         self.revive(said);
+    }
+
+    /// Looks at a gateway that goes on, as its disk did not fail.
+    fn look_going(&self, said: &mut Said, fault: &NodeFault) {
+        said.keep(!self.node.is_halted());
+        said.refuse(matches!(fault, NodeFault::Memory));
     }
 
     /// Looks at a gateway whose disk failed, and at what it answered.
@@ -178,7 +242,7 @@ impl<R: Replica> Gateways<R> {
     fn revive(&mut self, said: &mut Said) {
         if self.node.is_halted() {
             if let Some(node) = gateway(said, self.is_connected) {
-                self.node = node;
+                drop(mem::replace(&mut self.node, node));
             }
         }
     }
@@ -245,28 +309,53 @@ fn step_of(said: &mut Said, parts: &[&str]) -> Step {
 fn called<R: Replica>(alloc: Global, node: &mut Gateway<R>, step: &Step) -> Answer {
     match step {
         Step::Frame { from, bytes, now } => node.frame(alloc, *from, bytes.as_slice(), *now),
-        Step::Take { delta } => node.take(alloc, delta),
         Step::Tick { now } => node.tick(alloc, *now),
-        Step::View { client } => node.view(alloc, client),
-        Step::Digest => node.digest(alloc),
-        Step::Answer { digest } => node.answer(alloc, digest),
         Step::Compact => node.compact(alloc),
         Step::Reopen => node.reopen(alloc),
+        step => told(alloc, node, step),
+    }
+}
+
+/// The same of the calls that bring or ask for what gateways tell one another.
+fn told<R: Replica>(alloc: Global, node: &mut Gateway<R>, step: &Step) -> Answer {
+    match step {
+        Step::Take { delta } => node.take(alloc, delta),
+        Step::View { client } => node.view(alloc, client),
+        Step::Answer { digest } => node.answer(alloc, digest),
+        _ => node.digest(alloc),
     }
 }
 
 /// A call as a value, which answers three times.
 fn called_thrice<R: Replica>(said: &mut Said, node: &mut Gateway<R>, step: &Step) -> Answer {
-    let (first, second, third) = node.step(said.alloc, step);
-    let is_ok = first.is_ok();
-    said.keep(second.is_ok() == is_ok && third.is_ok() == is_ok);
+    let (first, second, third) = answers(said.alloc, node, step);
+    said.keep(are_alike(&first, &second, &third));
+    drop(second);
+    drop(third);
     first
+}
+
+/// What is answered to a call as a value.
+fn answers<R: Replica>(
+    alloc: Global,
+    node: &mut Gateway<R>,
+    step: &Step,
+) -> (Answer, Answer, Answer) {
+    node.step(alloc, step)
+}
+
+/// Whether all of these are refusals, or none of them is.
+fn are_alike(first: &Answer, second: &Answer, third: &Answer) -> bool {
+    let is_ok = first.is_ok();
+    second.is_ok() == is_ok && third.is_ok() == is_ok
 }
 
 /// Makes a call beside the row's.
 fn call_beside<R: Replica>(said: &mut Said, node: &mut Gateway<R>, step: Step) {
     let answer = called(said.alloc, node, &step);
+    drop(step);
     said.stop_if_short(answer.is_err());
+    drop(answer);
 }
 
 /// A gateway without clients, or one at which the client is connected.
@@ -282,15 +371,15 @@ pub(crate) fn gateway<R: Replica>(said: &mut Said, is_connected: bool) -> Option
 /// A gateway without clients.
 fn new<R: Replica>(said: &mut Said) -> Option<Gateway<R>> {
     let config = config(said)?;
-    let opened = Node::open(said.alloc, config, MemoryDisk::new(said.alloc));
+    let opened = open::<R>(said.alloc, config, MemoryDisk::new(said.alloc));
     beside(said, opened)
 }
 
 /// The octets of what a gateway must keep.
 fn kept<R: Replica>(said: &mut Said, node: &Gateway<R>) -> Vec<u8> {
-    match &node.held(said.alloc) {
-        Ok(deltas) => spelled(said, deltas.as_slice()),
-        Err(_) => {
+    match node.held(said.alloc) {
+        Ok(deltas) => spelled(said, deltas),
+        Err(_fault) => {
             said.stop(Stop::Memory);
             Vec::new(said.alloc)
         }
@@ -301,6 +390,7 @@ fn kept<R: Replica>(said: &mut Said, node: &Gateway<R>) -> Vec<u8> {
 pub(crate) fn show_kept<R: Replica>(said: &mut Said, node: &Gateway<R>) {
     let octets = kept(said, node);
     said.octets(octets.as_slice());
+    drop(octets);
 }
 
 /// Whether this is sent instead of the answer, and nothing else is said.
@@ -310,7 +400,7 @@ pub(crate) fn is_excuse(out: &Out, excuse: &[u8]) -> bool {
     }
     match out.sends.as_slice() {
         [] => excuse.is_empty(),
-        [send] => send.bytes.as_slice() == excuse,
+        [send] => is_same(send.bytes.as_slice(), excuse),
         _ => false,
     }
 }

@@ -1,6 +1,6 @@
 //! Journals on a disk in memory.
 
-use crate::calls::{Calls, Made, Shown, beside, octets_or_none};
+use crate::calls::{Calls, Made, Shown, beside, is_word, octets_or_none};
 use crate::deltas::{FIRST, delta};
 use crate::said::{Said, Stop};
 use jr_journal::{Disk, Journal, JournalFault, MemoryDisk, Slot};
@@ -61,7 +61,7 @@ pub(crate) struct Journals {
 
 impl Made for Journals {
     fn make(said: &mut Said, call: &str, _is_second: bool) -> Option<Journals> {
-        let journal = journal(said, call != "Journal::append")?;
+        let journal = journal(said, !is_word(call, "Journal::append"))?;
         Some(Journals {
             journal: Some(journal),
             delta: delta(said, &FIRST),

@@ -1,6 +1,6 @@
 //! Links.
 
-use crate::calls::{Calls, Made, Shown, given};
+use crate::calls::{Calls, Made, Shown, given, is_word};
 use crate::deltas::{FIRST, delta, octets_of};
 use crate::page::Page;
 use crate::said::Said;
@@ -26,24 +26,41 @@ pub(crate) struct Links {
 
 impl Made for Links {
     fn make(said: &mut Said, _call: &str, is_second: bool) -> Option<Links> {
-        let mut links = Links {
-            link: LinkIn::new(),
-            piece: octets_of(said, &PIECE),
-            message: LinkMessage::Hello(2),
-        };
-        if is_second {
-            let fed = links.link.feed(said.alloc, links.piece.as_slice());
-            said.stop_if_short(fed.is_err());
-            links.piece = octets_of(said, &REST);
-            links.message = LinkMessage::Delta(delta(said, &FIRST));
-        }
-        Some(links)
+        Some(if is_second {
+            fed(said)
+        } else {
+            Links {
+                link: LinkIn::new(),
+                piece: octets_of(said, &PIECE),
+                message: LinkMessage::Hello(2),
+            }
+        })
     }
+}
+
+/// A link over which the first piece came in, the second piece, and a delta that goes out.
+fn fed(said: &mut Said) -> Links {
+    let mut link = LinkIn::new();
+    feed(said, &mut link);
+    Links {
+        link,
+        piece: octets_of(said, &REST),
+        message: LinkMessage::Delta(delta(said, &FIRST)),
+    }
+}
+
+/// The first piece comes in over a link, beside the call.
+fn feed(said: &mut Said, link: &mut LinkIn) {
+    let piece = octets_of(said, &PIECE);
+    let fed = link.feed(said.alloc, piece.as_slice());
+    drop(piece);
+    said.stop_if_short(fed.is_err());
+    drop(fed);
 }
 
 impl Calls for Links {
     fn call_once(&mut self, said: &mut Said, call: &str) {
-        if call == "link_out" {
+        if is_word(call, "link_out") {
             send(said, &self.message);
         } else {
             let fed = self.link.feed(said.alloc, self.piece.as_slice());

@@ -1,6 +1,6 @@
 //! What a gateway is told, and what it knows that is in no set of operations.
 
-use crate::calls::{Calls, Made, Shown, given};
+use crate::calls::{Calls, Made, Shown, given, is_word};
 use crate::deltas::client;
 use crate::said::Said;
 use crate::topics::predefined;
@@ -31,7 +31,7 @@ impl Made for Locals {
 
 impl Calls for Locals {
     fn call_once(&mut self, said: &mut Said, call: &str) {
-        if call == "Config::copy" {
+        if is_word(call, "Config::copy") {
             let copy = self.config.copy(said.alloc);
             given(said, copy, StepFault::Memory);
         } else {

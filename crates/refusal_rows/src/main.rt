@@ -29,6 +29,7 @@ mod links;
 mod locals;
 mod page;
 mod replicas;
+mod reports;
 mod rows;
 mod said;
 mod serving;
@@ -38,7 +39,7 @@ mod steps;
 mod topics;
 mod worlds;
 
-use crate::calls::is_one_of;
+use crate::calls::{is_one_of, is_word};
 use crate::rows::{NO_GROWTH, ROWS, play_row};
 use crate::said::{Said, Stop};
 use std::alloc::Global;
@@ -64,9 +65,24 @@ where
     T: Threads + Wait + Sync + Files<File = File> + Input + Print + Eprint + AllocGlobal,
 {
     for line in rt.lines(rt.alloc()) {
-        play_line(rt, line?.as_str())?;
+        play_read(rt, line)?;
     }
     Ok(())
+}
+
+/// Plays a line that is read.
+fn play_read<T>(rt: &T, line: io::Result<String>) -> io::Result<()>
+where
+    T: Threads + Wait + Sync + Files<File = File> + Print + Eprint + AllocGlobal,
+{
+    match line {
+        Ok(line) => {
+            let played = play_line(rt, line.as_str());
+            drop(line);
+            played
+        }
+        Err(error) => Err(error),
+    }
 }
 
 /// Plays a line.
@@ -74,7 +90,7 @@ fn play_line<T>(rt: &T, line: &str) -> io::Result<()>
 where
     T: Threads + Wait + Sync + Files<File = File> + Print + Eprint + AllocGlobal,
 {
-    if line == "all" {
+    if is_word(line, "all") {
         return play_all(rt);
     }
     match line.strip_prefix("use ") {
@@ -115,7 +131,14 @@ where
     if said.begin_again() {
         play_row(rt, &mut said, name);
     }
-    print(rt, name, &said)?;
+    let told = tell(rt, name, &said);
+    drop(said);
+    told
+}
+
+/// Prints what a row says, and how often memory was refused to it.
+fn tell<T: Print + Eprint>(rt: &T, name: &str, said: &Said) -> io::Result<()> {
+    print(rt, name, said)?;
     let (refused, disk, beside) = (said.refused, said.disk, said.beside);
     eprintln!(rt; "refused {refused} disk {disk} beside {beside}")
 }

@@ -1,9 +1,10 @@
 //! Replicas, and views of clients.
 
-use crate::calls::{Calls, Made, Shown, beside, given};
+use crate::calls::{Calls, Made, Shown, beside, given, is_same, is_word};
 use crate::deltas::{FIRST, client, delta, spelled};
 use crate::said::{Said, Stop};
 use crate::topics::filter;
+use gw_report::Glimpse;
 use rep_model::{ClientView, Replica, TakeFault};
 use rep_ops::{ClientId, Delta, OpsFault, Retained};
 use sn_topic::TopicName;
@@ -34,12 +35,14 @@ pub(crate) struct Replicas<R: Replica> {
 
 impl<R: Replica> Made for Replicas<R> {
     fn make(said: &mut Said, call: &str, _is_second: bool) -> Option<Replicas<R>> {
-        let replica: R = replica_with(said, call != "prepare")?;
-        Some(Replicas {
-            next: delta(said, &NEXT),
-            stood: kept(said, &replica),
-            replica,
-        })
+        match replica_with(said, !is_word(call, "prepare")) {
+            Some(replica) => Some(Replicas {
+                next: delta(said, &NEXT),
+                stood: kept(said, &replica),
+                replica,
+            }),
+            None => None,
+        }
     }
 }
 
@@ -64,11 +67,18 @@ impl<R: Replica> Replicas<R> {
                 said.answer();
             }
             Err(fault) => {
-                let stands = kept(said, &self.replica);
-                said.keep(stands.as_slice() == self.stood.as_slice());
-                said.refuse(fault == TakeFault::Memory);
+                self.look(said);
+                said.refuse(matches!(&fault, TakeFault::Memory));
+                drop(fault);
             }
         }
+    }
+
+    /// Looks whether what is kept is as it was.
+    fn look(&self, said: &mut Said) {
+        let stands = kept(said, &self.replica);
+        said.keep(is_same(stands.as_slice(), self.stood.as_slice()));
+        drop(stands);
     }
 
     /// Asks for the clients, for what is kept, or for what is retained of all topics.
@@ -89,12 +99,16 @@ impl<R: Replica> Replicas<R> {
 
 /// Makes an empty replica.
 fn show_empty<R: Replica>(said: &mut Said) {
-    match &R::empty(said.alloc) {
+    match R::empty(said.alloc) {
         Ok(replica) => {
-            show(said, replica);
+            show(said, &replica);
+            drop(replica);
             said.answer();
         }
-        Err(fault) => said.refuse(*fault == TakeFault::Memory),
+        Err(fault) => {
+            said.refuse(matches!(&fault, TakeFault::Memory));
+            drop(fault);
+        }
     }
 }
 
@@ -102,6 +116,7 @@ fn show_empty<R: Replica>(said: &mut Said) {
 fn show<R: Replica>(said: &mut Said, replica: &R) {
     let octets = kept(said, replica);
     said.octets(octets.as_slice());
+    drop(octets);
 }
 
 /// Prints clients.
@@ -123,10 +138,20 @@ impl Shown for Vec<(TopicName, Retained)> {
     }
 }
 
+/// Prints the ids of clients at a glance.
+impl Shown for Vec<Glimpse> {
+    fn show(&self, said: &mut Said) {
+        for glimpse in self.as_slice() {
+            said.octets(glimpse.client.bytes());
+        }
+    }
+}
+
 /// Asks what is retained of all topics.
 fn match_all<R: Replica>(said: &mut Said, replica: &R) {
     if let Some(all) = filter(said, b"#") {
         let found = replica.retained_matching(said.alloc, &all);
+        drop(all);
         given(said, found, TakeFault::Memory);
     }
 }
@@ -151,6 +176,7 @@ pub(crate) fn replica_with<R: Replica>(said: &mut Said, has_more: bool) -> Optio
 fn take_parts<R: Replica>(said: &mut Said, replica: &mut R, parts: &[&str]) {
     let delta = delta(said, parts);
     take(said, replica, &delta);
+    drop(delta);
 }
 
 /// Takes a delta beside the call.
@@ -163,9 +189,10 @@ pub(crate) fn take<R: Replica>(said: &mut Said, replica: &mut R, delta: &Delta) 
 
 /// The octets of what a replica must keep.
 fn kept<R: Replica>(said: &mut Said, replica: &R) -> Vec<u8> {
-    match &replica.held(said.alloc) {
-        Ok(deltas) => spelled(said, deltas.as_slice()),
-        Err(_) => {
+    match replica.held(said.alloc) {
+        Ok(deltas) => spelled(said, deltas),
+        Err(fault) => {
+            drop(fault);
             said.stop(Stop::Memory);
             Vec::new(said.alloc)
         }
@@ -178,17 +205,28 @@ fn copy_view<R: Replica>(said: &mut Said, replica: &R) {
         if let Some(view) = replica.view_of(&client) {
             show_copy(said, view);
         }
+        drop(client);
     }
 }
 
-/// Copies a view, and prints how many messages wait in the copy.
+/// Copies a view, and looks at the copy.
 fn show_copy(said: &mut Said, view: &ClientView) {
-    match &view.copy(said.alloc) {
-        Ok(copy) => {
-            said.keep(copy.session == view.session && copy.stamp == view.stamp);
-            said.number("pending", copy.pending.as_slice().len());
-            said.answer();
-        }
-        Err(fault) => said.refuse(*fault == OpsFault::Memory),
+    let copied = view.copy(said.alloc);
+    match &copied {
+        Ok(copy) => show_pending(said, view, copy),
+        Err(fault) => said.refuse(matches!(fault, OpsFault::Memory)),
     }
+    drop(copied);
+}
+
+/// Prints how many messages wait in the copy of a view.
+fn show_pending(said: &mut Said, view: &ClientView, copy: &ClientView) {
+    said.keep(has_same(view, copy));
+    said.number("pending", copy.pending.as_slice().len());
+    said.answer();
+}
+
+/// Whether two views have one session, under one stamp.
+fn has_same(view: &ClientView, copy: &ClientView) -> bool {
+    copy.session == view.session && copy.stamp == view.stamp
 }

@@ -1,6 +1,6 @@
 //! The rows.
 
-use crate::calls::{is_one_of, play};
+use crate::calls::{is_one_of, is_word, play};
 use crate::daemon::{self, Starts};
 use crate::deltas::{Clients, Deltas};
 use crate::digests::Digests;
@@ -10,6 +10,7 @@ use crate::journals::{Disks, Journals};
 use crate::links::Links;
 use crate::locals::Locals;
 use crate::replicas::Replicas;
+use crate::reports::Reports;
 use crate::said::{Said, Stop};
 use crate::sessions::Sessions;
 use crate::steps::Steps;
@@ -93,18 +94,27 @@ pub(crate) const ROWS: &str = "
     gw_node::Node::held
     gw_node::Node::clients
     gw_node::Node::retained
+    gw_node::Node::glance
     gw_world::run
     gw_play::play
     gw_shift::Shift::open
     gw_shift::Shift::call
     gw_shift::Shift::after
+    gw_shift::Shift::glance
+    gw_shift::Shift::messages_known
+    gw_tally::tally
     gw_net::LinkIn::feed
     gw_net::link_out
+    gw_page::page
+    gw_page::entry
     gw_main::settings
     gw_main::begin
     file_disk::FileDisk::at
     gw_serve::serve
 ";
+
+/// The homes of the rows that are played on the replica that folds alone.
+const FOLDING: &str = "rep_state rep_model";
 
 /// The rows whose call asks for no memory.
 pub(crate) const NO_GROWTH: &str = "
@@ -121,9 +131,18 @@ pub(crate) fn play_row<T>(rt: &T, said: &mut Said, name: &str)
 where
     T: Threads + Wait + Sync + Files<File = File>,
 {
-    match name.split_once("::") {
-        Some((home, call)) if is_one_of(name, ROWS) => play_known(rt, said, home, call),
-        _ => said.stop(Stop::Row),
+    match parts_of(name) {
+        Some((home, call)) => play_known(rt, said, home, call),
+        None => said.stop(Stop::Row),
+    }
+}
+
+/// The home and the call of a row, if it is there.
+fn parts_of(name: &str) -> Option<(&str, &str)> {
+    if is_one_of(name, ROWS) {
+        name.split_once("::")
+    } else {
+        None
     }
 }
 
@@ -134,7 +153,7 @@ where
     T: Threads + Wait + Sync + Files<File = File>,
 {
     match home {
-        "gw_shift" => shifts::play_row(rt, said, call),
+        "gw_shift" => shifts::play_row::<T, Folded>(rt, said, call),
         "file_disk" => daemon::play_files(rt, said, call),
         "gw_serve" => serving::play_row(rt, said),
         home => play_format(said, home, call),
@@ -153,12 +172,13 @@ fn play_format(said: &mut Said, home: &str, call: &str) {
     }
 }
 
-/// Rows of journals, links, settings and scripts.
+/// Rows of journals, links, pages, settings and scripts.
 fn play_part(said: &mut Said, home: &str, call: &str) {
     match home {
-        "jr_journal" if call == "Journal::open" => play::<Disks>(said, call),
+        "jr_journal" if is_word(call, "Journal::open") => play::<Disks>(said, call),
         "jr_journal" => play::<Journals>(said, call),
         "gw_net" => play::<Links>(said, call),
+        "gw_page" | "gw_tally" => play::<Reports>(said, call),
         "gw_main" => play::<Starts>(said, call),
         "gw_world" | "gw_play" => play::<Worlds>(said, call),
         home => play_state(said, home, call),
@@ -167,23 +187,46 @@ fn play_part(said: &mut Said, home: &str, call: &str) {
 
 /// Rows of what a gateway knows, and of one replica.
 fn play_state(said: &mut Said, home: &str, call: &str) {
-    match home {
-        "sn_local" => play::<Locals>(said, call),
-        "rep_plain" => play::<Replicas<Plain>>(said, call),
-        "rep_state" | "rep_model" => play::<Replicas<Folded>>(said, call),
-        home => {
-            play_on::<Plain>(said, home, call);
-            play_on::<Folded>(said, home, call);
-        }
+    if is_word(home, "sn_local") {
+        play::<Locals>(said, call);
+    } else {
+        play_plain(said, home, call);
+        play_folded(said, home, call);
     }
 }
 
-/// Rows that are played on both replicas, on one of them.
+/// Rows that are played on the replica that keeps all, or on both.
+fn play_plain(said: &mut Said, home: &str, call: &str) {
+    if !is_one_of(home, FOLDING) {
+        play_on::<Plain>(said, home, call);
+    }
+}
+
+/// Rows that are played on the replica that folds, or on both.
+fn play_folded(said: &mut Said, home: &str, call: &str) {
+    if !is_word(home, "rep_plain") {
+        play_on::<Folded>(said, home, call);
+    }
+}
+
+/// Rows that are played on one replica or on both, on one of them.
 fn play_on<R: Replica>(said: &mut Said, home: &str, call: &str) {
-    match home {
-        "gw_node" if call == "Node::open" => play::<Openings<R>>(said, call),
-        "gw_node" => play::<Gateways<R>>(said, call),
-        "rep_digest" | "rep_answer" => play::<Digests<R>>(said, call),
-        _ => play::<Steps<R>>(said, call),
+    if is_word(home, "gw_node") {
+        play_node::<R>(said, call);
+    } else if is_one_of(home, "rep_digest rep_answer") {
+        play::<Digests<R>>(said, call);
+    } else if is_one_of(home, "rep_plain rep_state rep_model") {
+        play::<Replicas<R>>(said, call);
+    } else {
+        play::<Steps<R>>(said, call);
+    }
+}
+
+/// Rows of a gateway.
+fn play_node<R: Replica>(said: &mut Said, call: &str) {
+    if is_word(call, "Node::open") {
+        play::<Openings<R>>(said, call);
+    } else {
+        play::<Gateways<R>>(said, call);
     }
 }

@@ -3,14 +3,14 @@
 ghost use Rattle.std.specs.Prelude.{◌≤◌, ◌+◌, length, IfSome};
 
 use crate::said::{Said, Stop};
-use crate::shifts::begun;
-use gw_serve::{Cause, serve};
+use crate::shifts::{Shared, begun};
+use gw_serve::{Cause, ServeFault, Served, serve};
 use gw_shift::{Pass, Shift};
 use gw_wire::{Arrival, OpenGate, Post, Tally, Unsent, Wire, WireFault};
 use jr_journal::{Disk, Failures};
 use rep_model::Replica;
+use rep_state::Folded;
 use sn_local::Addr;
-use std::mem;
 use std::sync::Wait;
 use std::thread::{self, Threads};
 
@@ -91,47 +91,81 @@ impl Post for Mute {
     }
 }
 
-/// Plays the row. It has its own loop: what a trait's call is given is not known to be `Sync`.
+/// Plays the row.
 pub(crate) fn play_row<T: Wait + Threads + Sync>(rt: &T, said: &mut Said) {
-    if let Some((shift, mut passes)) = begun(said) {
-        said.ask();
-        for _ in 0..2 {
-            if said.is_asking() {
-                serve_once(rt, said, &shift, &mut passes);
-            }
-        }
-        if !said.is_answered() {
-            said.stop(Stop::Other);
-        }
+    play_on::<T, Folded>(rt, said);
+}
+
+/// Plays the row of a gateway with these replicas.
+fn play_on<T, R>(rt: &T, said: &mut Said)
+where
+    T: Threads + Wait + Sync,
+    R: Replica + Send,
+    R::Staged: Send,
+{
+    if let Some((shift, passes)) = begun::<R>(said) {
+        serve_in(rt, said, &shift, passes);
+        drop(shift);
     }
 }
 
-/// Serves the datagram with one worker.
-fn serve_once<T, R, D>(rt: &T, said: &mut Said, shift: &Shift<R, D>, passes: &mut Vec<Pass>)
+/// Serves, and serves again if that is refused memory. It has its own loop: what a trait's call is
+/// given is not known to be `Sync`.
+fn serve_in<T, R>(rt: &T, said: &mut Said, shift: &Shared<R>, mut passes: Vec<Pass>)
+where
+    T: Threads + Wait + Sync,
+    R: Replica + Send,
+    R::Staged: Send,
+{
+    said.ask();
+    for _ in 0..2 {
+        if said.is_asking() {
+            passes = serve_once(rt, said, shift, passes);
+        }
+    }
+    drop(passes);
+    if !said.is_answered() {
+        said.stop(Stop::Other);
+    }
+}
+
+/// Serves the datagram with one worker. If that is refused, its pass comes back.
+fn serve_once<T, R, D>(rt: &T, said: &mut Said, shift: &Shift<R, D>, passes: Vec<Pass>) -> Vec<Pass>
 where
     T: Threads + Wait + Sync,
     R: Replica + Send,
     R::Staged: Send,
     D: Disk + Drop + Send,
 {
+    if passes.is_empty() {
+        said.stop(Stop::Other);
+        return passes;
+    }
     let mut wire = Brief::new();
-    let given = mem::replace(passes, Vec::new(said.alloc));
-    if given.is_empty() {
-        return said.stop(Stop::Other);
+    let answer = serve(
+        rt, said.alloc, shift, passes, &mut wire, &Mute, &OpenGate, 200,
+    );
+    drop(wire);
+    match answer {
+        Ok(served) => show_served(said, served),
+        Err(fault) => look(said, fault),
     }
-    match serve(
-        rt, said.alloc, shift, given, &mut wire, &Mute, &OpenGate, 200,
-    ) {
-        Ok(served) => {
-            said.number("passes", served.passes.len());
-            said.number("taken", served.taken.len());
-            said.number("left", served.left.len());
-            said.answer();
-        }
-        Err(fault) => {
-            *passes = fault.passes;
-            said.keep(passes.len() == 1);
-            said.refuse(fault.cause == Cause::Memory);
-        }
-    }
+}
+
+/// Prints what serving did. No pass is needed any more.
+fn show_served<R: Replica, D: Disk + Drop>(said: &mut Said, served: Served<'_, R, D>) -> Vec<Pass> {
+    said.number("passes", served.passes.len());
+    said.number("taken", served.taken.len());
+    said.number("left", served.left.len());
+    drop(served);
+    said.answer();
+    Vec::new(said.alloc)
+}
+
+/// Looks at what a refusal leaves: the pass.
+fn look<R: Replica, D: Disk + Drop>(said: &mut Said, fault: ServeFault<'_, R, D>) -> Vec<Pass> {
+    let ServeFault { passes, cause, .. } = fault;
+    said.keep(passes.len() == 1);
+    said.refuse(cause == Cause::Memory);
+    passes
 }

@@ -1,11 +1,12 @@
 //! Sessions.
 
-use crate::calls::{Calls, Made, Shown, given};
+use crate::calls::{Calls, Made, Shown, given, is_word};
 use crate::deltas::delta;
 use crate::said::{Said, Stop};
 use rep_ops::{Delta, Op};
 use sn_session::{Session, SessionOp};
 use sn_tables::SessionFault;
+use std::alloc::Global;
 
 /// Changes of each kind that adds something: a Take of a session with a subscription, a topic id,
 /// a subscription, the topic of a will, its message, and the id of a message that was received.
@@ -34,7 +35,7 @@ impl Made for Sessions {
             changes: delta(said, &CHANGES),
             done: 0,
         };
-        if call == "Session::copy" {
+        if is_word(call, "Session::copy") {
             let changed = made.change_all(said);
             said.stop_if_short(changed.is_err());
         }
@@ -44,21 +45,26 @@ impl Made for Sessions {
 
 impl Calls for Sessions {
     fn call_once(&mut self, said: &mut Said, call: &str) {
-        if call == "Session::copy" {
+        if is_word(call, "Session::copy") {
             self.copy(said);
         } else {
-            match self.change_all(said) {
-                Ok(()) => {
-                    self.session.show(said);
-                    said.answer();
-                }
-                Err(fault) => said.refuse(fault == SessionFault::Memory),
-            }
+            self.change(said);
         }
     }
 }
 
 impl Sessions {
+    /// Makes the changes that are left, and prints how much the session has then.
+    fn change(&mut self, said: &mut Said) {
+        match self.change_all(said) {
+            Ok(()) => {
+                self.session.show(said);
+                said.answer();
+            }
+            Err(fault) => said.refuse(matches!(&fault, SessionFault::Memory)),
+        }
+    }
+
     /// Makes the changes that are left, up to one that is refused.
     fn change_all(&mut self, said: &mut Said) -> Result<(), SessionFault> {
         let ops = self.changes.ops();
@@ -89,15 +95,26 @@ fn change_once(
 ) -> Result<(), SessionFault> {
     match session.copied(said.alloc) {
         Ok(before) => {
-            let done = session.apply(said.alloc, change);
-            said.keep(done.is_ok() || *session == before);
+            let done = apply(said.alloc, session, change);
+            said.keep(done.is_ok() || is_as(session, &before));
+            drop(before);
             done
         }
-        Err(_) => {
+        Err(_fault) => {
             said.stop(Stop::Memory);
             Ok(())
         }
     }
+}
+
+/// Makes a change.
+fn apply(alloc: Global, session: &mut Session, change: &SessionOp) -> Result<(), SessionFault> {
+    session.apply(alloc, change)
+}
+
+/// Whether a session is as it was.
+fn is_as(session: &Session, before: &Session) -> bool {
+    *session == *before
 }
 
 /// Prints how much a session has.

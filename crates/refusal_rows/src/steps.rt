@@ -3,19 +3,19 @@
 ghost use Rattle.std.specs.Prelude.{IfSome};
 ghost use Rattle.sn_frame.specs.Bodies.{IsMessage};
 
-use crate::calls::{Calls, Made, Shown, beside};
-use crate::deltas::{client, octets_of};
+use crate::calls::{Calls, Made, Shown, beside, is_word};
+use crate::deltas::{client, delta_of, octets_of};
 use crate::locals::{HERE, change, config};
 use crate::replicas::{new, take};
 use crate::said::{Said, Stop};
-use octets::NoMemory;
+use octets::{NoMemory, Sequence};
 use rep_model::Replica;
-use rep_ops::{ClientId, Delta};
+use rep_ops::{ClientId, Op};
 use sn_deliver::{ack_in, publish_in, pubrel_in, step, wake};
 use sn_exchange::deliver_next;
 use sn_flow::{connect, disconnect, will_msg, will_msg_update, will_topic, will_topic_update};
 use sn_frame::{Frame, decode};
-use sn_local::{Config, Dialogs, StepFault};
+use sn_local::{Config, Dialogs, Send, StepFault};
 use sn_plan::{Plan, Row, other, plan_of_row};
 use sn_subscribe::{register, subscribe, unsubscribe};
 use sn_tick::tick;
@@ -24,8 +24,27 @@ use std::alloc::Global;
 /// When a tick comes.
 const LATER: u64 = 20;
 
-/// A client connects with a will.
-const WITH_WILL: &str = "08040c01003c7331 060700742f61 0609676f6e65";
+/// What comes before each call, and what comes then, each a datagram in hexadecimal digits; `tick`
+/// stands for time that passes.
+const COMES: &str = "
+connect: > 08040401003c7331
+step: > 08040401003c7331
+other: > 030100
+disconnect: 08040401003c7331 > 0418012c
+wake: 08040401003c7331 0418012c > 04167331
+register: 08040401003c7331 > 090a00000001742f61
+subscribe: 08040401003c7331 > 0812200002742f23
+unsubscribe: 08040401003c7331 0812200002742f23 > 0814000003742f23
+will_topic: 08040c01003c7331 > 060700742f61
+will_msg: 08040c01003c7331 060700742f61 > 0609676f6e65
+will_topic_update: 08040c01003c7331 060700742f61 0609676f6e65 > 061a00742f62
+will_msg_update: 08040c01003c7331 060700742f61 0609676f6e65 > 061c68657265
+publish_in: 08040401003c7331 0812200002742f61 > 080c200001000478
+pubrel_in: 08040401003c7331 090a00000001742f61 080c400001000578 > 04100005
+ack_in: 08040401003c7331 0812200002742f61 080c200001000478 tick > 070d0001000100
+deliver_next: 08040401003c7331 07122200026162 0418012c 080c626162000078 > 04167331
+tick: 08040401003c7331 0812200002742f61 080c200001000478 > tick
+";
 
 /// A gateway without a journal, its client, and what comes when the call is made.
 #[derive(Drop)]
@@ -37,54 +56,34 @@ pub(crate) struct Steps<R: Replica> {
     last: &'static str,
 }
 
-/// What comes before the call, and what comes then, each a datagram in hexadecimal digits; `tick`
-/// stands for time that passes.
+/// What comes before a call, and what comes then.
 fn comes(call: &str) -> (&'static str, &'static str) {
-    match call {
-        "disconnect" => ("08040401003c7331", "0418012c"),
-        "wake" => ("08040401003c7331 0418012c", "04167331"),
-        "register" => ("08040401003c7331", "090a00000001742f61"),
-        "subscribe" => ("08040401003c7331", "0812200002742f23"),
-        "unsubscribe" => ("08040401003c7331 0812200002742f23", "0814000003742f23"),
-        "other" => ("", "030100"),
-        "connect" | "step" => ("", "08040401003c7331"),
-        call => comes_late(call),
+    for line in COMES.lines() {
+        if let Some((name, both)) = line.split_once(": ") {
+            if is_word(name, call) {
+                return both.split_once("> ").unwrap_or(("", ""));
+            }
+        }
     }
-}
-
-/// The same of a call about a will, or about messages.
-fn comes_late(call: &str) -> (&'static str, &'static str) {
-    match call {
-        "will_topic" => ("08040c01003c7331", "060700742f61"),
-        "will_msg" => ("08040c01003c7331 060700742f61", "0609676f6e65"),
-        "will_topic_update" => (WITH_WILL, "061a00742f62"),
-        "will_msg_update" => (WITH_WILL, "061c68657265"),
-        "publish_in" => ("08040401003c7331 0812200002742f61", "080c200001000478"),
-        "pubrel_in" => (
-            "08040401003c7331 090a00000001742f61 080c400001000578",
-            "04100005",
-        ),
-        "ack_in" => (
-            "08040401003c7331 0812200002742f61 080c200001000478 tick",
-            "070d0001000100",
-        ),
-        "deliver_next" => (
-            "08040401003c7331 07122200026162 0418012c 080c626162000078",
-            "04167331",
-        ),
-        _ => ("08040401003c7331 0812200002742f61 080c200001000478", "tick"),
-    }
+    ("", "")
 }
 
 impl<R: Replica> Made for Steps<R> {
     fn make(said: &mut Said, call: &str, _is_second: bool) -> Option<Steps<R>> {
         let (earlier, last) = comes(call);
-        let mut steps = fresh(said, last)?;
-        for word in earlier.split_whitespace() {
-            steps.hear(said, word);
+        match fresh(said, last) {
+            Some(steps) => Some(heard(said, steps, earlier)),
+            None => None,
         }
-        Some(steps)
     }
+}
+
+/// A gateway that hears what comes before the call.
+fn heard<R: Replica>(said: &mut Said, mut steps: Steps<R>, earlier: &str) -> Steps<R> {
+    for word in earlier.split_whitespace() {
+        steps.hear(said, word);
+    }
+    steps
 }
 
 impl<R: Replica> Calls for Steps<R> {
@@ -99,16 +98,48 @@ impl<R: Replica> Calls for Steps<R> {
 
 /// A gateway that has heard nothing.
 fn fresh<R: Replica>(said: &mut Said, last: &'static str) -> Option<Steps<R>> {
-    let client = client(said)?;
-    let config = config(said)?;
-    let replica = new(said)?;
-    Some(Steps {
-        config,
-        replica,
-        dialogs: Dialogs::empty(said.alloc),
-        client,
-        last,
-    })
+    match client(said) {
+        Some(client) => fresh_for(said, client, last),
+        None => None,
+    }
+}
+
+/// A gateway with this client.
+fn fresh_for<R: Replica>(
+    said: &mut Said,
+    client: ClientId,
+    last: &'static str,
+) -> Option<Steps<R>> {
+    match config(said) {
+        Some(config) => fresh_told(said, client, config, last),
+        None => {
+            drop(client);
+            None
+        }
+    }
+}
+
+/// A gateway with this client, which is told this.
+fn fresh_told<R: Replica>(
+    said: &mut Said,
+    client: ClientId,
+    config: Config,
+    last: &'static str,
+) -> Option<Steps<R>> {
+    match new(said) {
+        Some(replica) => Some(Steps {
+            config,
+            replica,
+            dialogs: Dialogs::empty(said.alloc),
+            client,
+            last,
+        }),
+        None => {
+            drop(client);
+            drop(config);
+            None
+        }
+    }
 }
 
 /// The frame of a datagram.
@@ -116,7 +147,9 @@ fn read(said: &mut Said, digits: &str) -> Option<Frame>
     ensures { IfSome result IsMessage }
 {
     let octets = octets_of(said, &[digits]);
-    match decode(said.alloc, octets.as_slice()) {
+    let read = decode(said.alloc, octets.as_slice());
+    drop(octets);
+    match read {
         Ok(frame) => Some(frame),
         Err(_) => {
             said.stop(Stop::Memory);
@@ -128,12 +161,29 @@ fn read(said: &mut Said, digits: &str) -> Option<Frame>
 impl<R: Replica> Steps<R> {
     /// The plan of a datagram, which is read beside it, or of a tick.
     fn planned(&self, said: &mut Said, word: &str) -> Option<Result<Plan, StepFault>> {
-        let (config, replica, dialogs) = (&self.config, &self.replica, &self.dialogs);
-        if word == "tick" {
-            return Some(tick(said.alloc, config, replica, dialogs, LATER));
+        if is_word(word, "tick") {
+            Some(self.ticked(said.alloc))
+        } else {
+            self.stepped(said, word)
         }
-        let frame = read(said, word)?;
-        Some(step(said.alloc, config, replica, dialogs, HERE, &frame, 1))
+    }
+
+    /// The plan of a tick.
+    fn ticked(&self, alloc: Global) -> Result<Plan, StepFault> {
+        tick(alloc, &self.config, &self.replica, &self.dialogs, LATER)
+    }
+
+    /// The plan of a datagram, which is read beside it.
+    fn stepped(&self, said: &mut Said, digits: &str) -> Option<Result<Plan, StepFault>> {
+        let (config, replica, dialogs) = (&self.config, &self.replica, &self.dialogs);
+        match read(said, digits) {
+            Some(frame) => {
+                let planned = step(said.alloc, config, replica, dialogs, HERE, &frame, 1);
+                drop(frame);
+                Some(planned)
+            }
+            None => None,
+        }
     }
 
     /// A datagram or a tick comes before the call.
@@ -147,13 +197,19 @@ impl<R: Replica> Steps<R> {
 
     /// Takes a plan: its operations, and what is in no set of operations.
     fn take(&mut self, said: &mut Said, plan: Plan) {
-        let Plan { ops, local, .. } = plan;
-        match &Delta::from_ops(said.alloc, ops.into_vec()) {
-            Ok(delta) => take(said, &mut self.replica, delta),
-            Err(_) => said.stop(Stop::Memory),
-        }
+        let Plan { ops, sends, local } = plan;
+        drop(sends);
+        self.take_ops(said, ops.into_vec());
         let changed = change(&mut self.dialogs, local);
         said.stop_if_short(changed.is_err());
+    }
+
+    /// Takes operations.
+    fn take_ops(&mut self, said: &mut Said, ops: Vec<Op>) {
+        if let Some(delta) = delta_of(said, ops) {
+            take(said, &mut self.replica, &delta);
+            drop(delta);
+        }
     }
 
     /// Asks for the plan of what comes.
@@ -194,8 +250,14 @@ impl<R: Replica> Steps<R> {
 
     /// The row of the datagram, which is read beside it.
     fn row(&self, said: &mut Said) -> Option<Result<Row, NoMemory>> {
-        let frame = read(said, self.last)?;
-        Some(self.row_of(said.alloc, &frame))
+        match read(said, self.last) {
+            Some(frame) => {
+                let row = self.row_of(said.alloc, &frame);
+                drop(frame);
+                Some(row)
+            }
+            None => None,
+        }
     }
 
     /// The row of a frame. Each of the functions below knows some frames, and leaves all others to
@@ -311,17 +373,25 @@ fn show_planned(said: &mut Said, planned: Result<Plan, StepFault>) {
             show_plan(said, plan);
             said.answer();
         }
-        Err(fault) => said.refuse(fault == StepFault::Memory),
+        Err(fault) => said.refuse(matches!(&fault, StepFault::Memory)),
     }
 }
 
 /// Prints what a plan sends, and its operations.
 fn show_plan(said: &mut Said, plan: Plan) {
-    for send in plan.sends.as_slice() {
+    let Plan { ops, sends, local } = plan;
+    drop(local);
+    show_sends(said, sends);
+    if let Some(delta) = delta_of(said, ops.into_vec()) {
+        delta.show(said);
+        drop(delta);
+    }
+}
+
+/// Prints datagrams.
+fn show_sends(said: &mut Said, sends: Sequence<Send>) {
+    for send in sends.as_slice() {
         said.octets(send.bytes.as_slice());
     }
-    match &Delta::from_ops(said.alloc, plan.ops.into_vec()) {
-        Ok(delta) => delta.show(said),
-        Err(_) => said.stop(Stop::Memory),
-    }
+    drop(sends);
 }

@@ -1,6 +1,6 @@
 //! Topic names, filters and predefined topic ids.
 
-use crate::calls::{Calls, Made, Shown, beside, given};
+use crate::calls::{Calls, Made, Shown, beside, given, is_word};
 use crate::said::{Said, Stop};
 use sn_topic::{Filter, Predefined, TopicFault, TopicName};
 
@@ -14,14 +14,37 @@ pub(crate) struct Topics {
 
 impl Made for Topics {
     fn make(said: &mut Said, _call: &str, _is_second: bool) -> Option<Topics> {
-        let name = topic(said)?;
-        let filter = filter(said, b"t/#")?;
-        let table = predefined(said)?;
-        Some(Topics {
+        match topic(said) {
+            Some(name) => with_name(said, name),
+            None => None,
+        }
+    }
+}
+
+/// What is copied, with this name.
+fn with_name(said: &mut Said, name: TopicName) -> Option<Topics> {
+    match filter(said, b"t/#") {
+        Some(filter) => with_filter(said, name, filter),
+        None => {
+            drop(name);
+            None
+        }
+    }
+}
+
+/// What is copied, with this name and this filter.
+fn with_filter(said: &mut Said, name: TopicName, filter: Filter) -> Option<Topics> {
+    match predefined(said) {
+        Some(table) => Some(Topics {
             name,
             filter,
             table,
-        })
+        }),
+        None => {
+            drop(name);
+            drop(filter);
+            None
+        }
     }
 }
 
@@ -38,7 +61,7 @@ impl Calls for Topics {
 impl Topics {
     /// Makes or copies a topic name.
     fn name_once(&self, said: &mut Said, call: &str) {
-        let made = if call == "TopicName::new" {
+        let made = if is_word(call, "TopicName::new") {
             TopicName::new(said.alloc, b"t/a")
         } else {
             self.name.copy(said.alloc)
@@ -48,7 +71,7 @@ impl Topics {
 
     /// Makes or copies a filter.
     fn filter_once(&self, said: &mut Said, call: &str) {
-        let made = if call == "Filter::new" {
+        let made = if is_word(call, "Filter::new") {
             Filter::new(said.alloc, b"t/#")
         } else {
             self.filter.copy(said.alloc)
@@ -58,7 +81,7 @@ impl Topics {
 
     /// Makes or copies a table of predefined topic ids.
     fn table_once(&self, said: &mut Said, call: &str) {
-        let made = if call == "Predefined::new" {
+        let made = if is_word(call, "Predefined::new") {
             let entries = entries(said);
             Predefined::new(said.alloc, entries)
         } else {

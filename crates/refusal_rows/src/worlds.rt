@@ -1,6 +1,6 @@
 //! Fields of gateways, and scripts.
 
-use crate::calls::{Calls, Made, beside};
+use crate::calls::{Calls, Made, beside, is_same, is_word};
 use crate::gateways::{Gateway, show_kept};
 use crate::page::Page;
 use crate::said::Said;
@@ -10,6 +10,7 @@ use gw_world::{World, WorldFault, run};
 use rep_model::Replica;
 use rep_plain::Plain;
 use rep_state::Folded;
+use std::alloc::Global;
 
 /// A script about two gateways.
 const FIELD: &[u8] =
@@ -29,17 +30,19 @@ pub(crate) struct Worlds {
 impl Made for Worlds {
     fn make(said: &mut Said, _call: &str, is_second: bool) -> Option<Worlds> {
         let parsed = parse(said.alloc, FIELD);
-        let script = beside(said, parsed)?;
-        Some(Worlds {
-            script,
-            is_folded: is_second,
-        })
+        match beside(said, parsed) {
+            Some(script) => Some(Worlds {
+                script,
+                is_folded: is_second,
+            }),
+            None => None,
+        }
     }
 }
 
 impl Calls for Worlds {
     fn call_once(&mut self, said: &mut Said, call: &str) {
-        if call == "play" {
+        if is_word(call, "play") {
             play_once(said);
         } else if self.is_folded {
             run_once::<Folded>(said, &self.script);
@@ -51,21 +54,31 @@ impl Calls for Worlds {
 
 /// Runs what a script says.
 fn run_once<R: Replica>(said: &mut Said, script: &Script) {
-    let (configs, events) = (script.configs.as_slice(), script.events.as_slice());
-    match &run::<R>(said.alloc, configs, events) {
+    match ran::<R>(said.alloc, script) {
         Ok(world) => {
-            show_world(said, world);
+            show_world(said, &world);
+            drop(world);
             said.answer();
         }
-        Err(fault) => said.refuse(*fault == WorldFault::Memory),
+        Err(fault) => said.refuse(matches!(&fault, WorldFault::Memory)),
     }
+}
+
+/// What comes of a script.
+fn ran<R: Replica>(alloc: Global, script: &Script) -> Result<World<Gateway<R>>, WorldFault> {
+    run::<R>(alloc, script.configs.as_slice(), script.events.as_slice())
 }
 
 /// Prints how much there is in a world, and what each of its gateways keeps.
 fn show_world<R: Replica>(said: &mut Said, world: &World<Gateway<R>>) {
     said.number("answers", world.answers.len());
     said.number("deltas", world.deltas.len());
-    for node in world.gateways.as_slice() {
+    show_all(said, world.gateways.as_slice());
+}
+
+/// Prints what each of these gateways keeps.
+fn show_all<R: Replica>(said: &mut Said, gateways: &[Gateway<R>]) {
+    for node in gateways {
         show_kept(said, node);
     }
 }
@@ -73,14 +86,21 @@ fn show_world<R: Replica>(said: &mut Said, world: &World<Gateway<R>>) {
 /// Plays the script about one gateway. If memory is refused, that is all it prints.
 fn play_once(said: &mut Said) {
     let mut page = Page::new();
-    match play(said.alloc, &mut Counted::new(SCRIPT), &mut page) {
-        0 => {
-            said.page.append(page.as_slice());
-            said.answer();
-        }
-        status => {
-            said.keep(page.as_slice() == b"E3\n".as_slice());
-            said.refuse(status == 1);
-        }
+    let status = played(said.alloc, &mut page);
+    if status == 0 {
+        said.page.append(page.as_slice());
+        said.answer();
+    } else {
+        said.keep(is_same(page.as_slice(), b"E3\n"));
+        said.refuse(status == 1);
     }
+    drop(page);
+}
+
+/// The status of the script about one gateway, which prints to a page.
+fn played(alloc: Global, page: &mut Page) -> u8 {
+    let mut script = Counted::new(SCRIPT);
+    let status = play(alloc, &mut script, page);
+    drop(script);
+    status
 }

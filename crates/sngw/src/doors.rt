@@ -1,5 +1,6 @@
 //! How links are made: peers are dialled, others are accepted.
 
+use crate::board::{Number, Shared};
 use crate::lines::Said;
 use gw_link::{Link, Origin, Phase, Report, Stage, Trouble};
 use gw_main::options::Settings;
@@ -70,7 +71,7 @@ pub(crate) fn keep_all<T>(
     alloc: Global,
     doors: &mut [Door],
     listener: &TcpListener,
-    pool: &Pool<TcpStream>,
+    shared: &Shared,
     over: &Stage,
     said: Said<'_>,
 )
@@ -82,8 +83,8 @@ where
     if count > 0 {
         let at = |_place: usize, door: &mut Door| {
             match door.origin {
-                Origin::Accepted => accept_all(rt, alloc, listener, pool, over, said),
-                Origin::Dialled(_) => dial_all(rt, alloc, *door, pool, over),
+                Origin::Accepted => accept_all(rt, alloc, listener, shared, over, said),
+                Origin::Dialled(_) => dial_all(rt, alloc, *door, shared, over),
             }
         };
         thread::for_each_mut(rt, doors, count, &at);
@@ -92,31 +93,55 @@ where
 
 /// Dials a peer wherever no link to it is open: at once where the last one worked, and with growing
 /// pauses where it takes the call and does not say its number.
-fn dial_all<T>(rt: &T, alloc: Global, door: Door, pool: &Pool<TcpStream>, over: &Stage)
+fn dial_all<T>(rt: &T, alloc: Global, door: Door, shared: &Shared, over: &Stage)
 where
     T: Wait + Clock + Net<Listener = TcpListener, Stream = TcpStream>,
 {
-    let mut pause = 0u64;
-    let mut left = 0u64;
-    let mut has_called = false;
+    let mut dials = Dials {
+        pause: 0,
+        left: 0,
+        has_called: false,
+    };
     for _ in rt.forever() {
         if over.phase(rt) != Phase::Serving {
             return;
         }
-        if pool.may_open(rt, door.origin) {
-            if has_called {
-                pause = next_pause(pause, pool.has_spoken(rt, door.origin));
-                left = pause;
-                has_called = false;
-            }
-            if left == 0 {
-                has_called = dial(rt, alloc, door, pool);
-            }
-            left = left.saturating_sub(1);
+        if shared.pool.may_open(rt, door.origin) {
+            dial_in_turn(rt, alloc, door, shared, &mut dials);
         }
         over.wait(rt, Phase::Serving, A_PAUSE);
     }
     unreachable!()
+}
+
+/// How a peer was dialled.
+#[derive(Clone, Copy)]
+struct Dials {
+    /// How many seconds it is not dialled after a link that ended.
+    pause: u64,
+    /// How many of them are left.
+    left: u64,
+    /// Whether it took the last call.
+    has_called: bool,
+}
+
+/// Dials a peer to which no link is open, unless it is to be left alone for some seconds more.
+fn dial_in_turn<T>(rt: &T, alloc: Global, door: Door, shared: &Shared, dials: &mut Dials)
+where
+    T: Wait + Clock + Net<Listener = TcpListener, Stream = TcpStream>,
+{
+    if dials.has_called {
+        dials.pause = next_pause(dials.pause, shared.pool.has_spoken(rt, door.origin));
+        dials.left = dials.pause;
+        dials.has_called = false;
+    }
+    if dials.left == 0 {
+        dials.has_called = dial(rt, alloc, door, &shared.pool);
+        if !dials.has_called {
+            note_no_dial(shared, door.origin);
+        }
+    }
+    dials.left = dials.left.saturating_sub(1);
 }
 
 /// Dials a peer. Whether it took the call.
@@ -134,12 +159,19 @@ where
     }
 }
 
-/// Accepts those who dial, as many as may be, and tells the troubles.
+/// Counts a dial of a peer that did not take the call.
+fn note_no_dial(shared: &Shared, origin: Origin) {
+    if let Origin::Dialled(peer) = origin {
+        shared.board.note_no_dial(peer);
+    }
+}
+
+/// Accepts those who dial, as many as may be, and tells the troubles, unless the watcher does.
 fn accept_all<T: Wait + Clock + Print + Eprint>(
     rt: &T,
     alloc: Global,
     listener: &TcpListener,
-    pool: &Pool<TcpStream>,
+    shared: &Shared,
     over: &Stage,
     said: Said<'_>,
 ) {
@@ -147,19 +179,26 @@ fn accept_all<T: Wait + Clock + Print + Eprint>(
         if over.phase(rt) != Phase::Serving {
             return;
         }
-        tell_all(rt, alloc, pool, said);
+        if shared.board.get(Number::Watcher) == 0 {
+            tell_all(rt, alloc, &shared.pool, said);
+        }
         match listener.accept() {
-            Ok((stream, _)) => {
-                if pool.may_open(rt, Origin::Accepted) {
-                    open(rt, alloc, stream, Origin::Accepted, pool);
-                } else {
-                    pool.relay.note_trouble(rt, Trouble::TurnedAway, 0);
-                }
-            }
+            Ok((stream, _)) => accept(rt, alloc, stream, shared),
             Err(_) => over.wait(rt, Phase::Serving, A_LOOK),
         }
     }
     unreachable!()
+}
+
+/// Accepts one who has dialled, if one more may be linked.
+fn accept<T: Wait>(rt: &T, alloc: Global, stream: TcpStream, shared: &Shared) {
+    if shared.pool.may_open(rt, Origin::Accepted) {
+        open(rt, alloc, stream, Origin::Accepted, &shared.pool);
+    } else {
+        shared.board.add(Number::TurnedAway);
+        shared.pool.relay.note_trouble(rt, Trouble::TurnedAway, 0);
+        drop(stream);
+    }
 }
 
 /// Puts a connection among the links, where its times can be set.
@@ -184,45 +223,63 @@ where
     T: Wait + Clock + Print + Eprint,
 {
     if pool.outage.is_to_tell(rt) {
-        let line = format!(in alloc;
-            "listen: for a minute nothing could be sent; no time passes for clients"
-        );
-        said.err.say(rt, line.ok());
+        said.err.say(rt, outage_line(alloc));
     }
     for _ in 0..MOST_LINES {
         match pool.relay.report(rt, moment(rt)) {
             None => return,
-            Some(report) => said.err.say(rt, line_of(alloc, report)),
+            Some(report) => said.err.say(rt, trouble_line(alloc, report)),
         }
     }
 }
 
+/// The line that tells that nothing could be sent. `None` if memory runs out.
+pub(crate) fn outage_line(alloc: Global) -> Option<String> {
+    let line = format!(in alloc;
+        "listen: for a minute nothing could be sent; no time passes for clients"
+    );
+    line.ok()
+}
+
 /// The line that tells a trouble. `None` if memory runs out.
-fn line_of(alloc: Global, report: Report) -> Option<String> {
+pub(crate) fn trouble_line(alloc: Global, report: Report) -> Option<String> {
     let Report {
         trouble,
         number,
         count,
     } = report;
-    let line = match trouble {
-        Trouble::SameNumber => format!(in alloc;
-            "link: another gateway has the number {number} of this one, and is not linked: {count} times"
-        ),
-        Trouble::Stranger => format!(in alloc;
-            "link: gateway {number} is not among numbers, and is not linked: {count} times"
-        ),
-        Trouble::Conflict => format!(in alloc;
-            "link: gateway {number} told what contradicts what is kept, and was refused: {count} times"
-        ),
-        Trouble::TooMuch => format!(in alloc;
-            "link: gateway {number} told more than may be kept, and was refused: {count} times"
-        ),
-        Trouble::TurnedAway => format!(in alloc;
-            "link: {MOST_ACCEPTED} that dialled are linked, and another was turned away: {count} times"
-        ),
-        Trouble::Twice => format!(in alloc;
-            "link: gateway {number} was linked once more while it was linked: {count} times"
-        ),
-    };
+    let number = number_in(trouble, number);
+    let before = words_before(trouble);
+    let after = words_after(trouble);
+    let line = format!(in alloc; "link: {before}{number}{after}: {count} times");
     line.ok()
+}
+
+/// The number in the line that tells a trouble: of links if no more may be, else the gateway's.
+fn number_in(trouble: Trouble, number: u8) -> u64 {
+    match trouble {
+        Trouble::TurnedAway => MOST_ACCEPTED as u64,
+        _ => u64::from(number),
+    }
+}
+
+/// What stands before that number.
+fn words_before(trouble: Trouble) -> &'static str {
+    match trouble {
+        Trouble::SameNumber => "another gateway has the number ",
+        Trouble::TurnedAway => "",
+        _ => "gateway ",
+    }
+}
+
+/// What stands after it.
+fn words_after(trouble: Trouble) -> &'static str {
+    match trouble {
+        Trouble::SameNumber => " of this one, and is not linked",
+        Trouble::Stranger => " is not among numbers, and is not linked",
+        Trouble::Conflict => " told what contradicts what is kept, and was refused",
+        Trouble::TooMuch => " told more than may be kept, and was refused",
+        Trouble::TurnedAway => " that dialled are linked, and another was turned away",
+        Trouble::Twice => " was linked once more while it was linked",
+    }
 }

@@ -101,9 +101,31 @@ pub(crate) fn is_written(tended: Tended) -> bool {
 }
 
 /// The length of a file of a journal, in octets.
-fn length_of<R: Files<File = File>>(rt: &R, alloc: Global, path: &str, slot: u8) -> Option<u64> {
-    let name = format!(in alloc; "{path}.{slot}").ok()?;
-    match metadata(rt, name.as_str()) {
+pub(crate) fn length_of<R: Files<File = File>>(
+    rt: &R,
+    alloc: Global,
+    path: &str,
+    slot: u8,
+) -> Option<u64> {
+    match name_of(alloc, path, slot) {
+        None => None,
+        Some(name) => {
+            let length = length_at(rt, name.as_str());
+            drop(name);
+            length
+        }
+    }
+}
+
+/// The name of a file of a journal. `None` if memory runs out.
+fn name_of(alloc: Global, path: &str, slot: u8) -> Option<String> {
+    let name = format!(in alloc; "{path}.{slot}");
+    name.ok()
+}
+
+/// The length of a file, in octets.
+fn length_at<R: Files<File = File>>(rt: &R, name: &str) -> Option<u64> {
+    match metadata(rt, name) {
         Ok(found) => Some(found.len()),
         Err(_) => None,
     }

@@ -3,6 +3,7 @@
 ghost use Rattle.std.specs.Prelude.{◌≡◌, ◌≤◌, length, true, IfSome};
 
 use crate::admission::Admission;
+use crate::board::{Board, Number};
 use crate::posting::Fence;
 use gw_wire::{Arrival, Ears, FieldClock, Socket};
 use std::alloc::Global;
@@ -27,16 +28,25 @@ pub struct Inlet {
 }
 
 impl Inlet {
-    /// Drops what has come so far.
-    pub(crate) fn drop_all(&mut self, clock: &FieldClock) {
-        self.late.arrival = None;
+    /// Drops what has come so far, and counts it.
+    pub(crate) fn drop_all(&mut self, clock: &FieldClock, board: &Board) {
+        if let Some(arrival) = self.late.arrival.take() {
+            count_dropped(board, self.late.bytes.as_slice(), arrival.size);
+        }
         let (ears, _) = self.socket.sides(clock);
         for _ in 0..MOST_DROPPED {
-            if ears.waiting(self.late.bytes.as_mut_slice()).is_none() {
+            let Some(arrival) = ears.waiting(self.late.bytes.as_mut_slice()) else {
                 return;
-            }
+            };
+            count_dropped(board, self.late.bytes.as_slice(), arrival.size);
         }
     }
+}
+
+/// A datagram of so many octets came, and is dropped.
+fn count_dropped(board: &Board, bytes: &[u8], size: usize) {
+    board.note_came(&bytes[..size.min(bytes.len())]);
+    board.add(Number::Dropped);
 }
 
 /// A datagram that came when its shift had no call left for it: it is the first one of the next

@@ -91,44 +91,56 @@ impl Lines {
     /// A line is to be printed. It is left out, and counted, if too many wait, or there was no
     /// memory for it.
     pub(crate) fn say<T: Wait + Print + Eprint>(&self, rt: &T, text: Option<String>) {
-        self.put(rt, text.map(Line::Text), MOST_WAITING);
+        let _ = self.put(rt, text.map(Line::Text), MOST_WAITING);
+    }
+
+    /// The same. Whether the line was not left out.
+    pub(crate) fn try_say<T: Wait + Print + Eprint>(&self, rt: &T, text: Option<String>) -> bool {
+        self.put(rt, text.map(Line::Text), MOST_WAITING)
     }
 
     /// Why the program ends is to be printed.
     pub(crate) fn say_end<T: Wait + Print + Eprint>(&self, rt: &T, stop: Stop) {
-        self.put(rt, Some(Line::End(stop)), MOST_WAITING + 1);
+        let _ = self.put(rt, Some(Line::End(stop)), MOST_WAITING + 1);
     }
 
-    /// A line is to be printed, if fewer than so many wait.
-    fn put<T: Wait + Print + Eprint>(&self, rt: &T, line: Option<Line>, most: usize) {
-        if let Some(line) = self.wait_with(rt, line, most) {
-            self.print(rt, line);
+    /// A line is to be printed, if fewer than so many wait. Whether it was not left out.
+    fn put<T: Wait + Print + Eprint>(&self, rt: &T, line: Option<Line>, most: usize) -> bool {
+        if !self.is_alone(rt) {
+            return self.wait_with(rt, line, most);
+        }
+        match line {
+            Some(line) => {
+                self.print(rt, line);
+                true
+            }
+            None => false,
         }
     }
 
-    /// Puts a line to those that wait, or gives it back if no thread prints.
-    fn wait_with<T: Wait>(&self, rt: &T, line: Option<Line>, most: usize) -> Option<Line> {
+    /// Whether no thread prints.
+    fn is_alone<T: Wait>(&self, rt: &T) -> bool {
+        self.waiting.lock(rt).is_alone
+    }
+
+    /// Puts a line to those that wait, if fewer than so many do. Whether it was not left out.
+    fn wait_with<T: Wait>(&self, rt: &T, line: Option<Line>, most: usize) -> bool {
         let mut waiting = self.waiting.lock(rt);
-        if waiting.is_alone {
-            return line;
-        }
-        if !keep(&mut waiting, line, most) {
+        let is_kept = keep(&mut waiting, line, most);
+        if !is_kept {
             waiting.left_out = waiting.left_out.saturating_add(1);
         }
         self.changed.notify_all();
-        None
+        is_kept
     }
 
     /// Prints a line.
     fn print<T: Print + Eprint>(&self, rt: &T, line: Line) {
-        let _ = match (self.output, line) {
-            (Output::Standard, Line::Text(text)) => println!(rt; "{text}"),
-            (Output::Standard, Line::End(stop)) => println!(rt; "sngw: {stop}"),
-            (Output::Standard, Line::LeftOut(count)) => println!(rt; "lines left out {count}"),
-            (Output::Errors, Line::Text(text)) => eprintln!(rt; "{text}"),
-            (Output::Errors, Line::End(stop)) => eprintln!(rt; "sngw: {stop}"),
-            (Output::Errors, Line::LeftOut(count)) => eprintln!(rt; "lines left out {count}"),
-        };
+        match self.output {
+            Output::Standard => print_out(rt, &line),
+            Output::Errors => print_err(rt, &line),
+        }
+        drop(line);
     }
 
     /// Prints each line, until no more come.
@@ -175,6 +187,24 @@ impl Lines {
         );
         let _ = waiting.is_done;
     }
+}
+
+/// Prints a line to standard output.
+fn print_out<T: Print>(rt: &T, line: &Line) {
+    let _ = match line {
+        Line::Text(text) => println!(rt; "{text}"),
+        Line::End(stop) => println!(rt; "sngw: {stop}"),
+        Line::LeftOut(count) => println!(rt; "lines left out {count}"),
+    };
+}
+
+/// Prints a line to standard error.
+fn print_err<T: Eprint>(rt: &T, line: &Line) {
+    let _ = match line {
+        Line::Text(text) => eprintln!(rt; "{text}"),
+        Line::End(stop) => eprintln!(rt; "sngw: {stop}"),
+        Line::LeftOut(count) => eprintln!(rt; "lines left out {count}"),
+    };
 }
 
 /// Puts a line after those that wait, if fewer than so many do. Says whether it did.

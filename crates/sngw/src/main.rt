@@ -23,10 +23,20 @@
 //! - `late`: a datagram that came when its shift had no call left for it.
 //! - `posting`: how replies go out.
 //! - `admission`: which datagrams become calls, and which clients are let in.
+//! - `board`: what is counted for whoever watches the gateway.
+//! - `glancing`: the clients at a glance, once in some seconds.
+//! - `watcher`: the thread that shows the gateway: `gathering` and `counting` are what is reported,
+//!   `happenings` are the events, and `callers` ask the page.
 #![tactic(auto)]
 
 mod admission;
+mod board;
+mod callers;
+mod counting;
 mod doors;
+mod gathering;
+mod glancing;
+mod happenings;
 mod ignored;
 mod keeping;
 mod late;
@@ -36,6 +46,7 @@ mod reading;
 mod running;
 mod stop;
 mod watched;
+mod watcher;
 mod words;
 mod working;
 
@@ -43,7 +54,7 @@ use crate::lines::{Lines, Output, Said};
 use crate::reading::settings_at;
 use crate::running::run;
 use crate::stop::Stop;
-use crate::words::{Asked, asked_by};
+use crate::words::{Asked, VERSION, asked_by, asks_version};
 use file_disk::{FileDisk, FileDiskFault};
 use gw_main::begin;
 use gw_main::options::Settings;
@@ -65,8 +76,7 @@ fn main(rt: HostRuntime) -> ExitCode {
     let errors = rt.stderr();
     let mut err = io::writer(&errors);
     let Some((out, lines)) = outputs(rt.alloc()) else {
-        let _ = writeln!(&mut err, "sngw: {}", Stop::Memory);
-        return ExitCode::from(Stop::Memory.status());
+        return no_memory(&mut err);
     };
     for printed in [&out, &lines] {
         let is_printed = match printed.clone() {
@@ -83,6 +93,12 @@ fn main(rt: HostRuntime) -> ExitCode {
     };
     let started = start(&rt, rt.alloc(), said, &mut io::writer(&rt), &mut err);
     end(&rt, said, started)
+}
+
+/// Tells that there is no memory for lines. The program's status.
+fn no_memory<E: Write>(err: &mut E) -> ExitCode {
+    let _ = writeln!(err, "sngw: {}", Stop::Memory);
+    ExitCode::from(Stop::Memory.status())
 }
 
 /// The lines of both outputs. `None` if memory runs out.
@@ -122,17 +138,66 @@ fn start<T, O: Write, E: Write>(
 where
     T: Env + Files<File = File> + Print + Eprint + Threads + Wait + Sync + Clock,
     T: Net<Listener = TcpListener, Stream = TcpStream>,
+    T::Dir: Send,
 {
-    let Some(asked) = asked_of(rt, alloc) else {
-        return Err(Stop::Arguments);
-    };
+    match words_of(rt, alloc) {
+        Some(words) => start_with(rt, alloc, words, said, out, err),
+        None => Err(Stop::Arguments),
+    }
+}
+
+/// Everything that these words ask for.
+fn start_with<T, O: Write, E: Write>(
+    rt: &T,
+    alloc: Global,
+    words: Vec<String>,
+    said: Said<'_>,
+    out: &mut O,
+    err: &mut E,
+) -> Result<(), Stop>
+where
+    T: Files<File = File> + Print + Eprint + Threads + Wait + Sync + Clock,
+    T: Net<Listener = TcpListener, Stream = TcpStream>,
+    T::Dir: Send,
+{
+    if asks_version(words.as_slice()) {
+        drop(words);
+        let _ = writeln!(out, "sngw {VERSION}");
+        return Ok(());
+    }
+    let asked = asked_by(alloc, words.as_slice());
+    drop(words);
+    match asked {
+        Some(asked) => start_as(rt, alloc, asked, said, out, err),
+        None => Err(Stop::Arguments),
+    }
+}
+
+/// Reads the settings, opens a gateway by them, and works as many shifts as were asked for.
+fn start_as<T, O: Write, E: Write>(
+    rt: &T,
+    alloc: Global,
+    asked: Asked,
+    said: Said<'_>,
+    out: &mut O,
+    err: &mut E,
+) -> Result<(), Stop>
+where
+    T: Files<File = File> + Print + Eprint + Threads + Wait + Sync + Clock,
+    T: Net<Listener = TcpListener, Stream = TcpStream>,
+    T::Dir: Send,
+{
     let settings = settings_at(rt, alloc, asked.config.as_str(), err);
     let shifts = asked.shifts;
     drop(asked);
-    let settings = settings?;
-    let done = start_by(rt, alloc, &settings, shifts, said, out, err);
-    drop(settings);
-    done
+    match settings {
+        Ok(settings) => {
+            let done = start_by(rt, alloc, &settings, shifts, said, out, err);
+            drop(settings);
+            done
+        }
+        Err(stop) => Err(stop),
+    }
 }
 
 /// Opens a gateway by its settings, and works so many shifts.
@@ -148,12 +213,42 @@ fn start_by<T, O: Write, E: Write>(
 where
     T: Files<File = File> + Print + Eprint + Threads + Wait + Sync + Clock,
     T: Net<Listener = TcpListener, Stream = TcpStream>,
+    T::Dir: Send,
 {
-    let disk = disk_at(rt, alloc, settings, err)?;
-    let opened = begin::<Folded, FileDisk, O, E>(alloc, settings, disk, out, err).ok();
-    let Some(node) = opened else {
-        return Err(Stop::Opening);
-    };
+    match disk_at(rt, alloc, settings, err) {
+        Ok(disk) => match opened(alloc, settings, disk, out, err) {
+            Some(node) => work(rt, alloc, settings, node, shifts, said),
+            None => Err(Stop::Opening),
+        },
+        Err(stop) => Err(stop),
+    }
+}
+
+/// The gateway of these settings on its disk. `None` if it cannot be opened, which is printed.
+fn opened<O: Write, E: Write>(
+    alloc: Global,
+    settings: &Settings,
+    disk: FileDisk,
+    out: &mut O,
+    err: &mut E,
+) -> Option<Node<Folded, FileDisk>> {
+    begin::<Folded, FileDisk, O, E>(alloc, settings, disk, out, err).ok()
+}
+
+/// Works so many shifts of a gateway.
+fn work<T>(
+    rt: &T,
+    alloc: Global,
+    settings: &Settings,
+    node: Node<Folded, FileDisk>,
+    shifts: u64,
+    said: Said<'_>,
+) -> Result<(), Stop>
+where
+    T: Files<File = File> + Print + Eprint + Threads + Wait + Sync + Clock,
+    T: Net<Listener = TcpListener, Stream = TcpStream>,
+    T::Dir: Send,
+{
     if shifts == 0 {
         drop(node);
         return Ok(());
@@ -161,13 +256,12 @@ where
     run(rt, alloc, settings, node, shifts, said)
 }
 
-/// What the command line asks for.
-fn asked_of<T: Env>(rt: &T, alloc: Global) -> Option<Asked> {
-    let mut words = Vec::new(alloc);
-    for word in env::args(&(rt, alloc)).ok()? {
-        words.push(word).ok()?;
+/// The words of the command line. `None` if memory ran out.
+fn words_of<T: Env>(rt: &T, alloc: Global) -> Option<Vec<String>> {
+    match env::args(&(rt, alloc)) {
+        Ok(words) => words.collect(alloc).ok(),
+        Err(_) => None,
     }
-    asked_by(alloc, words.as_slice())
 }
 
 /// Whether both files are known to have no octets: then there is no journal, and an opening begins
@@ -187,15 +281,32 @@ fn disk_at<T: Files<File = File>, E: Write>(
     let path = settings.journal.as_str();
     match FileDisk::at(rt, alloc, path) {
         Ok(mut disk) => {
-            if is_empty(&mut disk) {
-                let _ = writeln!(err, "{path}.0, {path}.1: no journal is there, one is begun");
-            }
+            tell_if_empty(&mut disk, path, settings.log > 0, err);
             Ok(disk)
         }
-        Err(FileDiskFault::Memory) => Err(Stop::NoMemory),
-        Err(fault) => {
+        Err(fault) => Err(no_disk(path, fault, err)),
+    }
+}
+
+/// Tells that no journal is there, if both files have no octets. Events are written after their
+/// levels; this one is as bad as there are.
+fn tell_if_empty<E: Write>(disk: &mut FileDisk, path: &str, has_levels: bool, err: &mut E) {
+    if is_empty(disk) {
+        let level = if has_levels { "<3>" } else { "" };
+        let _ = writeln!(
+            err,
+            "{level}{path}.0, {path}.1: no journal is there, one is begun"
+        );
+    }
+}
+
+/// Tells why the two files cannot be had, unless memory ran out.
+fn no_disk<E: Write>(path: &str, fault: FileDiskFault, err: &mut E) -> Stop {
+    match fault {
+        FileDiskFault::Memory => Stop::NoMemory,
+        fault => {
             let _ = writeln!(err, "{path}.0, {path}.1: {fault}");
-            Err(Stop::Disk)
+            Stop::Disk
         }
     }
 }

@@ -4,12 +4,11 @@
 ghost use Rattle.std.specs.Prelude.{◌≡◌, ◌<◌, ◌≤◌, ◌+◌, ◌*◌, ◌%◌};
 ghost use Rattle.sngw.specs.inner.Posting as spec;
 
+use crate::board::Shared;
 use gw_link::Stage;
-use gw_run::Pool;
 use gw_wire::{Post, Unsent};
 use sn_local::Addr;
 use std::alloc::Global;
-use std::net::TcpStream;
 use std::sync::{Mutex, Wait};
 
 /// How many groups of addresses are counted apart.
@@ -54,21 +53,29 @@ impl Fence {
     /// Whether DISCONNECT may be said to an address in this second. If so, it counts as said.
     fn may_say<T: Wait>(&self, rt: &T, second: u64, to: Addr) -> bool {
         let mut said = self.said.lock(rt);
-        if said.stretch != second / A_WHILE {
-            said.stretch = second / A_WHILE;
-            clear(said.counts.as_mut_slice());
-        }
-        match said.counts.get_mut(group_of(to)) {
-            None => true,
-            Some(count) => {
-                if *count >= MOST_SAID {
-                    return false;
-                }
-                *count += 1;
-                true
-            }
-        }
+        count_in(&mut said, second / A_WHILE, group_of(to))
     }
+}
+
+/// Whether DISCONNECT may be said to a group in this stretch of seconds. If so, it counts as said.
+fn count_in(said: &mut Said, stretch: u64, group: usize) -> bool {
+    if said.stretch != stretch {
+        said.stretch = stretch;
+        clear(said.counts.as_mut_slice());
+    }
+    match said.counts.get_mut(group) {
+        None => true,
+        Some(count) => count_one(count),
+    }
+}
+
+/// Whether DISCONNECT may be said once more. If so, it counts as said.
+fn count_one(count: &mut u8) -> bool {
+    if *count >= MOST_SAID {
+        return false;
+    }
+    *count += 1;
+    true
 }
 
 /// Sets each count to 0.
@@ -122,7 +129,7 @@ pub struct Outlet<'a, T: Wait, P: Post> {
     post: &'a P,
     stage: &'a Stage,
     fence: &'a Fence,
-    pool: &'a Pool<TcpStream>,
+    shared: &'a Shared,
 }
 
 impl<'a, T: Wait, P: Post> Outlet<'a, T, P> {
@@ -133,7 +140,7 @@ impl<'a, T: Wait, P: Post> Outlet<'a, T, P> {
         post: &'a P,
         stage: &'a Stage,
         fence: &'a Fence,
-        pool: &'a Pool<TcpStream>,
+        shared: &'a Shared,
     ) -> Outlet<'a, T, P> {
         Outlet {
             rt,
@@ -141,17 +148,21 @@ impl<'a, T: Wait, P: Post> Outlet<'a, T, P> {
             post,
             stage,
             fence,
-            pool,
+            shared,
         }
     }
 
     /// Notes whether a datagram was sent. One that is no try says nothing of the network if it was
     /// not: whoever asked may have named an address that is nobody's.
     fn note(&self, to: Addr, bytes: &[u8], is_sent: bool) {
+        self.shared.board.note_sent(bytes, is_sent);
         if is_sent {
-            self.pool.outage.note_sent();
+            self.shared.pool.outage.note_sent();
         } else if is_try(bytes) {
-            self.pool.outage.note_unsent(self.rt, self.alloc, to, bytes);
+            self.shared
+                .pool
+                .outage
+                .note_unsent(self.rt, self.alloc, to, bytes);
         }
     }
 }
@@ -159,7 +170,9 @@ impl<'a, T: Wait, P: Post> Outlet<'a, T, P> {
 impl<'a, T: Wait, P: Post> Post for Outlet<'a, T, P> {
     /// What it sends is in an answer, which the shift's history keeps.
     fn send(&self, to: Addr, bytes: &[u8]) -> Result<(), Unsent> {
-        if is_disconnect(bytes) && !self.fence.may_say(self.rt, self.pool.clock.second(), to) {
+        let second = self.shared.pool.clock.second();
+        if is_disconnect(bytes) && !self.fence.may_say(self.rt, second, to) {
+            self.shared.board.note_sent(bytes, false);
             return Err(Unsent);
         }
         self.stage.keep(self.rt, bytes.len().saturating_add(A_SEND));

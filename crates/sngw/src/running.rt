@@ -1,21 +1,24 @@
 //! Shifts one after the other.
 
 use crate::admission::Admission;
+use crate::board::{Board, Number, Shared};
 use crate::doors::{Door, doors_of, keep_all};
 use crate::keeping::{Keeper, is_written};
 use crate::late::{Inlet, Late};
 use crate::lines::Said;
 use crate::posting::Fence;
 use crate::stop::Stop;
+use crate::watcher::show_all;
 use crate::working::{Worked, work};
 use gw_link::{Phase, Stage};
 use gw_main::options::Settings;
 use gw_main::{Tended, number_of, tend};
 use gw_node::Node;
 use gw_run::Pool;
-use gw_wire::{FieldClock, Socket, address};
+use gw_wire::{Socket, address, millisecond};
 use jr_disk::Disk;
 use rep_model::Replica;
+use sn_local::Addr;
 use std::alloc::Global;
 use std::fs::{File, Files};
 use std::io::{Eprint, ErrorKind, Print};
@@ -37,6 +40,7 @@ pub(crate) fn run<T, R, D>(
 where
     T: Threads + Wait + Sync + Clock + Print + Eprint + Files<File = File>,
     T: Net<Listener = TcpListener, Stream = TcpStream>,
+    T::Dir: Send,
     R: Replica + Send,
     R::Staged: Send,
     D: Disk + Drop + Send,
@@ -52,8 +56,8 @@ where
         &mut opened.inlet,
         shifts,
         opened.doors.as_mut_slice(),
-        &opened.listener,
-        &opened.pool,
+        &opened.listeners,
+        &opened.shared,
         &over,
         said,
     );
@@ -67,8 +71,17 @@ where
 struct Opened {
     inlet: Inlet,
     doors: Vec<Door>,
-    pool: Pool<TcpStream>,
-    listener: TcpListener,
+    shared: Shared,
+    listeners: Listeners,
+}
+
+/// What the gateway listens at.
+#[derive(Drop)]
+struct Listeners {
+    /// Where other gateways dial.
+    link: TcpListener,
+    /// Where it is watched, if it is.
+    status: Option<TcpListener>,
 }
 
 /// Opens all that a gateway is reached by.
@@ -77,10 +90,8 @@ where
     T: Eprint + Net<Listener = TcpListener, Stream = TcpStream>,
 {
     let socket = socket_of(rt, alloc, settings)?;
-    let listener = listener_of(rt, settings)?;
-    let Some(pool) = Pool::new(alloc, settings.peers.len(), settings.numbers.as_slice()) else {
-        return Err(Stop::Memory);
-    };
+    let listeners = listeners_of(rt, settings)?;
+    let shared = shared_of(alloc, settings)?;
     let Some(doors) = doors_of(alloc, settings) else {
         return Err(Stop::Memory);
     };
@@ -88,8 +99,8 @@ where
     Ok(Opened {
         inlet,
         doors,
-        pool,
-        listener,
+        shared,
+        listeners,
     })
 }
 
@@ -101,19 +112,82 @@ fn socket_of<T: Eprint + Net>(rt: &T, alloc: Global, settings: &Settings) -> Res
     }
 }
 
-/// The listener of links.
-fn listener_of<T>(rt: &T, settings: &Settings) -> Result<TcpListener, Stop>
+/// What the threads of the program share.
+fn shared_of(alloc: Global, settings: &Settings) -> Result<Shared, Stop> {
+    match Pool::new(alloc, settings.peers.len(), settings.numbers.as_slice()) {
+        Some(pool) => shared_by(alloc, settings, pool),
+        None => Err(Stop::Memory),
+    }
+}
+
+/// What they share beside these links.
+fn shared_by(alloc: Global, settings: &Settings, pool: Pool<TcpStream>) -> Result<Shared, Stop> {
+    match Board::of(alloc, settings) {
+        Some(board) => Ok(Shared { pool, board }),
+        None => {
+            drop(pool);
+            Err(Stop::Memory)
+        }
+    }
+}
+
+/// The listeners of links and of the page.
+fn listeners_of<T>(rt: &T, settings: &Settings) -> Result<Listeners, Stop>
 where
     T: Eprint + Net<Listener = TcpListener, Stream = TcpStream>,
 {
-    let listener = match TcpListener::bind(rt, address(settings.link)) {
-        Ok(listener) => listener,
-        Err(error) => return Err(no_socket(rt, "link", error.kind())),
-    };
-    if listener.set_nonblocking(true).is_err() {
-        return Err(Stop::Socket);
+    match listener_at(rt, "link", settings.link) {
+        Ok(link) => listeners_with(rt, settings, link),
+        Err(stop) => Err(stop),
     }
-    Ok(listener)
+}
+
+/// That of links, and that of the page.
+fn listeners_with<T>(rt: &T, settings: &Settings, link: TcpListener) -> Result<Listeners, Stop>
+where
+    T: Eprint + Net<Listener = TcpListener, Stream = TcpStream>,
+{
+    match status_listener(rt, settings.status) {
+        Ok(status) => Ok(Listeners { link, status }),
+        Err(stop) => {
+            drop(link);
+            Err(stop)
+        }
+    }
+}
+
+/// The listener of the page, if the settings name its address.
+fn status_listener<T>(rt: &T, at: Option<Addr>) -> Result<Option<TcpListener>, Stop>
+where
+    T: Eprint + Net<Listener = TcpListener, Stream = TcpStream>,
+{
+    match at {
+        None => Ok(None),
+        Some(at) => match listener_at(rt, "status", at) {
+            Ok(listener) => Ok(Some(listener)),
+            Err(stop) => Err(stop),
+        },
+    }
+}
+
+/// The listener at an address, which this key of the settings names.
+fn listener_at<T>(rt: &T, key: &str, at: Addr) -> Result<TcpListener, Stop>
+where
+    T: Eprint + Net<Listener = TcpListener, Stream = TcpStream>,
+{
+    match TcpListener::bind(rt, address(at)) {
+        Ok(listener) => without_waiting(listener),
+        Err(error) => Err(no_socket(rt, key, error.kind())),
+    }
+}
+
+/// A listener that waits for nobody.
+fn without_waiting(listener: TcpListener) -> Result<TcpListener, Stop> {
+    if listener.set_nonblocking(true).is_ok() {
+        return Ok(listener);
+    }
+    drop(listener);
+    Err(Stop::Socket)
 }
 
 /// Where datagrams come from, and go to.
@@ -150,26 +224,59 @@ fn run_beside<T, R, D>(
     inlet: &mut Inlet,
     shifts: u64,
     doors: &mut [Door],
-    listener: &TcpListener,
-    pool: &Pool<TcpStream>,
+    listeners: &Listeners,
+    shared: &Shared,
     over: &Stage,
     said: Said<'_>,
 ) -> Result<(), Stop>
 where
     T: Threads + Wait + Sync + Clock + Print + Eprint + Files<File = File>,
     T: Net<Listener = TcpListener, Stream = TcpStream>,
+    T::Dir: Send,
     R: Replica + Send,
     R::Staged: Send,
     D: Disk + Drop + Send,
 {
     let mut keeping = || {
-        keep_all(rt, alloc, doors, listener, pool, over, said);
+        keep_and_show(rt, alloc, settings, doors, listeners, shared, over, said);
     };
     let mut shifting = || -> Result<(), Stop> {
-        work_through(rt, alloc, settings, place, inlet, pool, shifts, over, said)
+        work_through(
+            rt, alloc, settings, place, inlet, shared, shifts, over, said,
+        )
     };
     let ((), worked) = thread::join_mut(rt, &mut keeping, &mut shifting);
     worked
+}
+
+/// Keeps the doors open, and beside that shows the gateway if it is watched, until the program's
+/// work is over. If no thread can be made for the page, nothing is shown.
+fn keep_and_show<T>(
+    rt: &T,
+    alloc: Global,
+    settings: &Settings,
+    doors: &mut [Door],
+    listeners: &Listeners,
+    shared: &Shared,
+    over: &Stage,
+    said: Said<'_>,
+)
+where
+    T: Threads + Wait + Sync + Clock + Print + Eprint + Files<File = File>,
+    T: Net<Listener = TcpListener, Stream = TcpStream>,
+    T::Dir: Send,
+{
+    if !shared.board.is_watched {
+        keep_all(rt, alloc, doors, &listeners.link, shared, over, said);
+        return;
+    }
+    let mut showing = || {
+        show_all(rt, alloc, settings, &listeners.status, shared, over, said);
+    };
+    let mut keeping = || {
+        keep_all(rt, alloc, doors, &listeners.link, shared, over, said);
+    };
+    let ((), ()) = thread::join_mut(rt, &mut showing, &mut keeping);
 }
 
 /// The shifts, and then the end of the doors.
@@ -179,7 +286,7 @@ fn work_through<T, R, D>(
     settings: &Settings,
     place: &Mutex<Option<Node<R, D>>>,
     inlet: &mut Inlet,
-    pool: &Pool<TcpStream>,
+    shared: &Shared,
     shifts: u64,
     over: &Stage,
     said: Said<'_>,
@@ -190,7 +297,7 @@ where
     R::Staged: Send,
     D: Disk + Drop + Send,
 {
-    let worked = work_all(rt, alloc, settings, place, inlet, pool, shifts, said);
+    let worked = work_all(rt, alloc, settings, place, inlet, shared, shifts, said);
     over.go_to(rt, Phase::Quiet);
     worked
 }
@@ -204,7 +311,7 @@ fn work_all<T, R, D>(
     settings: &Settings,
     place: &Mutex<Option<Node<R, D>>>,
     inlet: &mut Inlet,
-    pool: &Pool<TcpStream>,
+    shared: &Shared,
     shifts: u64,
     said: Said<'_>,
 ) -> Result<(), Stop>
@@ -215,21 +322,21 @@ where
     D: Disk + Drop + Send,
 {
     let mut keeper = Keeper::of(settings.journal.as_str());
-    write_first(rt, alloc, place, inlet, pool, &mut keeper, said)?;
-    listen_first(rt, settings, pool);
+    write_first(rt, alloc, place, inlet, shared, &mut keeper, said)?;
+    listen_first(rt, settings, &shared.pool);
     for number in 0..shifts {
         let Some(node) = place.lock(rt).take() else {
             return Ok(());
         };
-        know_clients(alloc, settings, &node, inlet, pool.clock.second());
-        let mut worked = work(rt, alloc, settings, node, inlet, pool, number)?;
+        know_clients(alloc, settings, &node, inlet, shared.pool.clock.second());
+        let mut worked = work(rt, alloc, settings, node, inlet, shared, number)?;
         let ended = end_shift(
             rt,
             alloc,
             settings,
             &mut worked,
             inlet,
-            pool,
+            shared,
             number + 1,
             &mut keeper,
             said,
@@ -247,7 +354,7 @@ fn end_shift<T, R, D>(
     settings: &Settings,
     worked: &mut Worked<R, D>,
     inlet: &mut Inlet,
-    pool: &Pool<TcpStream>,
+    shared: &Shared,
     number: u64,
     keeper: &mut Keeper<'_>,
     said: Said<'_>,
@@ -257,14 +364,32 @@ where
     R: Replica,
     D: Disk + Drop,
 {
-    if let Some(other) = pool.relay.found_by(rt) {
+    if let Some(other) = shared.pool.relay.found_by(rt) {
         return Err(used(rt, alloc, settings.gateway, other, said));
     }
     let steps = worked.steps;
-    begin_anew(rt, alloc, &worked.node, pool, worked.tended, said);
+    if worked.tended == Tended::Reopened {
+        shared.board.add(Number::Reopened);
+    }
+    begin_anew(rt, alloc, &worked.node, &shared.pool, worked.tended, said);
     let line = format!(in alloc; "shift {number} steps {steps}");
     said.out.say(rt, line.ok());
-    go_on(rt, alloc, worked, inlet, pool, keeper, said)
+    let done = go_on(rt, alloc, worked, inlet, shared, keeper, said);
+    note_turn(rt, shared, number, steps);
+    done
+}
+
+/// Counts a shift that is over, and how long it took since it had begun to close.
+fn note_turn<T: Clock>(rt: &T, shared: &Shared, number: u64, steps: usize) {
+    let board = &shared.board;
+    let closing = board.get(Number::Closing);
+    board.set(Number::ShiftCalls, steps as u64);
+    board.note_time(
+        Number::Turn,
+        Number::LongestTurn,
+        millisecond(rt).saturating_sub(closing),
+    );
+    board.set(Number::Shift, number);
 }
 
 /// Puts a gateway into its place.
@@ -283,7 +408,7 @@ fn go_on<T, R, D>(
     alloc: Global,
     worked: &mut Worked<R, D>,
     inlet: &mut Inlet,
-    pool: &Pool<TcpStream>,
+    shared: &Shared,
     keeper: &mut Keeper<'_>,
     said: Said<'_>,
 ) -> Result<(), Stop>
@@ -293,11 +418,19 @@ where
     D: Disk + Drop,
 {
     let has_failed = worked.tended == Tended::Reopened || worked.node.is_halted();
+    if has_failed {
+        shared.board.count_failure(rt);
+    }
     if has_failed || (worked.has_written && keeper.is_grown(rt, alloc)) {
-        tend_behind(rt, alloc, &mut worked.node, pool, keeper, said)?;
+        tend_behind(rt, alloc, &mut worked.node, shared, keeper, said)?;
     }
     let silence = keeper.silence_after(worked.has_recorded, has_failed);
-    be_silent(rt, inlet, &pool.clock, silence);
+    if silence > 0 {
+        shared.board.set(Number::Halted, 1);
+        be_silent(rt, inlet, shared, silence);
+        shared.board.set(Number::Halted, 0);
+        shared.board.note_failed(rt);
+    }
     Ok(())
 }
 
@@ -346,7 +479,7 @@ fn write_first<T, R, D>(
     alloc: Global,
     place: &Mutex<Option<Node<R, D>>>,
     inlet: &mut Inlet,
-    pool: &Pool<TcpStream>,
+    shared: &Shared,
     keeper: &mut Keeper<'_>,
     said: Said<'_>,
 ) -> Result<(), Stop>
@@ -358,7 +491,7 @@ where
     let Some(mut node) = place.lock(rt).take() else {
         return Ok(());
     };
-    let written = write_anew(rt, alloc, &mut node, inlet, pool, keeper, said);
+    let written = write_anew(rt, alloc, &mut node, inlet, shared, keeper, said);
     put_back(rt, place, node);
     written
 }
@@ -369,7 +502,7 @@ fn write_anew<T, R, D>(
     alloc: Global,
     node: &mut Node<R, D>,
     inlet: &mut Inlet,
-    pool: &Pool<TcpStream>,
+    shared: &Shared,
     keeper: &mut Keeper<'_>,
     said: Said<'_>,
 ) -> Result<(), Stop>
@@ -382,51 +515,74 @@ where
         return Ok(());
     }
     for _ in rt.forever() {
-        let tended = tend_behind(rt, alloc, node, pool, keeper, said)?;
+        let tended = tend_behind(rt, alloc, node, shared, keeper, said)?;
         if is_written(tended) {
             keeper.note_written();
+            shared.board.set(Number::Halted, 0);
             return Ok(());
         }
         if tended == Tended::Starved {
             tell(rt, alloc, node, said);
         }
         let silence = keeper.wait_longer();
-        be_silent(rt, inlet, &pool.clock, silence);
+        shared.board.set(Number::Halted, 1);
+        shared.board.note_failed(rt);
+        be_silent(rt, inlet, shared, silence);
     }
     unreachable!()
 }
 
 /// Waits so many seconds. What has come meanwhile is dropped.
-fn be_silent<T: Clock>(rt: &T, inlet: &mut Inlet, clock: &FieldClock, seconds: u64) {
+fn be_silent<T: Clock>(rt: &T, inlet: &mut Inlet, shared: &Shared, seconds: u64) {
     if seconds > 0 {
         thread::sleep(rt, Duration::from_secs(seconds));
-        inlet.drop_all(clock);
+        inlet.drop_all(&shared.pool.clock, &shared.board);
     }
 }
 
 /// Tends the gateway after a shift.
-fn tend_behind<T, R, D, S>(
+fn tend_behind<T, R, D>(
     rt: &T,
     alloc: Global,
     node: &mut Node<R, D>,
-    pool: &Pool<S>,
+    shared: &Shared,
     keeper: &mut Keeper<'_>,
     said: Said<'_>,
 ) -> Result<Tended, Stop>
 where
-    T: Wait + Print + Eprint + Files<File = File>,
+    T: Wait + Clock + Print + Eprint + Files<File = File>,
     R: Replica,
     D: Disk + Drop,
-    S: Drop,
 {
     let before = keeper.lengths(rt, alloc);
+    let began = millisecond(rt);
     match tend(alloc, node) {
         Ok(tended) => {
-            begin_anew(rt, alloc, node, pool, tended, said);
+            note_tended(rt, shared, tended, millisecond(rt).saturating_sub(began));
+            begin_anew(rt, alloc, node, &shared.pool, tended, said);
             keeper.note_tended(rt, alloc, before, tended);
             Ok(tended)
         }
         Err(fault) => Err(Stop::Reopening(number_of(&fault))),
+    }
+}
+
+/// Counts what became of a gateway that was tended in so many milliseconds.
+fn note_tended<T: Clock>(rt: &T, shared: &Shared, tended: Tended, milliseconds: u64) {
+    let board = &shared.board;
+    board.note_time(Number::Compaction, Number::LongestCompaction, milliseconds);
+    match tended {
+        Tended::Kept => board.add(Number::Compacted),
+        Tended::Starved => board.add(Number::NotCompacted),
+        Tended::Reopened => {
+            board.add(Number::Compacted);
+            board.add(Number::ReopenedBetween);
+        }
+        Tended::Unwritten => {
+            board.add(Number::NotCompacted);
+            board.add(Number::ReopenedBetween);
+            board.count_failure(rt);
+        }
     }
 }
 

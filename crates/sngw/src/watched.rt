@@ -3,13 +3,12 @@
 ghost use Rattle.std.specs.Prelude.{◌≡◌, ◌+◌};
 
 use crate::admission::{Admission, CONGESTION, Verdict};
+use crate::board::{Number, Shared};
 use crate::late::Late;
 use gw_link::{Phase, Stage};
-use gw_run::Pool;
 use gw_wire::{Arrival, Post, Tally, Wire, WireFault};
 use jr_disk::Failures;
 use std::alloc::Global;
-use std::net::TcpStream;
 use std::sync::Wait;
 use std::time::Clock;
 
@@ -42,8 +41,8 @@ pub struct Watched<'a, T: Wait + Clock, W: Wire, P: Post> {
     late: &'a mut Late,
     /// Whether a call is claimed for it.
     is_claimed: bool,
-    /// What outlives the shift: whether the gateway listens first.
-    pool: &'a Pool<TcpStream>,
+    /// What outlives the shift: whether the gateway listens first, and what is counted.
+    shared: &'a Shared,
     /// Which clients are let in.
     admission: &'a mut Admission,
     /// How often the reader rested since it last read.
@@ -68,7 +67,7 @@ impl<'a, T: Wait + Clock, W: Wire, P: Post> Watched<'a, T, W, P> {
         stage: &'a Stage,
         late: &'a mut Late,
         is_claimed: bool,
-        pool: &'a Pool<TcpStream>,
+        shared: &'a Shared,
         admission: &'a mut Admission,
     ) -> Watched<'a, T, W, P> {
         Watched {
@@ -79,7 +78,7 @@ impl<'a, T: Wait + Clock, W: Wire, P: Post> Watched<'a, T, W, P> {
             stage,
             late,
             is_claimed,
-            pool,
+            shared,
             admission,
             rests: 0,
             rested: 0,
@@ -92,8 +91,12 @@ impl<'a, T: Wait + Clock, W: Wire, P: Post> Watched<'a, T, W, P> {
     /// Whether the gateway listens to its peers, and reads no datagram yet. If one of them has told
     /// what it must have made itself, and has lost, the shift is to close, and nothing is read.
     fn listens(&self) -> bool {
-        let is_on = self.pool.listening.look(self.rt, &self.pool.relay);
-        if self.pool.relay.found_by(self.rt).is_some() {
+        let is_on = self
+            .shared
+            .pool
+            .listening
+            .look(self.rt, &self.shared.pool.relay);
+        if self.shared.pool.relay.found_by(self.rt).is_some() {
             self.stage.close(self.rt);
             return true;
         }
@@ -111,14 +114,26 @@ impl<'a, T: Wait + Clock, W: Wire, P: Post> Watched<'a, T, W, P> {
         let verdict = self.admission.verdict(self.alloc, second, datagram);
         match verdict {
             Verdict::Comes => false,
-            Verdict::Dropped => true,
-            Verdict::TurnedAway(code) => {
-                let _ = self.mouth.send(arrival.from, &[3, 5, code]);
-                if code == CONGESTION && self.admission.is_old(second) {
-                    self.stage.close(self.rt);
-                }
+            Verdict::Dropped => {
+                self.shared.board.note_came(datagram);
+                self.shared.board.add(Number::Dropped);
                 true
             }
+            Verdict::TurnedAway(code) => {
+                self.shared.board.note_came(datagram);
+                self.turn_away(arrival, code);
+                true
+            }
+        }
+    }
+
+    /// Answers the CONNECT of a client that is not let in.
+    fn turn_away(&self, arrival: &Arrival, code: u8) {
+        let answer = [3, 5, code];
+        let is_sent = self.mouth.send(arrival.from, &answer).is_ok();
+        self.shared.board.note_sent(&answer, is_sent);
+        if code == CONGESTION && self.admission.is_old(arrival.moment) {
+            self.stage.close(self.rt);
         }
     }
 
@@ -153,7 +168,7 @@ impl<'a, T: Wait + Clock, W: Wire, P: Post> Wire for Watched<'a, T, W, P> {
 
     fn recv(&mut self, buffer: &mut [u8]) -> Result<Option<Arrival>, WireFault> {
         self.rests = 0;
-        let is_listening = self.pool.listening.is_on() && self.listens();
+        let is_listening = self.shared.pool.listening.is_on() && self.listens();
         if !is_listening && self.late.is_there() && self.has_call() {
             let Some(arrival) = self.late.give(buffer) else {
                 return Ok(None);
@@ -162,6 +177,7 @@ impl<'a, T: Wait + Clock, W: Wire, P: Post> Wire for Watched<'a, T, W, P> {
                 self.stage.give_back();
                 return Ok(None);
             }
+            self.shared.board.note_came(&buffer[..arrival.size]);
             self.arrivals = Tally::next(&self.arrivals);
             return Ok(Some(arrival));
         }
@@ -175,7 +191,7 @@ impl<'a, T: Wait + Clock, W: Wire, P: Post> Wire for Watched<'a, T, W, P> {
         }
         match self.wire.recv(buffer) {
             Ok(None) => {
-                self.pool.note_read();
+                self.shared.pool.note_read();
                 Ok(None)
             }
             Ok(Some(arrival)) => {
@@ -183,6 +199,7 @@ impl<'a, T: Wait + Clock, W: Wire, P: Post> Wire for Watched<'a, T, W, P> {
                     return Ok(None);
                 }
                 if self.stage.claim() {
+                    self.shared.board.note_came(&buffer[..arrival.size]);
                     self.stage.keep(self.rt, arrival.size);
                     self.arrivals = Tally::next(&self.arrivals);
                     return Ok(Some(arrival));
@@ -201,16 +218,17 @@ impl<'a, T: Wait + Clock, W: Wire, P: Post> Wire for Watched<'a, T, W, P> {
 
     fn unheard(&mut self) {
         self.drops = Tally::next(&self.drops);
+        self.shared.board.add(Number::Dropped);
         self.stage.give_back();
     }
 
     /// If nothing was taken for seconds, though the clock's own calls were made, the system has
     /// refused the threads that take datagrams: the next shift asks for new ones.
     fn rest(&mut self) {
-        let second = self.pool.clock.second();
+        let second = self.shared.pool.clock.second();
         if self.rests == 0 {
             self.rested = second;
-            self.pool.note_full();
+            self.shared.pool.note_full();
         }
         self.rests = self.rests.saturating_add(1);
         if self.rests > MOST_RESTS && second > self.rested.saturating_add(A_LONG_TIME) {

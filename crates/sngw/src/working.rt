@@ -3,6 +3,8 @@
 ghost use Rattle.std.specs.Prelude.{◌<◌, ◌≤◌};
 ghost use Rattle.gw_shift.specs.declared.shift.TheConstants.{MAX_STEPS};
 
+use crate::board::{Number, Shared};
+use crate::glancing::glance_all;
 use crate::late::Inlet;
 use crate::posting::Outlet;
 use crate::stop::Stop;
@@ -11,14 +13,14 @@ use gw_link::{End, Phase, Stage};
 use gw_main::Tended;
 use gw_main::options::Settings;
 use gw_node::{Node, Step};
-use gw_run::{MOST_ACCEPTED, Pool, Seat, sit, tick_all};
+use gw_run::{MOST_ACCEPTED, Seat, sit, tick_all};
 use gw_serve::{Cause, serve};
 use gw_shift::{Closed, Entry, MAX_STEPS, Pass, Shift};
-use gw_wire::{FieldClock, OpenGate, Post, Wire};
+use gw_tally::tally;
+use gw_wire::{FieldClock, OpenGate, Post, Wire, millisecond};
 use jr_disk::Disk;
 use rep_model::Replica;
 use std::alloc::Global;
-use std::net::TcpStream;
 use std::sync::Wait;
 use std::thread::Threads;
 use std::time::Clock;
@@ -68,7 +70,7 @@ pub(crate) fn work<T, R, D>(
     settings: &Settings,
     node: Node<R, D>,
     inlet: &mut Inlet,
-    pool: &Pool<TcpStream>,
+    shared: &Shared,
     number: u64,
 ) -> Result<Worked<R, D>, Stop>
 where
@@ -87,13 +89,15 @@ where
     };
     let made = match crew_of(alloc, passes, workers) {
         Some(mut crew) => {
-            let made = work_by(rt, alloc, settings, &shift, &mut crew, inlet, pool, number);
+            let made = work_by(
+                rt, alloc, settings, &shift, &mut crew, inlet, shared, number,
+            );
             drop(crew);
             made
         }
         None => Err(Stop::Memory),
     };
-    close(shift, made)
+    close(rt, alloc, shift, made, shared)
 }
 
 /// A crew works a shift, and gives the passes that made its calls.
@@ -104,7 +108,7 @@ fn work_by<T, R, D>(
     shift: &Shift<R, D>,
     crew: &mut Crew,
     inlet: &mut Inlet,
-    pool: &Pool<TcpStream>,
+    shared: &Shared,
     number: u64,
 ) -> Result<Made, Stop>
 where
@@ -114,13 +118,13 @@ where
     D: Disk + Drop + Send,
 {
     let steps = steps_of(settings);
-    let is_claimed = !pool.listening.is_on()
+    let is_claimed = !shared.pool.listening.is_on()
         && (steps > 1 || number % 2 == 0)
-        && has_first(inlet, &pool.clock);
+        && has_first(inlet, &shared.pool.clock);
     let stage = Stage::new(steps, u64::from(is_claimed));
-    pool.begin_shift(rt);
+    shared.pool.begin_shift(rt);
     work_all(
-        rt, alloc, settings, shift, crew, inlet, is_claimed, pool, &stage,
+        rt, alloc, settings, shift, crew, inlet, is_claimed, shared, &stage,
     )?;
     made_by(alloc, crew)
 }
@@ -168,7 +172,7 @@ fn work_all<T, R, D>(
     crew: &mut Crew,
     inlet: &mut Inlet,
     is_claimed: bool,
-    pool: &Pool<TcpStream>,
+    shared: &Shared,
     stage: &Stage,
 ) -> Result<(), Stop>
 where
@@ -177,34 +181,60 @@ where
     R::Staged: Send,
     D: Disk + Drop + Send,
 {
-    let gateway = settings.gateway;
     let Crew {
         serving,
         ticking,
         linking,
     } = crew;
     let mut talking = || {
-        sit_all(
+        sit_and_look(
             rt,
             alloc,
+            settings,
             shift,
             linking.as_mut_slice(),
-            pool,
-            gateway,
+            shared,
             stage,
         );
     };
     let mut working = || -> Result<(), Stop> {
         let seats = ticking.as_mut_slice();
         let served = serve_and_tick(
-            rt, alloc, shift, serving, seats, inlet, is_claimed, pool, stage,
+            rt, alloc, shift, serving, seats, inlet, is_claimed, shared, stage,
         );
         stage.go_to(rt, Phase::Quiet);
-        pool.be_quiet(rt);
+        shared.pool.be_quiet(rt);
         served
     };
     let ((), served) = thread::join_mut(rt, &mut talking, &mut working);
     served
+}
+
+/// Links, and beside them a glance at the clients if anybody watches. If no thread can be made for
+/// that, it is left out.
+fn sit_and_look<T, R, D>(
+    rt: &T,
+    alloc: Global,
+    settings: &Settings,
+    shift: &Shift<R, D>,
+    seats: &mut [Option<Seat>],
+    shared: &Shared,
+    stage: &Stage,
+)
+where
+    T: Threads + Wait + Sync + Clock,
+    R: Replica + Send,
+    R::Staged: Send,
+    D: Disk + Drop + Send,
+{
+    let gateway = settings.gateway;
+    if !shared.board.is_watched {
+        sit_all(rt, alloc, shift, seats, shared, gateway, stage);
+        return;
+    }
+    let mut sitting = || sit_all(rt, alloc, shift, seats, shared, gateway, stage);
+    let mut looking = || glance_all(rt, alloc, settings, shift, shared, stage);
+    let ((), ()) = thread::join_mut(rt, &mut looking, &mut sitting);
 }
 
 /// A thread for each seat of links.
@@ -213,7 +243,7 @@ fn sit_all<T, R, D>(
     alloc: Global,
     shift: &Shift<R, D>,
     seats: &mut [Option<Seat>],
-    pool: &Pool<TcpStream>,
+    shared: &Shared,
     gateway: u8,
     stage: &Stage,
 )
@@ -227,7 +257,7 @@ where
     if count > 0 {
         let at = |_place: usize, slot: &mut Option<Seat>| {
             if let Some(seat) = slot.take() {
-                *slot = Some(sit(rt, alloc, shift, seat, pool, gateway, stage));
+                *slot = Some(sit(rt, alloc, shift, seat, &shared.pool, gateway, stage));
             }
         };
         thread::for_each_mut(rt, seats, count, &at);
@@ -243,7 +273,7 @@ fn serve_and_tick<T, R, D>(
     seats: &mut [Option<Seat>],
     inlet: &mut Inlet,
     is_claimed: bool,
-    pool: &Pool<TcpStream>,
+    shared: &Shared,
     stage: &Stage,
 ) -> Result<(), Stop>
 where
@@ -258,9 +288,9 @@ where
         fence,
         admission,
     } = inlet;
-    let (mut ears, mouth) = socket.sides(&pool.clock);
+    let (mut ears, mouth) = socket.sides(&shared.pool.clock);
     let mut watched = Watched::new(
-        rt, alloc, &mut ears, mouth, stage, late, is_claimed, pool, admission,
+        rt, alloc, &mut ears, mouth, stage, late, is_claimed, shared, admission,
     );
     serve_beside(
         rt,
@@ -269,8 +299,8 @@ where
         passes,
         seats,
         &mut watched,
-        &Outlet::new(rt, alloc, &mouth, stage, fence, pool),
-        pool,
+        &Outlet::new(rt, alloc, &mouth, stage, fence, shared),
+        shared,
         stage,
     )
 }
@@ -284,7 +314,7 @@ fn serve_beside<T, R, D, W, P>(
     seats: &mut [Option<Seat>],
     wire: &mut W,
     post: &P,
-    pool: &Pool<TcpStream>,
+    shared: &Shared,
     stage: &Stage,
 ) -> Result<(), Stop>
 where
@@ -295,9 +325,10 @@ where
     W: Wire,
     P: Post + Sync,
 {
-    let mut ticking = || tick_at(rt, alloc, shift, seats, stage, post, pool);
+    let mut ticking = || tick_at(rt, alloc, shift, seats, stage, post, shared);
     let mut serving = || -> Result<(), Stop> {
         let served = serve_all(rt, alloc, shift, passes, wire, post, stage);
+        shared.board.set(Number::Closing, millisecond(rt));
         stage.close(rt);
         served
     };
@@ -313,7 +344,7 @@ fn tick_at<T, R, D, P>(
     seats: &mut [Option<Seat>],
     stage: &Stage,
     post: &P,
-    pool: &Pool<TcpStream>,
+    shared: &Shared,
 )
 where
     T: Wait + Clock,
@@ -323,7 +354,7 @@ where
 {
     for slot in seats {
         if let Some(seat) = slot.take() {
-            let (pass, end) = tick_all(rt, alloc, shift, seat.pass, stage, post, pool);
+            let (pass, end) = tick_all(rt, alloc, shift, seat.pass, stage, post, &shared.pool);
             *slot = Some(Seat { pass, end });
         }
     }
@@ -383,8 +414,15 @@ fn made_by(alloc: Global, crew: &mut Crew) -> Result<Made, Stop> {
 
 /// Ends the shift, and compares its history with what its threads hold. If the crew failed, the
 /// shift is dropped.
-fn close<R, D>(shift: Shift<R, D>, made: Result<Made, Stop>) -> Result<Worked<R, D>, Stop>
+fn close<T, R, D>(
+    rt: &T,
+    alloc: Global,
+    shift: Shift<R, D>,
+    made: Result<Made, Stop>,
+    shared: &Shared,
+) -> Result<Worked<R, D>, Stop>
 where
+    T: Wait,
     R: Replica,
     D: Disk + Drop,
 {
@@ -402,6 +440,7 @@ where
     let steps = history.len();
     let has_written = has_written(history.as_slice());
     let has_recorded = has_recorded(history.as_slice());
+    count_calls(rt, alloc, history.as_slice(), shared);
     drop(history);
     Ok(Worked {
         node,
@@ -410,6 +449,16 @@ where
         has_written,
         has_recorded,
     })
+}
+
+/// Counts the calls of a closed shift, if anybody watches. If memory runs out they are not counted.
+fn count_calls<T: Wait>(rt: &T, alloc: Global, history: &[Entry], shared: &Shared) {
+    if shared.board.is_watched {
+        match tally(alloc, history) {
+            Ok(calls) => shared.board.put_calls(rt, calls),
+            Err(_) => {}
+        }
+    }
 }
 
 /// Whether one of the calls put something into the journal.

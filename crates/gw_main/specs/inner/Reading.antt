@@ -6,7 +6,8 @@ use Rattle.gw_main.specs.declared.fault.SettingsFault.{SettingsFault}
 use Rattle.gw_main.specs.declared.fault.SettingsFault.TheVariants as faults
 use Rattle.gw_main.specs.declared.parsing.Plain.{Plain}
 use Rattle.gw_main.specs.declared.parsing.Lists.{Lists}
-use Rattle.gw_main.specs.Reading.{first_bad, gateway_in, listen_in, link_in, journal_in, workers_in, steps_in, advertise_in, field_in, peers_in, predefined_in, numbers_in, clients_in, newcomers_in}
+use Rattle.gw_main.specs.declared.parsing.Shown.{Shown}
+use Rattle.gw_main.specs.Reading.{first_bad, gateway_in, listen_in, link_in, journal_in, workers_in, steps_in, advertise_in, field_in, peers_in, predefined_in, numbers_in, clients_in, newcomers_in, status_in, log_in}
 
 -- why members are refused whose first bad key is this
 abbrev pub IsBadOf : Option Key → SettingsFault → Type 0
@@ -46,3 +47,14 @@ pub record SaysLists (members : Members) (lists : Lists) : Type 0 where
 -- why members are refused whose keys before the lists are good
 abbrev pub IsBadAfter : Members → SettingsFault → Type 0
 IsBadAfter members fault = (plain : Plain) → SaysPlain members plain → IsBad members fault
+
+-- what the keys say by which a gateway is seen, or their defaults
+pub record SaysShown (members : Members) (shown : Shown) : Type 0 where
+  pub status : status_in members ≡ Some shown.status
+  pub log : log_in members ≡ Some shown.log
+
+-- why members are refused whose other keys are good
+abbrev pub IsBadLast : Members → SettingsFault → Type 0
+IsBadLast members fault =
+    (plain : Plain) → SaysPlain members plain → (lists : Lists) → SaysLists members lists
+    → IsBad members fault

@@ -1,15 +1,16 @@
 //! Calls of one gateway on a disk in memory, made directly and through a shift, so that the two can
 //! be compared in one run.
 
-use crate::calls::{call_thrice, close_by, open_node, over, told};
+use crate::calls::{call_thrice, close_by, open_node, over, shared_step, told};
 use crate::page::Page;
-use crate::seats::{Seat, call_all, seat_all};
+use crate::seats::{Seat, add_seated, call_all, seat_all};
 use crate::shifts;
 use crate::stop::Stop;
 use gw_node::{Answer, Node, NodeFault, Step};
-use gw_shift::{Closed, Pass, Shift};
+use gw_shift::{Closed, Ended, Pass, Shift};
 use jr_journal::MemoryDisk;
 use octets::{Octets, Sequence};
+use rep_model::Replica;
 use rep_plain::Plain;
 use sn_local::{Addr, Config};
 use std::sync::{Arc, Wait};
@@ -17,7 +18,7 @@ use std::thread::Threads;
 use std::time::{Clock, Instant};
 
 /// A gateway on a disk in memory.
-type Gateway = Node<Plain, MemoryDisk>;
+type Gateway<R> = Node<R, MemoryDisk>;
 
 /// At most so many threads make calls.
 pub(crate) const MOST: u32 = 8;
@@ -43,9 +44,10 @@ where
 {
     let step = step_of(page, name);
     if let Some(step) = &step {
-        let micros = all(rt, page, step, threads, rounds);
+        let micros = all::<T, Plain>(rt, page, step, threads, rounds);
         tell(rt, page, name, threads, rounds, micros);
     }
+    drop(step);
 }
 
 /// Prints the calls, and on standard error the microseconds that they took.
@@ -54,18 +56,26 @@ where
     T: Eprint + AllocGlobal,
 {
     let calls = u64::from(rounds) * 4096;
-    page.text(name);
-    page.length(" ", threads);
-    page.number(" ", u64::from(rounds));
+    print_work(page, name, threads, rounds);
     page.number(": ", calls);
     page.text(" calls\n");
     let mut times = Page::new(rt.alloc());
-    times.text(name);
-    times.length(" ", threads);
-    times.number(" ", u64::from(rounds));
+    print_work(&mut times, name, threads, rounds);
     times.number(" ", calls);
     times.number(" ", micros);
-    let times = times.printed();
+    tell_times(rt, times.printed());
+    drop(times);
+}
+
+/// Prints a work, the threads and the rounds.
+fn print_work(page: &mut Page, name: &str, threads: usize, rounds: u16) {
+    page.text(name);
+    page.length(" ", threads);
+    page.number(" ", u64::from(rounds));
+}
+
+/// A line on standard error.
+fn tell_times<T: Eprint>(rt: &T, times: &str) {
     let _ = eprintln!(rt; "{times}");
 }
 
@@ -83,62 +93,105 @@ fn step_of(page: &mut Page, name: &str) -> Option<Arc<Step>> {
 
 /// The call that brings this datagram, to be shared.
 fn shared(page: &mut Page, datagram: &[u8]) -> Option<Arc<Step>> {
-    let bytes = Octets::from_slice(page.alloc(), datagram).ok();
-    page.stop_if_short(bytes.is_none());
-    let step = Step::Frame {
-        from: CLIENT,
-        bytes: bytes?,
-        now: 0,
-    };
-    let shared = Arc::new(page.alloc(), step).ok();
-    page.stop_if_short(shared.is_none());
-    shared
-}
-
-/// The microseconds that all rounds took.
-fn all<T>(rt: &T, page: &mut Page, step: &Arc<Step>, threads: usize, rounds: u16) -> u64
-where
-    T: Threads + Wait + Sync + Clock + AllocGlobal,
-{
-    let mut micros = 0_u64;
-    for _ in 0..rounds {
-        micros = micros.wrapping_add(round(rt, page, step, threads));
-    }
-    micros
-}
-
-/// The microseconds that a round took.
-fn round<T>(rt: &T, page: &mut Page, step: &Arc<Step>, threads: usize) -> u64
-where
-    T: Threads + Wait + Sync + Clock + AllocGlobal,
-{
-    match gateway(page) {
-        Some(node) if threads == 0 => direct(rt, page, node, step),
-        Some(node) => by_threads(rt, page, node, step, threads),
-        None => 0,
-    }
-}
-
-/// Gateway 1 on an empty disk, with a client that has connected.
-fn gateway(page: &mut Page) -> Option<Gateway> {
-    let config = told(page.alloc(), 1, 0, Sequence::empty(page.alloc()));
-    page.stop_if_short(config.is_none());
-    opened(page, config?)
-}
-
-/// A gateway on an empty disk, with a client that has connected.
-fn opened(page: &mut Page, config: Config) -> Option<Gateway> {
-    match open_node(page.alloc(), config, MemoryDisk::new(page.alloc())) {
-        Ok(node) => Some(greeted(page, node)),
-        Err((disk, fault)) => {
-            page.stop(stop_of(&fault, disk.starved()));
+    match Octets::from_slice(page.alloc(), datagram) {
+        Ok(bytes) => shared_frame(page, bytes),
+        Err(_) => {
+            page.stop(Stop::Memory);
             None
         }
     }
 }
 
+/// The call that brings these octets, to be shared.
+fn shared_frame(page: &mut Page, bytes: Octets) -> Option<Arc<Step>> {
+    let step = Step::Frame {
+        from: CLIENT,
+        bytes,
+        now: 0,
+    };
+    let shared = shared_step(page.alloc(), step);
+    page.stop_if_short(shared.is_none());
+    shared
+}
+
+/// The microseconds that all rounds took.
+fn all<T, R>(rt: &T, page: &mut Page, step: &Arc<Step>, threads: usize, rounds: u16) -> u64
+where
+    T: Threads + Wait + Sync + Clock + AllocGlobal,
+    R: Replica + Send,
+    R::Staged: Send,
+{
+    let mut micros = 0_u64;
+    for _ in 0..rounds {
+        micros = micros.wrapping_add(round::<T, R>(rt, page, step, threads));
+    }
+    micros
+}
+
+/// The microseconds that a round took.
+fn round<T, R>(rt: &T, page: &mut Page, step: &Arc<Step>, threads: usize) -> u64
+where
+    T: Threads + Wait + Sync + Clock + AllocGlobal,
+    R: Replica + Send,
+    R::Staged: Send,
+{
+    match gateway::<R>(page) {
+        Some(node) => round_of(rt, page, node, step, threads),
+        None => 0,
+    }
+}
+
+/// The microseconds that a round of this gateway took.
+fn round_of<T, R>(
+    rt: &T,
+    page: &mut Page,
+    node: Gateway<R>,
+    step: &Arc<Step>,
+    threads: usize,
+) -> u64
+where
+    T: Threads + Wait + Sync + Clock + AllocGlobal,
+    R: Replica + Send,
+    R::Staged: Send,
+{
+    if threads == 0 {
+        direct(rt, page, node, step)
+    } else {
+        by_threads(rt, page, node, step, threads)
+    }
+}
+
+/// Gateway 1 on an empty disk, with a client that has connected.
+fn gateway<R: Replica>(page: &mut Page) -> Option<Gateway<R>> {
+    match told(page.alloc(), 1, 0, Sequence::empty(page.alloc())) {
+        Some(config) => opened(page, config),
+        None => {
+            page.stop(Stop::Memory);
+            None
+        }
+    }
+}
+
+/// A gateway on an empty disk, with a client that has connected.
+fn opened<R: Replica>(page: &mut Page, config: Config) -> Option<Gateway<R>> {
+    match open_node::<R>(page.alloc(), config, MemoryDisk::new(page.alloc())) {
+        Ok(node) => Some(greeted(page, node)),
+        Err((disk, fault)) => {
+            note_unopened(page, disk, fault);
+            None
+        }
+    }
+}
+
+/// Notes why a gateway is not opened.
+fn note_unopened(page: &mut Page, disk: MemoryDisk, fault: NodeFault) {
+    page.stop(stop_of(&fault, disk.starved()));
+    drop(fault);
+    drop(disk);
+}
+
 /// The gateway once the client has connected.
-fn greeted(page: &mut Page, node: Gateway) -> Gateway {
+fn greeted<R: Replica>(page: &mut Page, node: Gateway<R>) -> Gateway<R> {
     let mut node = node;
     let answer = node.frame(page.alloc(), CLIENT, &CONNECT, 0);
     check(page, &answer, node.starved());
@@ -173,17 +226,24 @@ fn since<T: Clock>(rt: &T, page: &mut Page, start: &Option<Instant>) -> u64 {
 }
 
 /// The calls, made by the one that owns the gateway: the microseconds that they took.
-fn direct<T: Clock>(rt: &T, page: &mut Page, node: Gateway, step: &Step) -> u64 {
+fn direct<T: Clock, R: Replica>(rt: &T, page: &mut Page, node: Gateway<R>, step: &Step) -> u64 {
     let mut node = node;
+    let micros = timed(rt, page, &mut node, step);
+    drop(node);
+    micros
+}
+
+/// The microseconds that the calls of this gateway took.
+fn timed<T: Clock, R: Replica>(rt: &T, page: &mut Page, node: &mut Gateway<R>, step: &Step) -> u64 {
     let start = Instant::now(rt).ok();
     for _ in 0..CALLS {
-        call(page, &mut node, step);
+        call(page, node, step);
     }
     since(rt, page, &start)
 }
 
 /// A call, which is not refused.
-fn call(page: &mut Page, node: &mut Gateway, step: &Step) {
+fn call<R: Replica>(page: &mut Page, node: &mut Gateway<R>, step: &Step) {
     let answers = call_thrice(page.alloc(), node, step);
     check(page, &answers.0, node.starved());
     drop(answers);
@@ -191,13 +251,18 @@ fn call(page: &mut Page, node: &mut Gateway, step: &Step) {
 
 /// The calls, made by threads that share the gateway: the microseconds that they took. The shift is
 /// closed.
-fn by_threads<T: Threads + Wait + Sync + Clock>(
+fn by_threads<T, R>(
     rt: &T,
     page: &mut Page,
-    node: Gateway,
+    node: Gateway<R>,
     step: &Arc<Step>,
     threads: usize,
-) -> u64 {
+) -> u64
+where
+    T: Threads + Wait + Sync + Clock,
+    R: Replica + Send,
+    R::Staged: Send,
+{
     let each = CALLS / threads.max(1);
     match shifts::open(page, node, threads, 4096) {
         Some((shift, passes)) => at_once(rt, page, shift, passes, step, each),
@@ -207,50 +272,84 @@ fn by_threads<T: Threads + Wait + Sync + Clock>(
 
 /// The passes of a shift make so many calls each, all at once: the microseconds that these take.
 /// The shift is closed.
-fn at_once<T: Threads + Wait + Sync + Clock>(
+fn at_once<T, R>(
     rt: &T,
     page: &mut Page,
-    shift: Shift<Plain, MemoryDisk>,
+    shift: Shift<R, MemoryDisk>,
     passes: Vec<Pass>,
     step: &Arc<Step>,
     each: usize,
-) -> u64 {
+) -> u64
+where
+    T: Threads + Wait + Sync + Clock,
+    R: Replica + Send,
+    R::Staged: Send,
+{
     let mut seats = Vec::new(page.alloc());
     seat_all(page, &mut seats, passes);
-    let start = Instant::now(rt).ok();
-    let is_short = call_all(rt, page.alloc(), &shift, seats.as_mut_slice(), step, each);
-    let micros = since(rt, page, &start);
-    page.stop_if_short(is_short);
+    let micros = timed_at_once(rt, page, &shift, seats.as_mut_slice(), step, each);
     close(page, shift, seats, each);
     micros
 }
 
+/// The microseconds that the calls of all seats took, so many of each.
+fn timed_at_once<T, R>(
+    rt: &T,
+    page: &mut Page,
+    shift: &Shift<R, MemoryDisk>,
+    seats: &mut [Seat],
+    step: &Arc<Step>,
+    each: usize,
+) -> u64
+where
+    T: Threads + Wait + Sync + Clock,
+    R: Replica + Send,
+    R::Staged: Send,
+{
+    let start = Instant::now(rt).ok();
+    let is_short = call_all(rt, page.alloc(), shift, seats, step, each);
+    let micros = since(rt, page, &start);
+    page.stop_if_short(is_short);
+    micros
+}
+
 /// Closes a shift with the passes of all seats, each of which has made so many calls.
-fn close(page: &mut Page, shift: Shift<Plain, MemoryDisk>, seats: Vec<Seat>, each: usize) {
+fn close<R: Replica>(page: &mut Page, shift: Shift<R, MemoryDisk>, seats: Vec<Seat>, each: usize) {
     let calls = each.saturating_mul(seats.len());
     let passes = risen(page, seats);
-    match &close_by(over(shift), passes) {
-        Ok(closed) => check_closed(page, closed, calls),
-        Err(_) => page.stop(Stop::Work),
-    }
+    close_with(page, over(shift), passes, calls);
 }
 
 /// The passes of all seats.
 fn risen(page: &mut Page, seats: Vec<Seat>) -> Vec<Pass> {
     let mut passes = Vec::new(page.alloc());
     for seat in seats {
-        if let Some(pass) = seat {
-            let is_short = passes.push(pass).is_err();
-            page.stop_if_short(is_short);
-        }
+        add_seated(page, &mut passes, seat);
     }
     passes
 }
 
+/// Closes a shift that is over with these passes, which have made so many calls.
+fn close_with<R: Replica>(
+    page: &mut Page,
+    over: Ended<R, MemoryDisk>,
+    passes: Vec<Pass>,
+    calls: usize,
+) {
+    match close_by(over, passes) {
+        Ok(closed) => check_closed(page, closed, calls),
+        Err(refused) => {
+            drop(refused);
+            page.stop(Stop::Work);
+        }
+    }
+}
+
 /// A closed shift has so many calls, and no memory was refused in its disk.
-fn check_closed(page: &mut Page, closed: &Closed<Plain, MemoryDisk>, calls: usize) {
+fn check_closed<R: Replica>(page: &mut Page, closed: Closed<R, MemoryDisk>, calls: usize) {
     page.stop_if_short(closed.node.starved());
     if closed.history.len() != calls {
         page.stop(Stop::Work);
     }
+    drop(closed);
 }

@@ -2,18 +2,22 @@
 
 use crate::calls::{delta_of, read_delta, write_delta};
 use crate::page::Page;
+use crate::stop::unworked;
+use crate::works::check;
 use crate::works::numbers::checksum;
 use crate::works::operations::operations;
-use crate::works::worked;
 use rep_ops::Delta;
 
 /// Encodes and decodes the delta so often, and says how many operations were read, and what was
 /// written.
 pub(crate) fn run(page: &mut Page, rounds: u32) {
     let ops = operations(page);
-    let delta = delta_of(page.alloc(), ops);
-    if let Some(delta) = &worked(page, delta) {
-        print_rounds(page, delta, rounds);
+    match delta_of(page.alloc(), ops) {
+        Ok(delta) => {
+            print_rounds(page, &delta, rounds);
+            drop(delta);
+        }
+        Err(fault) => page.stop(unworked(&fault)),
     }
 }
 
@@ -25,6 +29,7 @@ fn print_rounds(page: &mut Page, delta: &Delta, rounds: u32) {
     page.length(" operations, ", octets.len());
     page.checksum(" octets a round, checksum ", checksum(&octets));
     page.end();
+    drop(octets);
 }
 
 /// All rounds: how many operations were read.
@@ -33,7 +38,7 @@ fn all(page: &mut Page, delta: &Delta, octets: &mut Vec<u8>, rounds: u32) -> u64
     for _ in 0..rounds {
         octets.clear();
         let written = write_delta(page.alloc(), delta, octets);
-        let _written = worked(page, written);
+        check(page, written);
         count = count.wrapping_add(read(page, octets));
     }
     count
@@ -41,9 +46,15 @@ fn all(page: &mut Page, delta: &Delta, octets: &mut Vec<u8>, rounds: u32) -> u64
 
 /// How many operations the delta has that octets spell.
 fn read(page: &mut Page, octets: &[u8]) -> u64 {
-    let delta = read_delta(page.alloc(), octets);
-    match &worked(page, delta) {
-        Some(delta) => delta.ops().len() as u64,
-        None => 0,
+    match read_delta(page.alloc(), octets) {
+        Ok(delta) => {
+            let count = delta.ops().len() as u64;
+            drop(delta);
+            count
+        }
+        Err(fault) => {
+            page.stop(unworked(&fault));
+            0
+        }
     }
 }

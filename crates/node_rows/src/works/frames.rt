@@ -17,6 +17,8 @@ pub(crate) fn run(page: &mut Page, rounds: u32) {
     page.length(" datagrams, ", out.len());
     page.checksum(" octets a round, checksum ", checksum(&out));
     page.end();
+    drop(out);
+    drop(datagrams);
 }
 
 /// All rounds: how many datagrams were decoded.

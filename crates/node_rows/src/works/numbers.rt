@@ -1,5 +1,7 @@
 //! Numbers to make data of.
 
+use crate::page::Page;
+
 /// A sequence of numbers that is the same in each run.
 #[derive(Drop)]
 pub(crate) struct Numbers {
@@ -25,6 +27,15 @@ impl Numbers {
     pub(crate) fn octet(&mut self) -> u8 {
         (self.next() % 256) as u8
     }
+}
+
+/// So many octets of the sequence, each of them changed where the mask has a bit.
+pub(crate) fn body(page: &mut Page, numbers: &mut Numbers, count: usize, mask: u8) -> Vec<u8> {
+    let mut octets = Vec::new(page.alloc());
+    for _ in 0..count {
+        page.add(&mut octets, &[numbers.octet() ^ mask]);
+    }
+    octets
 }
 
 /// The FNV-1a checksum of octets.

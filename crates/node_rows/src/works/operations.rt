@@ -2,8 +2,8 @@
 //! presence, 20 puts with bodies of 4,096 octets and five ranges of acknowledgements.
 
 use crate::page::Page;
-use crate::works::making::{self, STAMP, push, take};
-use crate::works::numbers::Numbers;
+use crate::works::making::{self, STAMP, push};
+use crate::works::numbers::{Numbers, body};
 use rep_ops::{ClientId, Op};
 use sn_session::{Presence, SessionOp};
 use sn_tables::QosLevel;
@@ -24,7 +24,8 @@ pub(crate) fn operations(page: &mut Page) -> Vec<Op> {
     let mut ops = Vec::new(page.alloc());
     let mut numbers = Numbers::new();
     for client in 0..CLIENTS {
-        add_take(page, &mut ops, client);
+        let taker = client_of(page, client);
+        making::add_take(page, &mut ops, taker);
         add_changes(page, &mut ops, client, CHANGES);
         add_puts(page, &mut ops, client, &mut numbers);
         add_acks(page, &mut ops, client);
@@ -49,19 +50,12 @@ fn client_of(page: &mut Page, number: u8) -> Option<ClientId> {
     making::client(page, &digits(number))
 }
 
-/// The client's session begins.
-fn add_take(page: &mut Page, ops: &mut Vec<Op>, client: u8) {
-    if let Some(client) = client_of(page, client) {
-        let op = take(page.alloc(), client);
-        push(page, ops, op);
-    }
-}
-
 /// So many changes of the client's session.
 fn add_changes(page: &mut Page, ops: &mut Vec<Op>, client: u8, changes: u8) {
     for counter in 1..=changes {
-        if let Some(client) = client_of(page, client) {
-            push(page, ops, change(client, counter));
+        match client_of(page, client) {
+            Some(client) => push(page, ops, change(client, counter)),
+            None => {}
         }
     }
 }
@@ -92,29 +86,18 @@ fn add_put(page: &mut Page, ops: &mut Vec<Op>, client: u8, seq: u64, numbers: &m
     let topic = [
         b'f', b'i', b'e', b'l', b'd', b'/', tens, ones, b'/', b's', b'o', b'i', b'l',
     ];
-    let body = body(page, numbers);
+    let body = body(page, numbers, BODY, 0);
     let put = making::put(page, (1, seq), &topic, level(client), body);
-    if let Some(client) = client_of(page, client) {
-        if let Some(put) = put {
-            push(page, ops, Op::Put { client, put });
-        }
-    }
-}
-
-/// The body of a message.
-fn body(page: &mut Page, numbers: &mut Numbers) -> Vec<u8> {
-    let mut octets = Vec::new(page.alloc());
-    for _ in 0..BODY {
-        page.add(&mut octets, &[numbers.octet()]);
-    }
-    octets
+    let client = client_of(page, client);
+    making::add_put(page, ops, client, put);
 }
 
 /// The acknowledgements of the client, of five messages each.
 fn add_acks(page: &mut Page, ops: &mut Vec<Op>, client: u8) {
     for range in 0..RANGES {
-        if let Some(client) = client_of(page, client) {
-            push(page, ops, ack(client, 1 + range * 10));
+        match client_of(page, client) {
+            Some(client) => push(page, ops, ack(client, 1 + range * 10)),
+            None => {}
         }
     }
 }

@@ -4,13 +4,11 @@
 
 use crate::calls::{delta_of, take_delta};
 use crate::page::Page;
-use crate::stop::Stop;
-use crate::works::making::{self, push, take};
-use crate::works::numbers::Numbers;
-use crate::works::worked;
+use crate::stop::{Stop, unworked};
+use crate::works::making::{self, add_put, add_take};
+use crate::works::numbers::{Numbers, body};
 use rep_model::{Replica, TakeFault};
 use rep_ops::{ClientId, Delta, Op};
-use rep_plain::Plain;
 use sn_tables::QosLevel;
 
 const CLIENTS: u16 = 1000;
@@ -23,29 +21,35 @@ const ORIGINS: u16 = 4;
 const BODY: usize = 64;
 
 /// The gateway that has all.
-pub(crate) fn peer(page: &mut Page) -> Option<Plain> {
+pub(crate) fn peer<R: Replica>(page: &mut Page) -> Option<R> {
     let ops = operations(page, false);
     taken(page, ops)
 }
 
 /// The gateway that was away.
-pub(crate) fn asker(page: &mut Page) -> Option<Plain> {
+pub(crate) fn asker<R: Replica>(page: &mut Page) -> Option<R> {
     let ops = operations(page, true);
     taken(page, ops)
 }
 
 /// A gateway that has taken these operations.
-fn taken(page: &mut Page, ops: Vec<Op>) -> Option<Plain> {
-    let delta = delta_of(page.alloc(), ops);
-    match &worked(page, delta) {
-        Some(delta) => taker(page, delta),
-        None => None,
+fn taken<R: Replica>(page: &mut Page, ops: Vec<Op>) -> Option<R> {
+    match delta_of(page.alloc(), ops) {
+        Ok(delta) => {
+            let replica = taker::<R>(page, &delta);
+            drop(delta);
+            replica
+        }
+        Err(fault) => {
+            page.stop(unworked(&fault));
+            None
+        }
     }
 }
 
 /// A gateway that has taken this delta.
-fn taker(page: &mut Page, delta: &Delta) -> Option<Plain> {
-    match Plain::empty(page.alloc()) {
+fn taker<R: Replica>(page: &mut Page, delta: &Delta) -> Option<R> {
+    match R::empty(page.alloc()) {
         Ok(replica) => {
             let mut replica = replica;
             take_all(page, &mut replica, delta);
@@ -59,7 +63,7 @@ fn taker(page: &mut Page, delta: &Delta) -> Option<Plain> {
 }
 
 /// A gateway takes a delta.
-fn take_all(page: &mut Page, replica: &mut Plain, delta: &Delta) {
+fn take_all<R: Replica>(page: &mut Page, replica: &mut R, delta: &Delta) {
     match take_delta(page.alloc(), replica, delta) {
         Ok(()) => {}
         Err(TakeFault::Memory) => page.stop(Stop::Memory),
@@ -71,25 +75,18 @@ fn take_all(page: &mut Page, replica: &mut Plain, delta: &Delta) {
 fn operations(page: &mut Page, was_away: bool) -> Vec<Op> {
     let mut ops = Vec::new(page.alloc());
     for client in 0..CLIENTS {
-        add_take(page, &mut ops, client);
+        let taker = client_of(page, client);
+        add_take(page, &mut ops, taker);
         add_puts(page, &mut ops, client, was_away && client % 5 == 0);
     }
     ops
-}
-
-/// The client's session begins.
-fn add_take(page: &mut Page, ops: &mut Vec<Op>, client: u16) {
-    if let Some(client) = client_of(page, client) {
-        let op = take(page.alloc(), client);
-        push(page, ops, op);
-    }
 }
 
 /// The messages for the client, or all but one.
 fn add_puts(page: &mut Page, ops: &mut Vec<Op>, client: u16, lacks_one: bool) {
     for message in 0..MESSAGES {
         if !lacks_one || message != 7 {
-            add_put(page, ops, client, message);
+            add_message(page, ops, client, message);
         }
     }
 }
@@ -108,24 +105,13 @@ fn client_of(page: &mut Page, number: u16) -> Option<ClientId> {
 }
 
 /// A message for the client.
-fn add_put(page: &mut Page, ops: &mut Vec<Op>, client: u16, message: u16) {
+fn add_message(page: &mut Page, ops: &mut Vec<Op>, client: u16, message: u16) {
     let origin = 1 + (message % ORIGINS) as u8;
     let seq = 1 + u64::from(message / ORIGINS);
-    let body = body(page, client.wrapping_add(message));
-    let put = making::put(page, (origin, seq), b"field/soil", QosLevel::one(), body);
-    if let Some(client) = client_of(page, client) {
-        if let Some(put) = put {
-            push(page, ops, Op::Put { client, put });
-        }
-    }
-}
-
-/// The body of a message.
-fn body(page: &mut Page, seed: u16) -> Vec<u8> {
-    let mut octets = Vec::new(page.alloc());
+    let mask = (client.wrapping_add(message) % 256) as u8;
     let mut numbers = Numbers::new();
-    for _ in 0..BODY {
-        page.add(&mut octets, &[numbers.octet() ^ (seed % 256) as u8]);
-    }
-    octets
+    let body = body(page, &mut numbers, BODY, mask);
+    let put = making::put(page, (origin, seq), b"field/soil", QosLevel::one(), body);
+    let client = client_of(page, client);
+    add_put(page, ops, client, put);
 }

@@ -2,9 +2,8 @@
 
 use crate::calls::{append, delta_of, open_journal};
 use crate::page::Page;
-use crate::stop::Stop;
+use crate::stop::{Stop, unworked};
 use crate::works::operations::presence;
-use crate::works::worked;
 use jr_journal::{Journal, JournalFault, MemoryDisk};
 use rep_ops::Delta;
 
@@ -12,30 +11,38 @@ use rep_ops::Delta;
 /// synced, and says how many it appended.
 pub(crate) fn run(page: &mut Page, rounds: u32) {
     let ops = presence(page);
-    let delta = delta_of(page.alloc(), ops);
-    if let Some(delta) = &worked(page, delta) {
-        append_to_new(page, delta, rounds);
+    match delta_of(page.alloc(), ops) {
+        Ok(delta) => {
+            append_to_new(page, &delta, rounds);
+            drop(delta);
+        }
+        Err(fault) => page.stop(unworked(&fault)),
     }
 }
 
 /// Appends the delta so often to a new journal.
 fn append_to_new(page: &mut Page, delta: &Delta, rounds: u32) {
     match open_journal(page.alloc(), MemoryDisk::new(page.alloc()), 1) {
-        Ok((journal, _)) => {
-            let mut journal = journal;
-            append_all(page, &mut journal, delta, rounds);
+        Ok((journal, held)) => {
+            drop(held);
+            append_all(page, journal, delta, rounds);
         }
-        Err((disk, fault)) => page.stop(stop_of(fault, disk.starved())),
+        Err((disk, fault)) => {
+            page.stop(stop_of(fault, disk.starved()));
+            drop(disk);
+        }
     }
 }
 
-/// Appends the delta so often.
-fn append_all(page: &mut Page, journal: &mut Journal<MemoryDisk>, delta: &Delta, rounds: u32) {
+/// Appends the delta so often to this journal.
+fn append_all(page: &mut Page, journal: Journal<MemoryDisk>, delta: &Delta, rounds: u32) {
+    let mut journal = journal;
     for _ in 0..rounds {
-        if let Err(fault) = append(page.alloc(), journal, delta) {
+        if let Err(fault) = append(page.alloc(), &mut journal, delta) {
             page.stop(stop_of(fault, journal.starved()));
         }
     }
+    drop(journal);
     page.number("records: ", u64::from(rounds));
     page.text(" appended, each synced\n");
 }

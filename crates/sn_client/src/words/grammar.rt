@@ -272,21 +272,21 @@ fn add_args<'a>(
 /// A word as an argument.
 fn arg<'a>(alloc: Global, word: Word) -> Arg<'a> {
     let Word(name, form, value, help) = word;
-    let arg = Arg::new(alloc, name).help(help);
+    let arg = told(alloc, name, help);
     match form {
-        Form::Flag => arg.long(name).action(ArgAction::SetTrue),
-        _ => valued(arg.value_name(value), name, form),
+        Form::Flag => flag(long(arg, name)),
+        _ => valued(of_value(arg, value), name, form),
     }
 }
 
 /// A word with a value.
 fn valued<'a>(arg: Arg<'a>, name: &'a str, form: Form) -> Arg<'a> {
     match form {
-        Form::Needed => arg.required(true),
-        Form::NeededText => arg.required(true).allow_negative_numbers(true),
-        Form::NeededNumber => number(arg.required(true)),
-        Form::LastNumber(default) => number(arg).default_value(default),
-        _ => option(arg.long(name), form),
+        Form::Needed => needed(arg),
+        Form::NeededText => negative(needed(arg)),
+        Form::NeededNumber => number(needed(arg)),
+        Form::LastNumber(default) => or_else(number(arg), default),
+        _ => option(long(arg, name), form),
     }
 }
 
@@ -295,11 +295,54 @@ fn option<'a>(arg: Arg<'a>, form: Form) -> Arg<'a> {
     match form {
         Form::Lettered(letter) => arg.short(letter),
         Form::Number => number(arg),
-        Form::NumberOr(default) => number(arg).default_value(default),
+        Form::NumberOr(default) => or_else(number(arg), default),
         Form::Level => level(arg, OF_OTHERS.as_slice()),
         Form::AnyLevel => level(arg, OF_PUBLISH.as_slice()),
         _ => arg,
     }
+}
+
+/// A quality of service.
+fn level<'a>(arg: Arg<'a>, levels: &'static [&'static str]) -> Arg<'a> {
+    or_else(negative(one_of(arg, levels)), "0")
+}
+
+// The calls of clap that the words above are made of, each by itself. They say nothing of their
+// argument, so that who calls them carries nothing on.
+
+/// A word, and what help says of it.
+fn told<'a>(alloc: Global, name: &'a str, help: &'a str) -> Arg<'a> {
+    Arg::new(alloc, name).help(help)
+}
+
+/// A word with two hyphens in front.
+fn long<'a>(arg: Arg<'a>, name: &'a str) -> Arg<'a> {
+    arg.long(name)
+}
+
+/// A word that is there or not.
+fn flag<'a>(arg: Arg<'a>) -> Arg<'a> {
+    arg.action(ArgAction::SetTrue)
+}
+
+/// A word whose value help calls so.
+fn of_value<'a>(arg: Arg<'a>, value: &'a str) -> Arg<'a> {
+    arg.value_name(value)
+}
+
+/// A word that must be there.
+fn needed<'a>(arg: Arg<'a>) -> Arg<'a> {
+    arg.required(true)
+}
+
+/// A word that may be a negative number.
+fn negative<'a>(arg: Arg<'a>) -> Arg<'a> {
+    arg.allow_negative_numbers(true)
+}
+
+/// A word that is this if it is left out.
+fn or_else<'a>(arg: Arg<'a>, default: &'a str) -> Arg<'a> {
+    arg.default_value(default)
 }
 
 /// A number.
@@ -307,9 +350,7 @@ fn number<'a>(arg: Arg<'a>) -> Arg<'a> {
     arg.value_parser(value_parser!(u16))
 }
 
-/// A quality of service.
-fn level<'a>(arg: Arg<'a>, levels: &'static [&'static str]) -> Arg<'a> {
-    arg.value_parser(ValueParser::Names(levels))
-        .allow_negative_numbers(true)
-        .default_value("0")
+/// One of some words.
+fn one_of<'a>(arg: Arg<'a>, words: &'static [&'static str]) -> Arg<'a> {
+    arg.value_parser(ValueParser::Names(words))
 }

@@ -1,0 +1,4 @@
+pub mod Events
+pub mod Labels
+pub mod Numbers
+pub mod Words

@@ -1,0 +1,160 @@
+//! A shift of the row's gateway is opened, served and closed.
+
+ghost use Rattle.std.specs.Prelude.{◌<◌, ◌≤◌};
+
+use crate::calls;
+use crate::page::Page;
+use crate::stop::Stop;
+use gw_node::Node;
+use gw_serve::{Cause, Taken, serve};
+use gw_shift::{CloseFault, Entry, Pass, Shift};
+use gw_wire::{Gate, Post, Wire};
+use jr_journal::{Disk, MemoryDisk};
+use rep_model::Replica;
+use rep_plain::Plain;
+use std::alloc::Global;
+use std::sync::Wait;
+use std::thread::Threads;
+
+/// The row's gateway.
+pub(crate) type Gateway = Node<Plain, MemoryDisk>;
+
+/// A shift of it.
+pub(crate) type Shared = Shift<Plain, MemoryDisk>;
+
+/// What serving handed back.
+#[derive(Drop)]
+pub(crate) struct Outcome {
+    pub(crate) passes: Vec<Pass>,
+    /// The datagrams that became calls. None are told where it ended early.
+    pub(crate) taken: Vec<Taken>,
+    /// The numbers of the others.
+    pub(crate) left: Vec<u64>,
+    /// Why it ended early.
+    pub(crate) cause: Option<Cause>,
+}
+
+/// A shift that is over.
+#[derive(Drop)]
+pub(crate) struct Over<R: Replica> {
+    pub(crate) node: Node<R, MemoryDisk>,
+    pub(crate) history: Vec<Entry>,
+    /// Why it is not closed.
+    pub(crate) fault: Option<CloseFault>,
+}
+
+/// A shift of a gateway for so many workers and so many calls. There is none if memory ran out.
+pub(crate) fn shift_of<R: Replica>(
+    page: &mut Page,
+    node: Node<R, MemoryDisk>,
+    workers: u64,
+    steps: u64,
+) -> Option<(Shift<R, MemoryDisk>, Vec<Pass>)> {
+    let opened = Shift::open(page.alloc(), node, passes_of(workers), steps_of(steps)).ok();
+    if opened.is_none() {
+        page.stop(Stop::Memory);
+    }
+    opened
+}
+
+/// How many passes a shift has.
+fn passes_of(workers: u64) -> usize
+    ensures { 0 < result }
+{
+    workers.clamp(1, 8) as usize
+}
+
+/// How many calls a shift has.
+fn steps_of(steps: u64) -> u64
+    ensures { (0 < result) × (result ≤ 4096) }
+{
+    steps.clamp(1, 4_096)
+}
+
+/// Serves, and tells how that ended.
+pub(crate) fn serve_all<T, R, D, W, P, G>(
+    rt: &T,
+    alloc: Global,
+    shift: &Shift<R, D>,
+    passes: Vec<Pass>,
+    wire: &mut W,
+    post: &P,
+    gate: &G,
+    turns: u64,
+) -> Outcome
+where
+    T: Threads + Wait + Sync,
+    R: Replica + Send,
+    R::Staged: Send,
+    D: Disk + Drop + Send,
+    W: Wire,
+    P: Post + Sync,
+    G: Gate + Sync,
+{
+    if passes.is_empty() {
+        return unserved(alloc, passes, None);
+    }
+    match serve(rt, alloc, shift, passes, wire, post, gate, turns) {
+        Ok(served) => Outcome {
+            passes: served.passes,
+            taken: served.taken,
+            left: served.left,
+            cause: None,
+        },
+        Err(fault) => unserved(alloc, fault.passes, Some(fault.cause)),
+    }
+}
+
+/// The outcome with these passes, of which no datagram is told.
+pub(crate) fn unserved(alloc: Global, passes: Vec<Pass>, cause: Option<Cause>) -> Outcome {
+    Outcome {
+        passes,
+        taken: Vec::new(alloc),
+        left: Vec::new(alloc),
+        cause,
+    }
+}
+
+/// The passes that serving handed back.
+pub(crate) fn passes_back(outcome: Outcome) -> Vec<Pass> {
+    let Outcome {
+        passes,
+        taken,
+        left,
+        cause: _,
+    } = outcome;
+    drop(taken);
+    drop(left);
+    passes
+}
+
+/// Ends a shift, and closes it with these passes.
+pub(crate) fn close<R: Replica>(shift: Shift<R, MemoryDisk>, passes: Vec<Pass>) -> Over<R> {
+    match calls::close_by(calls::over(shift), passes) {
+        Ok(closed) => Over {
+            node: closed.node,
+            history: closed.history,
+            fault: None,
+        },
+        Err((ended, passes, fault)) => {
+            drop(passes);
+            Over {
+                node: ended.node,
+                history: ended.history,
+                fault: Some(fault),
+            }
+        }
+    }
+}
+
+/// The gateway of a shift that is over.
+pub(crate) fn node_of<R: Replica>(over: Over<R>) -> Node<R, MemoryDisk> {
+    let Over {
+        node,
+        history,
+        fault,
+    } = over;
+    drop(history);
+    drop(fault);
+    node
+}

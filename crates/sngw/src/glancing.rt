@@ -1,0 +1,222 @@
+//! The clients of the gateway at a glance, once in some seconds.
+//!
+//! The lock of the shift is held for few clients at a time, and is let go between. Nothing of it is
+//! a call.
+
+use crate::board::{Board, Field, Shared};
+use crate::gathering::MOST_LINKS;
+use gw_link::{LinkNumbers, Phase, Stage};
+use gw_main::options::Settings;
+use gw_report::Glimpse;
+use gw_shift::Shift;
+use jr_disk::Disk;
+use rep_model::Replica;
+use std::alloc::Global;
+use std::sync::Wait;
+use std::time::Clock;
+
+/// For how many clients the lock of the shift is held at a time.
+const AT_ONCE: usize = 4;
+
+/// How often the lock is taken for clients at most: there are no more than 4,096 of them.
+const MOST_LOOKS: usize = 1_024;
+
+/// How many milliseconds pass before it is looked again whether it is time for a glance.
+const A_LOOK: u64 = 200;
+
+/// Looks at the clients while the shift serves. If memory runs out, or the shift ends, the last
+/// glance stays.
+pub(crate) fn glance_all<T, R, D>(
+    rt: &T,
+    alloc: Global,
+    settings: &Settings,
+    shift: &Shift<R, D>,
+    shared: &Shared,
+    stage: &Stage,
+)
+where
+    T: Wait + Clock,
+    R: Replica,
+    D: Disk + Drop,
+{
+    for _ in rt.forever() {
+        if stage.phase(rt) != Phase::Serving {
+            return;
+        }
+        if shared.board.may_glance(rt) {
+            match look(rt, alloc, settings, shift, shared, stage) {
+                Some(field) => shared.board.put_field(rt, field),
+                None => {}
+            }
+        }
+        stage.wait(rt, Phase::Serving, A_LOOK);
+    }
+    unreachable!()
+}
+
+/// All clients at a glance. `None` if memory runs out, or the shift ends.
+fn look<T, R, D>(
+    rt: &T,
+    alloc: Global,
+    settings: &Settings,
+    shift: &Shift<R, D>,
+    shared: &Shared,
+    stage: &Stage,
+) -> Option<Field>
+where
+    T: Wait,
+    R: Replica,
+    D: Disk + Drop,
+{
+    note_gateways(rt, alloc, settings, shared);
+    let mut field = Field {
+        clients: Vec::new(alloc),
+        known: Vec::new(alloc),
+        second: shared.pool.clock.second(),
+    };
+    if find_gateways(&shared.board, &mut field)
+        && look_at_all(rt, alloc, shift, &mut field, stage)
+    {
+        return Some(field);
+    }
+    drop(field);
+    None
+}
+
+/// Looks at the clients, some at a time, while the shift serves. Whether all were seen.
+fn look_at_all<T, R, D>(
+    rt: &T,
+    alloc: Global,
+    shift: &Shift<R, D>,
+    field: &mut Field,
+    stage: &Stage,
+) -> bool
+where
+    T: Wait,
+    R: Replica,
+    D: Disk + Drop,
+{
+    for _ in 0..MOST_LOOKS {
+        let many = field.clients.len();
+        if stage.phase(rt) != Phase::Serving || !look_on(rt, alloc, shift, field) {
+            return false;
+        }
+        if field.clients.len() == many {
+            return true;
+        }
+    }
+    true
+}
+
+/// Looks at some clients more, if there are any. Whether there was memory for them.
+fn look_on<T, R, D>(rt: &T, alloc: Global, shift: &Shift<R, D>, field: &mut Field) -> bool
+where
+    T: Wait,
+    R: Replica,
+    D: Disk + Drop,
+{
+    match shift.glance(rt, alloc, last_of(field.clients.as_slice()), AT_ONCE) {
+        Err(_) => false,
+        Ok(found) => {
+            let known = field.known.as_mut_slice();
+            let is_counted = count_known(rt, alloc, shift, found.as_slice(), known);
+            let is_kept = keep_all(&mut field.clients, found);
+            is_kept && is_counted
+        }
+    }
+}
+
+/// The id of the last of these clients; none is above nothing.
+fn last_of(clients: &[Glimpse]) -> &[u8] {
+    match clients.last() {
+        Some(glimpse) => glimpse.client.bytes(),
+        None => &[],
+    }
+}
+
+/// Puts clients after those that are there. Whether there was memory for them.
+fn keep_all(clients: &mut Vec<Glimpse>, found: Vec<Glimpse>) -> bool {
+    let mut is_kept = true;
+    for glimpse in found {
+        if !keep(clients, glimpse) {
+            is_kept = false;
+        }
+    }
+    is_kept
+}
+
+/// Puts a client after others. Whether there was memory for it.
+fn keep(clients: &mut Vec<Glimpse>, glimpse: Glimpse) -> bool {
+    clients.push(glimpse).is_ok()
+}
+
+/// Adds how many messages of each gateway are known for these clients. Whether there was memory for
+/// that.
+fn count_known<T, R, D>(
+    rt: &T,
+    alloc: Global,
+    shift: &Shift<R, D>,
+    found: &[Glimpse],
+    known: &mut [(u8, u64)],
+) -> bool
+where
+    T: Wait,
+    R: Replica,
+    D: Disk + Drop,
+{
+    for entry in known {
+        let (origin, before) = *entry;
+        match shift.messages_known(rt, alloc, found, origin) {
+            Err(_) => return false,
+            Ok(counts) => {
+                *entry = (origin, sum_after(before, counts.as_slice()));
+                drop(counts);
+            }
+        }
+    }
+    true
+}
+
+/// A number and all of these.
+fn sum_after(before: u64, counts: &[u64]) -> u64 {
+    let mut sum = before;
+    for count in counts {
+        sum = sum.saturating_add(*count);
+    }
+    sum
+}
+
+/// Notes the gateways that this one has heard of: itself, those of the settings, and those that are
+/// linked. If memory runs out, the last are noted at the next glance.
+fn note_gateways<T: Wait>(rt: &T, alloc: Global, settings: &Settings, shared: &Shared) {
+    let board = &shared.board;
+    board.note_gateway(settings.gateway);
+    for number in settings.numbers.as_slice() {
+        board.note_gateway(*number);
+    }
+    match shared.pool.relay.links(rt, alloc, MOST_LINKS) {
+        Ok(links) => {
+            note_linked(board, links.as_slice());
+            drop(links);
+        }
+        Err(_) => {}
+    }
+}
+
+/// Notes the gateways at the other ends of these links.
+fn note_linked(board: &Board, links: &[LinkNumbers]) {
+    for link in links {
+        board.note_gateway(link.other);
+    }
+}
+
+/// The gateways that were noted since the program began, without a message. Whether there was
+/// memory for them.
+fn find_gateways(board: &Board, field: &mut Field) -> bool {
+    for number in 1..=u8::MAX {
+        if board.has_gateway(number) && field.known.push((number, 0)).is_err() {
+            return false;
+        }
+    }
+    true
+}
