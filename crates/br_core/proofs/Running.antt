@@ -280,17 +280,19 @@ module _ (settings : Settings) (before : List Come) (moment : ℕ) (stand : Stan
   broker-reasons : (packet : Packet)
       → PacketDone (Handed settings (grown (events.Broker packet))) (MayTell settings (grown (events.Broker packet))) (CameDown settings (grown (events.Broker packet))) settings packet here
   broker-reasons (packets.PubAck id) = handed-item id (acknowledged id here.flight) refl
-  broker-reasons (packets.Publish delivery retain topic body) =
-      (λ e left. old-publication delivery retain topic body e left, record {
-        earlier = before;
-        later = [];
-        delivery = delivery;
-        retain = retain;
-        moment = moment;
-        comes = refl;
-        has_id = refl;
-        goes_to = refl;
-      })
+  broker-reasons (packets.Publish delivery retain topic body) = (
+    λ e left. old-publication delivery retain topic body e left,
+    record {
+      earlier = before;
+      later = [];
+      delivery = delivery;
+      retain = retain;
+      moment = moment;
+      comes = refl;
+      has_id = refl;
+      goes_to = refl;
+    },
+  )
   broker-reasons packet = tt
 
   line-first : (line : ℕ) (queue : List Command) → here.down.doing ≡ doings.Refusing line → here.down.queue ≡ queue → AllByRecursion (CameDown settings before) queue

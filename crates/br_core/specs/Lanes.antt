@@ -168,7 +168,7 @@ brings settings place name up topic_id msg_id body lane bridge =
     then stored settings (item_of bridge.number place levels.One up body)
     (counted settings place levels.One up body
     (seated place (record lane { last = Some (open_of bridge.number name topic_id msg_id body) })
-      bridge))
+    bridge))
     else asleep_in lane.phase place lane bridge
 
 -- a message that was answered is acknowledged again; one that waits is not brought twice
@@ -239,7 +239,7 @@ known_at None qos kind settings own place topic_id msg_id body lane bridge =
     unknown_at qos kind place topic_id msg_id lane bridge
 known_at (Some name) qos kind settings own place topic_id msg_id body lane bridge =
     named_at (slice_get own.names name) qos kind settings place name topic_id msg_id body lane
-      bridge
+    bridge
 
 abbrev pub publication : Settings → LaneSettings → ℕ → Flags → ℕ → ℕ → List ℕ → Lane → Bridge
     → Bridge

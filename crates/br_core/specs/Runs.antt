@@ -287,7 +287,7 @@ IsJust Good Done Own May Came Asked action = Unit {0}
 abbrev pub IsAllowed : Settings → List Come → Action → Type 0
 IsAllowed settings run action =
     IsJust (Answered settings run) (Handed settings run) (Brought settings run)
-      (MayTell settings run) (Came settings run) (CameDown settings run) action
+    (MayTell settings run) (Came settings run) (CameDown settings run) action
 
 abbrev pub AreAllowed : Settings → List Come → List Action → Type 0
 AreAllowed settings run actions = AllByRecursion (IsAllowed settings run) actions

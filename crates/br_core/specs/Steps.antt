@@ -78,7 +78,7 @@ sends_all settings bridge = sends_at bridge.side settings bridge
 abbrev pub says_here : Settings → Bridge → Bridge
 says_here settings bridge =
     does (actions.ToBroker (packets.Publish deliveries.Once true settings.state settings.here))
-      bridge
+    bridge
 
 -- The broker is there: what is in flight goes out again, what waits is sent, lanes wake.
 abbrev pub up : Settings → Moment → Bridge → Bridge
@@ -206,7 +206,7 @@ packet_in sides.Up settings m packet bridge = up_packet settings m packet (heard
 abbrev pub opened : Settings → Moment → Bridge → Bridge
 opened settings m bridge =
     does (actions.ToBroker
-      (packets.Connect false BROKER_KEEP_ALIVE settings.client settings.will settings.login))
+    (packets.Connect false BROKER_KEEP_ALIVE settings.client settings.will settings.login))
     (record bridge { side = sides.Connecting; due = m.retry; tries = 0 })
 
 -- time goes by for the broker's side: it is dialled, asked whether it is there, or given up

@@ -48,7 +48,7 @@ pub(crate) fn does(bridge: &mut Bridge, action: Action) -> Result<(), NoMemory>
 /// A publication to the broker under a packet id, again or not (MQTT 3.1.1 section 3.3).
 fn in_flight(alloc: Global, dup: bool, id: u16, item: &Item) -> Result<Packet, NoMemory>
     ensures { IfOk result
-          (λ packet. packet ≡ spec.in_flight dup (record { id = id; item = item.now })) }
+        (λ packet. packet ≡ spec.in_flight dup (record { id = id; item = item.now })) }
 {
     Ok(Packet::Publish {
         delivery: Delivery::Acknowledged { id, dup },
@@ -224,7 +224,7 @@ pub(crate) fn takes(
 fn place_of(id: u16, flight: &[Flight]) -> Option<usize>
     ensures { MatchOption result
         ((spec.acknowledged id flight.now ≡ None)
-          × (spec.left_in_flight id flight.now ≡ flight.now))
+        × (spec.left_in_flight id flight.now ≡ flight.now))
         (λ at. (at < length flight.now)
         × (spec.acknowledged id flight.now ≡ option_map (λ f. f.item) (slice_get flight.now at))
         × (spec.left_in_flight id flight.now ≡ remove flight.now at)) }

@@ -14,7 +14,9 @@ use crate::lanes::{answers, falls_asleep, keeps, lane_frame, lane_tick, wakes};
 use crate::queue::Queue;
 use crate::settings::Settings;
 use crate::sides::{acknowledged, all_again, does, free_id, is_up, next_id, sends, takes};
-use crate::state::{BROKER_KEEP_ALIVE, Bridge, Doing, Down, LAST_NUMBER, Lane, Moment, Phase, Side};
+use crate::state::{
+    BROKER_KEEP_ALIVE, Bridge, Doing, Down, LAST_NUMBER, Lane, Moment, Phase, Side,
+};
 use mq_packet::{Delivery, Login, Packet, Qos, Will};
 use octets::{NoMemory, Octets, Sequence};
 use sn_frame::Frame;

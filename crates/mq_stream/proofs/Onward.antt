@@ -96,8 +96,7 @@ reads-on over left last first second rest tail (p ∷ ps) more h k =
     let there : length (drop over first) ≡ length first - over = dropped-length over first in
     let sizes : length (drop over first) ≡ length (h.2.first ∷ h.2.head.after) = ap (λ zs. length zs) h.2.head.begins in
     let few : over ≤ length first = omega arith in
-    let longer : IsPiece (drop over first ++ second) p h.0 (h.1 ++ second) = piece-longer (drop over first) p h.0 h.1 second h.2 in
-    (
+    let longer : IsPiece (drop over first ++ second) p h.0 (h.1 ++ second) = piece-longer (drop over first) p h.0 h.1 second h.2 in (
       h.0,
       h.1 ++ second,
       subst (λ zs. IsPiece zs p h.0 (h.1 ++ second)) (sym (drop-joined over first second few)) longer,

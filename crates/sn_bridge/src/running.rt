@@ -5,7 +5,9 @@ use crate::parsing::Setup;
 use crate::refused::{Owed, keep};
 use crate::spool::{Found, Kept, Spool, open};
 use crate::stop::Stop;
-use crate::telling::{Refusal, Told, refusal_in_frame, refusal_in_packet, soon_ended, spool_failed};
+use crate::telling::{
+    Refusal, Told, refusal_in_frame, refusal_in_packet, soon_ended, spool_failed,
+};
 use br_core::{Action, Bridge, Command, Event, Item, Moment, Why, begun, step};
 use mio::{Events, Poll, Registry};
 use mq_packet::Packet;
