@@ -9,7 +9,7 @@ pub reads-more : (over : ℕ) (octets : List ℕ) (packets : List Packet) (left 
     → Reads over octets packets left rest → IsPiece rest p next after → more ≡ next - length after → end ≡ drop next after
     → Reads over octets (packets ++ p ∷ []) more end
 reads-more over octets [] left rest p next after more end h piece few behind =
-    (next, after, subst (λ zs. IsPiece zs p next after) h.1 piece, few, behind)
+    (next, after, subst (λ zs. IsPiece zs p next after) h.1 piece, (few, behind))
 reads-more over octets (q ∷ qs) left rest p next after more end h piece few behind =
     (h.0, h.1, h.2, reads-more h.0 h.1 qs left rest p next after more end h.3 piece few behind)
 

@@ -52,7 +52,6 @@ pub(crate) fn front(alloc: Global, octets: &[u8]) -> Result<Option<InFront<'_>>,
 }
 
 /// The packet that says so many octets, which begin with the body.
-#[tactic(auto, using(crate::proofs::Whole::whole_piece, crate::proofs::Whole::whole_faulty))]
 fn whole<'a>(
     alloc: Global,
     first: u8,
@@ -79,7 +78,6 @@ fn whole<'a>(
 }
 
 /// The packet of which more is said than is held.
-#[tactic(auto, using(crate::proofs::Whole::cut_piece, crate::proofs::Whole::cut_faulty))]
 fn cut<'a>(
     alloc: Global,
     first: u8,

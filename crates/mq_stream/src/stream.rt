@@ -1,6 +1,6 @@
 //! A connection from which octets come in pieces.
 
-ghost use Rattle.std.specs.Prelude.{◌≡◌, ◌≤◌, ◌-◌, ◌++◌, length, drop, IfOk, OnErr};
+ghost use Rattle.std.specs.Prelude.{◌≡◌, ◌≢◌, ◌≤◌, ◌-◌, ◌++◌, length, drop, IfOk, OnErr};
 ghost use Rattle.mq_stream.specs.Pieces.{Ends, Reads};
 
 use crate::front::{front, passed};
@@ -65,6 +65,17 @@ impl PacketIn {
     }
 }
 
+/// The fault, if octets have it, and not that memory ran out.
+fn real(fault: PacketFault) -> Result<PacketFault, NoMemory>
+    ensures ok { IfOk result (λ kept. (kept ≡ fault) × (kept ≢ PacketFault.Memory)) }
+    ensures err { OnErr result (fault ≡ PacketFault.Memory) }
+{
+    match fault {
+        PacketFault::Memory => Err(NoMemory),
+        _ => Ok(fault),
+    }
+}
+
 /// The packets in front of the octets and what stands after them; how many octets are still to be
 /// passed over, and how many are left.
 fn read_packets(alloc: Global, over: u32, octets: &[u8]) -> Result<(Fed, u32, usize), NoMemory>
@@ -86,9 +97,8 @@ fn read_packets(alloc: Global, over: u32, octets: &[u8]) -> Result<(Fed, u32, us
                 left = more;
                 rest = after;
             }
-            Err(PacketFault::Memory) => return Err(NoMemory),
             Err(fault) => {
-                let fault = Some(fault);
+                let fault = Some(real(fault)?);
                 return Ok((Fed { packets, fault }, left, rest.len()));
             }
         }
