@@ -11,3 +11,4 @@ pub mod Sending
 pub mod Worked
 pub mod Places
 pub mod Seats
+pub mod Ticking
