@@ -65,7 +65,7 @@ impl PacketIn {
     }
 }
 
-/// The fault, if octets have it, and not that memory ran out.
+/// A fault that the octets have; an `Err` if it says that memory ran out.
 fn real(fault: PacketFault) -> Result<PacketFault, NoMemory>
     ensures ok { IfOk result (λ kept. (kept ≡ fault) × (kept ≢ PacketFault.Memory)) }
     ensures err { OnErr result (fault ≡ PacketFault.Memory) }
