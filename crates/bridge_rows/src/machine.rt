@@ -162,31 +162,51 @@ fn sub_ack(topic_id: u16, msg_id: u16) -> Frame {
     }
 }
 
+/// An event goes through the machine, and nobody asks what is to be done.
+fn pass(alloc: Global, stage: &mut Stage, event: Event) -> Result<(), Stop> {
+    let actions = taken(alloc, stage, &event);
+    drop(event);
+    drop(actions?);
+    Ok(())
+}
+
+/// A frame of a lane's gateway comes.
+fn hear(alloc: Global, stage: &mut Stage, lane: usize, frame: Frame) -> Result<(), Stop> {
+    pass(alloc, stage, Event::Field { lane, frame })
+}
+
 /// A lane connects and subscribes to all its names, the first of which gets id 5.
 fn lane_ready(alloc: Global, stage: &mut Stage, lane: usize) -> Result<(), Stop> {
-    let frame = Frame::ConnAck { code: 0 };
-    drop(taken(alloc, stage, &Event::Field { lane, frame })?);
-    let frame = sub_ack(5, 1);
-    drop(taken(alloc, stage, &Event::Field { lane, frame })?);
-    let frame = sub_ack(0, 2);
-    drop(taken(alloc, stage, &Event::Field { lane, frame })?);
+    hear(alloc, stage, lane, Frame::ConnAck { code: 0 })?;
+    hear(alloc, stage, lane, sub_ack(5, 1))?;
+    hear(alloc, stage, lane, sub_ack(0, 2))
+}
+
+/// All lanes connect and subscribe.
+fn lanes_ready(alloc: Global, stage: &mut Stage) -> Result<(), Stop> {
+    for lane in 0..stage.settings.lanes.len() {
+        lane_ready(alloc, stage, lane)?;
+    }
     Ok(())
+}
+
+/// The gateway says yes to the lane for commands, and the broker to the connection.
+fn sides_ready(alloc: Global, stage: &mut Stage) -> Result<(), Stop> {
+    pass(alloc, stage, Event::Tick)?;
+    let frame = Frame::ConnAck { code: 0 };
+    pass(alloc, stage, Event::Commands { frame })?;
+    pass(alloc, stage, Event::BrokerOpen)?;
+    let (session, code) = (true, 0);
+    let packet = Packet::ConnAck { session, code };
+    pass(alloc, stage, Event::Broker { packet })
 }
 
 /// `ready LANES WINDOW [ROOM]`: a bridge to which the broker and the gateway have said yes.
 fn ready(alloc: Global, fields: &[&str]) -> Result<Stage, Stop> {
     let mut made = new_stage(alloc, fields)?;
     made.bridge.is_subscribed = true;
-    drop(taken(alloc, &mut made, &Event::Tick)?);
-    let frame = Frame::ConnAck { code: 0 };
-    drop(taken(alloc, &mut made, &Event::Commands { frame })?);
-    drop(taken(alloc, &mut made, &Event::BrokerOpen)?);
-    let (session, code) = (true, 0);
-    let packet = Packet::ConnAck { session, code };
-    drop(taken(alloc, &mut made, &Event::Broker { packet })?);
-    for lane in 0..made.settings.lanes.len() {
-        lane_ready(alloc, &mut made, lane)?;
-    }
+    sides_ready(alloc, &mut made)?;
+    lanes_ready(alloc, &mut made)?;
     Ok(made)
 }
 
@@ -256,7 +276,7 @@ fn kept_event(fields: &[&str]) -> Result<Event, Stop> {
 fn crowd(alloc: Global, stage: &mut Stage, count: u64) -> Result<(), Stop> {
     for _ in 0..count {
         let packet = packet_of(alloc, &["30", "06", "0004", "632f6162"])?;
-        drop(taken(alloc, stage, &Event::Broker { packet })?);
+        pass(alloc, stage, Event::Broker { packet })?;
     }
     Ok(())
 }
@@ -265,8 +285,7 @@ fn crowd(alloc: Global, stage: &mut Stage, count: u64) -> Result<(), Stop> {
 fn named(alloc: Global, stage: &mut Stage, count: u64) -> Result<(), Stop> {
     for _ in 0..count {
         let frame = frame_of(alloc, &["09", "0a", "0007", "000c", "742f30"])?;
-        let lane = 0;
-        drop(taken(alloc, stage, &Event::Field { lane, frame })?);
+        hear(alloc, stage, 0, frame)?;
     }
     Ok(())
 }

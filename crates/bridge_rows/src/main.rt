@@ -94,19 +94,45 @@ fn main(rt: HostRuntime) -> ExitCode {
 /// Plays standard input, and writes what that prints.
 fn play_input(rt: &HostRuntime) -> Result<(), Stop> {
     let mut printed = String::new(rt.alloc());
+    play_lines(rt, &mut printed)?;
+    Ok(io::writer(rt).write_all(printed.as_bytes())?)
+}
+
+/// Plays all lines; before the first there is no packet and no bridge.
+fn play_lines(rt: &HostRuntime, text: &mut String) -> Result<(), Stop> {
     let mut kept = None;
     let mut stage = None;
+    let played = play_each(rt, text, &mut kept, &mut stage);
+    drop(stage);
+    drop(kept);
+    played
+}
+
+/// Plays one line after the other.
+fn play_each(
+    rt: &HostRuntime,
+    text: &mut String,
+    kept: &mut Option<Packet>,
+    stage: &mut Option<Stage>,
+) -> Result<(), Stop> {
     for line in rt.lines(rt.alloc()) {
-        let line = line?;
-        answer(
-            rt.alloc(),
-            &mut printed,
-            &mut kept,
-            &mut stage,
-            line.as_str(),
-        )?;
+        play_read(rt.alloc(), text, kept, stage, line)?;
     }
-    Ok(io::writer(rt).write_all(printed.as_bytes())?)
+    Ok(())
+}
+
+/// Plays a line that is read.
+fn play_read(
+    alloc: Global,
+    text: &mut String,
+    kept: &mut Option<Packet>,
+    stage: &mut Option<Stage>,
+    line: io::Result<String>,
+) -> Result<(), Stop> {
+    let line = line?;
+    let played = answer(alloc, text, kept, stage, line.as_str());
+    drop(line);
+    played
 }
 
 /// Plays a line; empty ones and explanations say nothing, and a row's name is printed.
