@@ -667,6 +667,7 @@ def browser(program: str, folder: str, shot: str = "") -> str:
         page = ports[0][2]
         up = lambda: numbers_of(ask(page, b"GET /metrics HTTP/1.0\r\n\r\n")[2].decode("ascii"))['nimhazel_link_up{place="dialled-0"}']
         until(lambda: up() == 1, 30, "no link")
+        until(lambda: b"712231" in ask(page, b"GET /clients HTTP/1.0\r\n\r\n")[2], 20, "no client")
         text = shown(tool, folder, page, 4000)
         expect(re.search(r'id="health"[^>]*class="ok"', text) is not None, "the page does not say that it is well")
         expect("712231" in text, "no client is shown")

@@ -1,5 +1,7 @@
 //! What is counted of a link, for whoever watches the gateway.
 
+ghost use Rattle.std.specs.Prelude.{◌≡◌};
+
 use crate::calling::End;
 use crate::link::{Link, Origin};
 use crate::trouble::{Trouble, trouble_of};

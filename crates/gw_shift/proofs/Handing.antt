@@ -1,7 +1,6 @@
 -- The deltas that are handed on.
 use Rattle.std.proofs.Common.{◌≡◌, ◌<◌, ◌≤◌, ◌+◌, ℕ, zero, suc, List, [], ◌∷◌, Option, Some, None, ◌-◌, ◌++◌, take, length, refl, sym, subst, ap, ◌∙◌, arith}
 use Rattle.std.proofs.lemmas.List.{append_assoc}
-use Rattle.gw_glance.specs.Knowing.{messages_known}
 use Rattle.std.specs.Arc.{arc_value}
 use Rattle.std.specs.declared.sync.Arc.{Arc}
 use Rattle.std.specs.declared.alloc.Global.{Global}
@@ -11,7 +10,6 @@ use Rattle.gw_answer.specs.declared.out.Out.{Out}
 use Rattle.gw_shift.specs.Calls.{Call}
 use Rattle.gw_shift.specs.Passes.{Climb}
 use Rattle.gw_shift.specs.inner.Passes.{made_of, made_after, noted, told_by}
-use Rattle.gw_shift.specs.inner.Glances.{all_known}
 
 -- a lower beginning does as well
 climb_from : (least more : ℕ) (entries : List (ℕ × List Op)) → least ≤ more → Climb more entries → Climb least entries
@@ -88,20 +86,3 @@ pub shown_few : (most : ℕ) (all : List Glimpse) → length (take most all) ≤
 shown_few zero all = omega arith
 shown_few (suc most) [] = omega arith
 shown_few (suc most) (one ∷ all) = omega (arith, shown_few most all)
-
--- a client more is counted
-pub counted_on : (S : List Op) (origin : ℕ) (all more : List ℕ) (left rest clients : List Glimpse) (one : Glimpse) (known : ℕ)
-    → known ≡ messages_known one.client origin S → left ≡ one ∷ rest → more ≡ all ++ known ∷ []
-    → all ++ all_known S origin left ≡ all_known S origin clients
-    → more ++ all_known S origin rest ≡ all_known S origin clients
-counted_on S origin all more left rest clients one known is next pushed invariant =
-    ap (λ xs. xs ++ all_known S origin rest) pushed
-    ∙ append_assoc all (known ∷ []) (all_known S origin rest)
-    ∙ ap (λ n. all ++ n ∷ all_known S origin rest) is
-    ∙ ap (λ xs. all ++ all_known S origin xs) (sym next)
-    ∙ invariant
-
--- one number for each client
-pub counted_many : (S : List Op) (origin : ℕ) (clients : List Glimpse) → length (all_known S origin clients) ≡ length clients
-counted_many S origin [] = refl
-counted_many S origin (one ∷ rest) = ap suc (counted_many S origin rest)

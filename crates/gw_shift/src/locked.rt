@@ -139,7 +139,6 @@ impl<R: Replica, D: Disk + Drop> Locked<R, D> {
 
     /// For each of these clients, how many messages a gateway has put for it, as far as the node
     /// knows. It is no call.
-    #[tactic(auto, using(crate::proofs::Handing::counted_many))]
     pub(crate) fn messages_known(
         &self,
         alloc: Global,

@@ -195,12 +195,26 @@ fn say<T: Wait + Print + Eprint>(
     said.err.try_say(rt, entry(alloc, event).ok())
 }
 
-/// Keeps an event for the page, where the oldest gives way. Whether there was memory for it.
+/// Keeps an event for the page. If there are too many, the oldest of a single client gives way, or
+/// else the oldest of all. Whether there was memory for it.
 fn keep(events: &mut Vec<Event>, event: Event) -> bool {
-    if events.len() >= MOST_EVENTS {
-        drop(events.remove(0));
+    let place = first_detail(events.as_slice());
+    if events.len() >= MOST_EVENTS && place < events.len() {
+        drop(events.remove(place));
     }
     events.push(event).is_ok()
+}
+
+/// The place of the first event of a single client; the first place if there is none.
+fn first_detail(events: &[Event]) -> usize {
+    let mut place = 0usize;
+    for event in events {
+        if matches!(event.what, What::Detail(_)) {
+            return place;
+        }
+        place = place.saturating_add(1);
+    }
+    0
 }
 
 /// This is to be told.
