@@ -108,7 +108,7 @@ FAULTS = {
     "gw_shift::Shift::after": "Behind, Memory | err | reads",
     "gw_shift::Shift::glance": ROW,
     "gw_shift::Shift::messages_known": ROW,
-    "gw_tally::tally": "Memory | type | reads",
+    "gw_shift::tally": "Memory | type | reads",
     "gw_net::LinkIn::feed": "Failed, Memory | failed, err | unchanged",
     "gw_net::link_out": "Memory, Write | fault | fault",
     "gw_page::page": "Memory | type | reads",

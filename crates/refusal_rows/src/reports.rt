@@ -5,7 +5,7 @@ use crate::deltas::client;
 use crate::said::Said;
 use gw_page::{entry, page};
 use gw_report::{Detail, Event, Glimpse, Health, Numbers, Report, Seen, Singles, What};
-use gw_tally::tally;
+use gw_shift::tally;
 use octets::Sequence;
 use rep_ops::ClientId;
 use std::alloc::Global;

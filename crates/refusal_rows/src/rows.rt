@@ -102,7 +102,7 @@ pub(crate) const ROWS: &str = "
     gw_shift::Shift::after
     gw_shift::Shift::glance
     gw_shift::Shift::messages_known
-    gw_tally::tally
+    gw_shift::tally
     gw_net::LinkIn::feed
     gw_net::link_out
     gw_page::page
@@ -153,6 +153,7 @@ where
     T: Threads + Wait + Sync + Files<File = File>,
 {
     match home {
+        "gw_shift" if is_word(call, "tally") => play::<Reports>(said, call),
         "gw_shift" => shifts::play_row::<T, Folded>(rt, said, call),
         "file_disk" => daemon::play_files(rt, said, call),
         "gw_serve" => serving::play_row(rt, said),
@@ -178,7 +179,7 @@ fn play_part(said: &mut Said, home: &str, call: &str) {
         "jr_journal" if is_word(call, "Journal::open") => play::<Disks>(said, call),
         "jr_journal" => play::<Journals>(said, call),
         "gw_net" => play::<Links>(said, call),
-        "gw_page" | "gw_tally" => play::<Reports>(said, call),
+        "gw_page" => play::<Reports>(said, call),
         "gw_main" => play::<Starts>(said, call),
         "gw_world" | "gw_play" => play::<Worlds>(said, call),
         home => play_state(said, home, call),

@@ -1,3 +1,0 @@
-pub mod Glimpses
-pub mod Glancing
-pub mod Knowing
