@@ -4,7 +4,7 @@ use Rattle.jr_disk.specs.declared.disk.Disk.{Ghosts}
 use Rattle.rep_model.specs.Views.{clients}
 use Rattle.sn_local.specs.Seen.{seen_of}
 use Rattle.gw_report.specs.declared.glimpse.Glimpse.{Glimpse}
-use Rattle.gw_report.specs.Glancing.{glimpses}
+use Rattle.gw_glance.specs.Glancing.{glimpses}
 use Rattle.gw_node.specs.Parts.{State}
 
 -- those of its clients at a glance whose ids are above these octets, in ascending order

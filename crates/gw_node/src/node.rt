@@ -21,7 +21,7 @@ use super::handling::{
 use super::opening::{not_opened, nothing, start};
 use super::retained::retained_of;
 use gw_answer::{Answer, NodeFault, Step, one_share, three_shares};
-use gw_report::{glance, messages_known};
+use gw_glance::{glance, messages_known};
 use gw_report::Glimpse;
 use jr_journal::{Disk, Journal, MemoryDisk};
 use octets::NoMemory;
@@ -74,7 +74,7 @@ impl<R: Replica, D: Disk + Drop> Node<R, D> {
     ghost use Rattle.gw_node.specs.Carrying.{CarriesOn, OwnCarriesOn, TakesNothing, ReopenCarriesOn, StepCarriesOn};
     ghost use Rattle.gw_node.specs.Standing.{EventOn};
     ghost use Rattle.gw_node.specs.Glancing.{glimpses_of};
-    ghost use Rattle.gw_report.specs.Knowing as known;
+    ghost use Rattle.gw_glance.specs.Knowing as known;
 
     /// Opens a gateway on the disk of its journal, and takes what the journal holds; nothing of
     /// that is written again. The gateway begins without bindings, dialogs and timers.

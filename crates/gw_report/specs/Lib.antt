@@ -2,6 +2,3 @@ pub mod Events
 pub mod Labels
 pub mod Numbers
 pub mod Words
-pub mod Glimpses
-pub mod Glancing
-pub mod Knowing

@@ -2,39 +2,28 @@
 //!
 //! Whoever runs a gateway fills a `Report`; who shows it needs nothing else. A report has no text:
 //! names, help and labels are words of this crate. The only octets of strangers are client ids.
-//! Clients are read from what a gateway keeps and knows; that is no call of it.
 //!
 //! - `count`: the numbers that a gateway shows, with their words (`Single`, `Column`, `Count`).
 //! - `label`: what tells numbers of one name apart.
 //! - `numbers`: all numbers of a report.
 //! - `glimpse`: a client at a glance.
-//! - `glimpsing`: that glance, by the client's view and by what this gateway alone knows.
-//! - `glancing`: the clients above an id, so many of them (`glance`).
-//! - `knowing`: how many messages of a gateway are known for a client (`messages_known`).
 //! - `event`: what an operator may want to hear of.
 //! - `report`: all of it, and whether the gateway is well.
 //!
 //! The definitions are in `specs/`: `Words` (names and help), `Labels`, `Numbers` (which number has
-//! which name), `Events` (levels), `Glimpses` and `Glancing` (a client, and clients above an id),
-//! `Knowing`.
+//! which name), `Events` (levels).
 #![tactic(auto)]
 
 mod count;
 mod event;
-mod glancing;
 mod glimpse;
-mod glimpsing;
-mod knowing;
 mod label;
 mod numbers;
 mod report;
 
 pub use count::{Column, Count, Kind, Single};
 pub use event::{Alarm, Detail, Event, Level, Note, Warning, What};
-pub use glancing::glance;
 pub use glimpse::{First, Glimpse, LocalGlimpse, Seen, SessionGlimpse};
-pub use glimpsing::glimpse_of;
-pub use knowing::messages_known;
 pub use label::{
     ANSWER_COUNT, ANSWERS, CallAnswer, CallKind, DeltaFault, KIND_COUNT, KINDS, Label, Place,
     frame_word, presence_word,

@@ -5,7 +5,7 @@ ghost use Rattle.gw_answer.specs.Answers.{said};
 ghost use Rattle.gw_shift.specs.Tallies.{samples_of, samples_of_kind};
 ghost use Rattle.gw_shift.specs.Tallies as spec;
 
-use crate::Entry;
+use super::entry::Entry;
 use gw_answer::{Answer, Step};
 use gw_report::{ANSWERS, CallAnswer, CallKind, KINDS, Label, Sample};
 use octets::{NoMemory, Sequence};

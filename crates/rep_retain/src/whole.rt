@@ -4,7 +4,8 @@ ghost use Rattle.std.proofs.Props.{props};
 ghost use Rattle.rep_op.specs.Orders.{AreOfClients};
 
 use super::holding::both_to_keep;
-use crate::{Topics, TopicsStaged};
+use super::staged::TopicsStaged;
+use super::table::Topics;
 use rep_model::{ClientView, Replica, TakeFault};
 use rep_ops::{ClientId, Delta, Retained, deltas_of};
 use rep_shared::ClientSet;

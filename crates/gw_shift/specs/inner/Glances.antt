@@ -2,7 +2,7 @@
 use Rattle.std.specs.Prelude.{ℕ, List, [], ◌∷◌}
 use Rattle.rep_op.specs.declared.op.Op.{Op}
 use Rattle.gw_report.specs.declared.glimpse.Glimpse.{Glimpse}
-use Rattle.gw_report.specs.Knowing.{messages_known}
+use Rattle.gw_glance.specs.Knowing.{messages_known}
 
 -- for each of these clients, how many messages of a gateway this set knows
 abbrev pub all_known : List Op → ℕ → List Glimpse → List ℕ

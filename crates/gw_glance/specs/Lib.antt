@@ -1,0 +1,3 @@
+pub mod Glimpses
+pub mod Glancing
+pub mod Knowing
