@@ -7,7 +7,6 @@ ghost use Rattle.std.specs.Ordering.{is_lt, nat_cmp};
 ghost use Rattle.br_spool.specs.Finding as spec;
 ghost use Rattle.br_spool.specs.Places as places;
 
-use crate::fault::SpoolFault;
 use crate::place::{SPOOL, number_of, queue_in};
 use br_core::Item;
 use mq_packet::Qos;
@@ -158,7 +157,7 @@ fn sort(items: &mut Vec<Item>)
 
 /// What the deltas of a spool say: the readings that it holds, in the order of their numbers, and a
 /// number for the next one. Other messages than its own are passed over.
-pub fn held_in(alloc: Global, deltas: &[Delta]) -> Result<Held, SpoolFault>
+pub fn held_in(alloc: Global, deltas: &[Delta]) -> Result<Held, NoMemory>
     ensures items { IfOk result
         (λ held. IsPermutation (spec.items_in deltas.now) held.items.items) }
     ensures order { IfOk result

@@ -159,10 +159,7 @@ pub(crate) fn open<R: Files<File = File>, E: Write>(
 /// What the gateway of a spool holds.
 fn held_by(alloc: Global, node: &Node<Folded, FileDisk>) -> Result<Held, Stop> {
     let deltas = node.held(alloc)?;
-    match held_in(alloc, deltas.as_slice()) {
-        Ok(held) => Ok(held),
-        Err(fault) => Err(stop_of(fault)),
-    }
+    Ok(held_in(alloc, deltas.as_slice())?)
 }
 
 /// Where the reading of a number is among these.
