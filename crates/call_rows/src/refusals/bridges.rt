@@ -71,13 +71,13 @@ pub(crate) struct Bridges {
 
 impl Made for Bridges {
     fn make(said: &mut Said, _call: &str, _is_second: bool) -> Option<Bridges> {
-        let made = bridges(said.alloc);
+        let made = bridge_parts(said.alloc);
         beside(said, made)
     }
 }
 
 /// All of it.
-fn bridges(alloc: Global) -> Result<Bridges, NoMemory> {
+fn bridge_parts(alloc: Global) -> Result<Bridges, NoMemory> {
     let settings = settings(alloc)?;
     let bridge = begun(alloc, &settings)?;
     Ok(Bridges {
@@ -208,13 +208,13 @@ pub(crate) struct Spools {
 
 impl Made for Spools {
     fn make(said: &mut Said, _call: &str, _is_second: bool) -> Option<Spools> {
-        let made = spools(said.alloc);
+        let made = spool_parts(said.alloc);
         beside(said, made)
     }
 }
 
 /// Both.
-fn spools(alloc: Global) -> Result<Spools, SpoolFault> {
+fn spool_parts(alloc: Global) -> Result<Spools, SpoolFault> {
     let mut items = Vec::new(alloc);
     items.push(item(alloc)?)?;
     let mut deltas = Vec::new(alloc);
