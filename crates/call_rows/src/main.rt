@@ -67,7 +67,7 @@ where
 {
     let (sets, bridges) = rows.split_at(front(rows).min(rows.len()));
     if !sets.is_empty() {
-        sets::play(rt, sets)?;
+        sets::play_rows(rt, sets)?;
     }
     if bridges.is_empty() {
         Ok(())
