@@ -218,20 +218,32 @@ fn spool_parts(alloc: Global) -> Result<Spools, SpoolFault> {
     let mut items = Vec::new(alloc);
     items.push(item(alloc)?)?;
     let mut deltas = Vec::new(alloc);
-    deltas.push(delta_of(alloc, 1, 3, items.as_slice(), &[2])?)?;
+    deltas.push(delta_of(alloc, 1, 2, items.as_slice(), &[0])?)?;
     Ok(Spools { items, deltas })
 }
 
 impl Calls for Spools {
     fn call_once(&mut self, said: &mut Said, call: &str) {
         if is_word(call, "delta_of") {
-            let made = delta_of(said.alloc, 1, 3, self.items.as_slice(), &[2]);
-            given(said, made, SpoolFault::Memory);
+            let made = delta_of(said.alloc, 1, 2, self.items.as_slice(), &[0]);
+            show_made(said, made);
         } else {
             let held = held_in(said.alloc, self.deltas.as_slice());
             show_or_refuse(said, held);
         }
     }
+}
+
+/// Prints how many operations the delta has that a call makes.
+fn show_made(said: &mut Said, made: Result<Delta, SpoolFault>) {
+    match &made {
+        Ok(delta) => {
+            said.number("operations", delta.ops().len());
+            said.answer();
+        }
+        Err(fault) => said.refuse(*fault == SpoolFault::Memory),
+    }
+    drop(made);
 }
 
 impl Shown for Octets {
