@@ -12,7 +12,7 @@ use sn_topic::MAX_TOPIC;
 use std::alloc::Global;
 use std::fs::{File, Files};
 use std::net::SocketAddr;
-use toml::Table;
+use toml::{Table, Value};
 
 /// How many names with an id a lane has at most: a session has 256 ids.
 const MOST_IDS: usize = 250;
@@ -62,16 +62,62 @@ fn are_alike(all: &[SocketAddr]) -> bool {
     }
 }
 
-/// The addresses of the gateways, of which there is one at least, all of one kind.
-fn gateways_in(alloc: Global, document: &Table) -> Result<Vec<SocketAddr>, Stop> {
-    let mut all = Vec::new(alloc);
+/// The address of a gateway.
+fn gateway_of(item: &Value) -> Result<SocketAddr, Stop> {
+    address_of(text_of(item, "gateways")?, "gateways")
+}
+
+/// Adds the address of a gateway.
+fn add_gateway(all: &mut Vec<SocketAddr>, item: &Value) -> Result<(), Stop> {
+    all.push(gateway_of(item)?)?;
+    Ok(())
+}
+
+/// Adds the addresses of all gateways, of which there is one at least, all of one kind.
+fn add_gateways(all: &mut Vec<SocketAddr>, document: &Table) -> Result<(), Stop> {
     for item in list_at(document, "gateways", "gateways")? {
-        all.push(address_of(text_of(item, "gateways")?, "gateways")?)?;
+        add_gateway(all, item)?;
     }
     if all.is_empty() || !are_alike(all.as_slice()) {
         return Err(Stop::Key("gateways"));
     }
-    Ok(all)
+    Ok(())
+}
+
+/// The addresses of the gateways.
+fn gateways_in(alloc: Global, document: &Table) -> Result<Vec<SocketAddr>, Stop> {
+    let mut all = Vec::new(alloc);
+    match add_gateways(&mut all, document) {
+        Ok(()) => Ok(all),
+        Err(stop) => {
+            drop(all);
+            Err(stop)
+        }
+    }
+}
+
+/// The address of the broker.
+fn broker_in(document: &Table) -> Result<SocketAddr, Stop> {
+    address_of(text_at(document, "broker", "broker")?, "broker")
+}
+
+/// Where the bridge connects to.
+#[derive(Drop)]
+struct Places {
+    gateways: Vec<SocketAddr>,
+    broker: SocketAddr,
+}
+
+/// Where the bridge connects to.
+fn places_in(alloc: Global, document: &Table) -> Result<Places, Stop> {
+    let gateways = gateways_in(alloc, document)?;
+    match broker_in(document) {
+        Ok(broker) => Ok(Places { gateways, broker }),
+        Err(stop) => {
+            drop(gateways);
+            Err(stop)
+        }
+    }
 }
 
 /// The client id at the broker.
@@ -99,25 +145,50 @@ fn password_in<R: Files<File = File>>(
     }
 }
 
+/// Nobody in particular connects to the broker: then there is no password either.
+fn no_login_in(document: &Table) -> Result<Option<Login>, Stop> {
+    match document.get("password") {
+        None => Ok(None),
+        Some(_) => Err(Stop::Key("user")),
+    }
+}
+
 /// Who connects to the broker.
 fn login_in<R: Files<File = File>>(
     rt: &R,
     alloc: Global,
     document: &Table,
 ) -> Result<Option<Login>, Stop> {
-    let Some(user) = text_if(document, "user", "user")? else {
-        return match document.get("password") {
-            None => Ok(None),
-            Some(_) => Err(Stop::Key("user")),
-        };
-    };
-    if !is_text(user.as_bytes()) {
-        return Err(Stop::Key("user"));
+    match text_if(document, "user", "user")? {
+        None => no_login_in(document),
+        Some(user) => Ok(Some(login_of(rt, alloc, document, user)?)),
     }
-    Ok(Some(Login {
-        user: octets_of(alloc, user)?,
-        password: password_in(rt, alloc, document)?,
-    }))
+}
+
+/// A user of this name connects.
+fn login_of<R: Files<File = File>>(
+    rt: &R,
+    alloc: Global,
+    document: &Table,
+    user: &str,
+) -> Result<Login, Stop> {
+    let user = user_of(alloc, user)?;
+    match password_in(rt, alloc, document) {
+        Ok(password) => Ok(Login { user, password }),
+        Err(stop) => {
+            drop(user);
+            Err(stop)
+        }
+    }
+}
+
+/// The octets of a user's name.
+fn user_of(alloc: Global, user: &str) -> Result<Octets, Stop> {
+    if is_text(user.as_bytes()) {
+        octets_of(alloc, user)
+    } else {
+        Err(Stop::Key("user"))
+    }
 }
 
 /// The topic at the broker that tells whether the bridge is there.
@@ -208,6 +279,14 @@ struct Room {
     spools: bool,
 }
 
+/// How many lanes there are, how many publications may be unacknowledged, and the room.
+#[derive(Clone, Copy)]
+struct Counts {
+    lanes: u64,
+    window: u64,
+    room: Room,
+}
+
 /// The room of a document. Without a spool there is no key for it.
 fn room_in(document: &Table) -> Result<Room, Stop> {
     if text_if(document, "spool", "spool")?.is_some() {
@@ -254,13 +333,34 @@ struct Entries {
     downs: Vec<DownFilter>,
 }
 
+/// What tells whether the bridge is there: what is published, and what the broker publishes when
+/// the connection breaks.
+#[derive(Drop)]
+struct Presence {
+    state: Octets,
+    here: Octets,
+    will: Will,
+}
+
 /// What the bridge says under its name.
 #[derive(Drop)]
 struct Identity {
     commands: Octets,
-    will: Will,
-    state: Octets,
-    here: Octets,
+    presence: Presence,
+}
+
+/// The paths of two files, if there are some.
+#[derive(Drop)]
+struct Paths {
+    refused: Option<String>,
+    spool: Option<String>,
+}
+
+/// What is carried, and the files for that.
+#[derive(Drop)]
+struct Carried {
+    settings: Settings,
+    paths: Paths,
 }
 
 /// Who connects to the broker, and the client id there.
@@ -288,15 +388,46 @@ fn entries_in(alloc: Global, document: &Table, spools: bool) -> Result<Entries, 
     }
 }
 
+/// The id of the lane for commands.
+fn commands_id(alloc: Global, name: &str) -> Result<Octets, Stop> {
+    let id = format!(in alloc; "{name}-d0")?;
+    octets_of(alloc, id.as_str())
+}
+
 /// What the bridge says under its name.
 fn identity_of(alloc: Global, name: &str) -> Result<Identity, Stop> {
-    let commands = format!(in alloc; "{name}-d0")?;
-    Ok(Identity {
-        commands: octets_of(alloc, commands.as_str())?,
-        will: will_of(alloc, name)?,
-        state: state_topic(alloc, name)?,
-        here: Octets::from_slice(alloc, b"here")?,
-    })
+    let commands = commands_id(alloc, name)?;
+    match presence_of(alloc, name) {
+        Ok(presence) => Ok(Identity { commands, presence }),
+        Err(stop) => {
+            drop(commands);
+            Err(stop)
+        }
+    }
+}
+
+/// What tells whether the bridge is there.
+fn presence_of(alloc: Global, name: &str) -> Result<Presence, Stop> {
+    let will = will_of(alloc, name)?;
+    match state_of(alloc, name) {
+        Ok((state, here)) => Ok(Presence { state, here, will }),
+        Err(stop) => {
+            drop(will);
+            Err(stop)
+        }
+    }
+}
+
+/// The topic that tells whether the bridge is there, and what it says then.
+fn state_of(alloc: Global, name: &str) -> Result<(Octets, Octets), Stop> {
+    let state = state_topic(alloc, name)?;
+    match Octets::from_slice(alloc, b"here") {
+        Ok(here) => Ok((state, here)),
+        Err(_) => {
+            drop(state);
+            Err(Stop::Memory)
+        }
+    }
 }
 
 /// The names that go up, shared by so many lanes.
@@ -308,8 +439,25 @@ fn lanes_of(
 ) -> Result<Sequence<LaneSettings>, Stop> {
     match new_lanes(alloc, name, count as usize) {
         Ok(lanes) => Ok(Sequence::new(shared(lanes, ups)?)),
-        Err(stop) => Err(stop),
+        Err(stop) => {
+            drop(ups);
+            Err(stop)
+        }
     }
+}
+
+/// How many lanes there are, and the like: `lanes`, `window`, `spool`, `room`, and the key of what
+/// is not there.
+fn counts_in(document: &Table) -> Result<Counts, Stop> {
+    let lanes = number_at(document, "lanes", 1, 16, 1)?;
+    let window = number_at(document, "window", 1, 64, 16)?;
+    let room = room_in(document)?;
+    look_for_later(document)?;
+    Ok(Counts {
+        lanes,
+        window,
+        room,
+    })
 }
 
 /// What is carried, of its parts.
@@ -318,21 +466,23 @@ fn settings_of(
     downs: Vec<DownFilter>,
     account: Account,
     identity: Identity,
-    window: u64,
-    room: Room,
+    counts: Counts,
 ) -> Settings {
+    let Account { client, login } = account;
+    let Identity { commands, presence } = identity;
+    let Presence { state, here, will } = presence;
     Settings {
         lanes,
-        commands: identity.commands,
+        commands,
         downs: Sequence::new(downs),
-        client: account.client,
-        will: Some(identity.will),
-        login: account.login,
-        state: identity.state,
-        here: identity.here,
-        window: window as usize,
-        room: room.room as usize,
-        spools: room.spools,
+        client,
+        will: Some(will),
+        login,
+        state,
+        here,
+        window: counts.window as usize,
+        room: counts.room.room as usize,
+        spools: counts.room.spools,
     }
 }
 
@@ -345,14 +495,112 @@ fn settings_in<R: Files<File = File>>(
     name: &str,
 ) -> Result<Settings, Stop> {
     let account = account_in(rt, alloc, document)?;
-    let lanes = number_at(document, "lanes", 1, 16, 1)?;
-    let window = number_at(document, "window", 1, 64, 16)?;
-    let room = room_in(document)?;
-    look_for_later(document)?;
-    let entries = entries_in(alloc, document, room.spools)?;
-    let identity = identity_of(alloc, name)?;
-    let lanes = lanes_of(alloc, name, lanes, entries.ups)?;
-    Ok(settings_of(lanes, entries.downs, account, identity, window, room))
+    match counts_in(document) {
+        Ok(counts) => settings_by(alloc, document, name, account, counts),
+        Err(stop) => {
+            drop(account);
+            Err(stop)
+        }
+    }
+}
+
+/// What is carried by this account.
+fn settings_by(
+    alloc: Global,
+    document: &Table,
+    name: &str,
+    account: Account,
+    counts: Counts,
+) -> Result<Settings, Stop> {
+    match entries_in(alloc, document, counts.room.spools) {
+        Ok(entries) => settings_with(alloc, name, account, counts, entries),
+        Err(stop) => {
+            drop(account);
+            Err(stop)
+        }
+    }
+}
+
+/// What is carried by these entries.
+fn settings_with(
+    alloc: Global,
+    name: &str,
+    account: Account,
+    counts: Counts,
+    entries: Entries,
+) -> Result<Settings, Stop> {
+    match identity_of(alloc, name) {
+        Ok(identity) => settings_under(alloc, name, account, counts, entries, identity),
+        Err(stop) => {
+            drop(account);
+            drop(entries);
+            Err(stop)
+        }
+    }
+}
+
+/// What is carried under this name.
+fn settings_under(
+    alloc: Global,
+    name: &str,
+    account: Account,
+    counts: Counts,
+    entries: Entries,
+    identity: Identity,
+) -> Result<Settings, Stop> {
+    let Entries { ups, downs } = entries;
+    match lanes_of(alloc, name, counts.lanes, ups) {
+        Ok(lanes) => Ok(settings_of(lanes, downs, account, identity, counts)),
+        Err(stop) => {
+            drop(downs);
+            drop(account);
+            drop(identity);
+            Err(stop)
+        }
+    }
+}
+
+/// The paths of both files.
+fn paths_in(alloc: Global, document: &Table, has_downs: bool) -> Result<Paths, Stop> {
+    let refused = refused_in(alloc, document, has_downs)?;
+    match spool_in(alloc, document) {
+        Ok(spool) => Ok(Paths { refused, spool }),
+        Err(stop) => {
+            drop(refused);
+            Err(stop)
+        }
+    }
+}
+
+/// What is carried, and the files for that.
+fn carried_in<R: Files<File = File>>(
+    rt: &R,
+    alloc: Global,
+    document: &Table,
+    name: &str,
+) -> Result<Carried, Stop> {
+    let settings = settings_in(rt, alloc, document, name)?;
+    match paths_in(alloc, document, !settings.downs.is_empty()) {
+        Ok(paths) => Ok(Carried { settings, paths }),
+        Err(stop) => {
+            drop(settings);
+            Err(stop)
+        }
+    }
+}
+
+/// What a document asks for, of its parts.
+fn setup_of(places: Places, carried: Carried) -> Setup {
+    let Places { gateways, broker } = places;
+    let Carried { settings, paths } = carried;
+    let Paths { refused, spool } = paths;
+    Setup {
+        settings,
+        gateways,
+        broker,
+        refused,
+        spool,
+    }
 }
 
 /// What a document asks for, the first bad key named: `name`, `gateways`, `broker`, `client`,
@@ -364,16 +612,12 @@ pub(crate) fn setup_in<R: Files<File = File>>(
     document: &Table,
 ) -> Result<Setup, Stop> {
     let name = name_in(document)?;
-    let gateways = gateways_in(alloc, document)?;
-    let broker = address_of(text_at(document, "broker", "broker")?, "broker")?;
-    let settings = settings_in(rt, alloc, document, name)?;
-    let refused = refused_in(alloc, document, !settings.downs.is_empty())?;
-    let spool = spool_in(alloc, document)?;
-    Ok(Setup {
-        settings,
-        gateways,
-        broker,
-        refused,
-        spool,
-    })
+    let places = places_in(alloc, document)?;
+    match carried_in(rt, alloc, document, name) {
+        Ok(carried) => Ok(setup_of(places, carried)),
+        Err(stop) => {
+            drop(places);
+            Err(stop)
+        }
+    }
 }

@@ -93,7 +93,26 @@ where
     T: Files<File = File> + Clock + Net,
 {
     let found = found_in(rt, alloc, setup, err)?;
-    let mut run = opened(rt, alloc, setup)?;
+    match opened(rt, alloc, setup) {
+        Ok(run) => run_from(rt, alloc, run, found, err),
+        Err(stop) => {
+            drop(found);
+            Err(stop)
+        }
+    }
+}
+
+/// Runs until memory runs out.
+fn run_from<T, E: Write>(
+    rt: &T,
+    alloc: Global,
+    mut run: Turning<'_>,
+    found: Option<Found>,
+    err: &mut E,
+) -> Result<(), Stop>
+where
+    T: Files<File = File> + Clock + Net,
+{
     let done = run.begin(rt, alloc, found, err);
     drop(run);
     done
@@ -127,19 +146,78 @@ fn open_lanes<N: Net>(
     Ok(lanes)
 }
 
+/// The sockets of all lanes.
+#[derive(Drop)]
+struct Gates {
+    lanes: Vec<Gate>,
+    down: Gate,
+}
+
+/// The sockets of all lanes.
+fn gates_of<N: Net>(
+    net: &N,
+    alloc: Global,
+    registry: &Registry,
+    setup: &Setup,
+) -> Result<Gates, Stop> {
+    let gateways = setup.gateways.as_slice();
+    let count = setup.settings.lanes.len();
+    let lanes = open_lanes(net, alloc, registry, gateways, count)?;
+    match Gate::open(net, registry, count, gateways) {
+        Ok(down) => Ok(Gates { lanes, down }),
+        Err(stop) => {
+            drop(lanes);
+            Err(stop)
+        }
+    }
+}
+
 /// A bridge that begins.
 fn opened<'a, T: Net>(rt: &T, alloc: Global, setup: &'a Setup) -> Result<Turning<'a>, Stop> {
     let Ok(poll) = Poll::new(rt) else {
         return Err(Stop::Socket);
     };
-    let gateways = setup.gateways.as_slice();
-    let count = setup.settings.lanes.len();
-    Ok(Turning {
+    match gates_of(rt, alloc, poll.registry(), setup) {
+        Ok(gates) => opened_with(alloc, setup, poll, gates),
+        Err(stop) => {
+            drop(poll);
+            Err(stop)
+        }
+    }
+}
+
+/// A bridge that begins with these sockets.
+fn opened_with<'a>(
+    alloc: Global,
+    setup: &'a Setup,
+    poll: Poll,
+    gates: Gates,
+) -> Result<Turning<'a>, Stop> {
+    match begun(alloc, &setup.settings) {
+        Ok(bridge) => Ok(turning_of(alloc, setup, poll, gates, bridge)),
+        Err(_) => {
+            drop(poll);
+            drop(gates);
+            Err(Stop::Memory)
+        }
+    }
+}
+
+/// What the program has in hand as it begins.
+fn turning_of<'a>(
+    alloc: Global,
+    setup: &'a Setup,
+    poll: Poll,
+    gates: Gates,
+    bridge: Bridge,
+) -> Turning<'a> {
+    let Gates { lanes, down } = gates;
+    Turning {
         setup,
-        lanes: open_lanes(rt, alloc, poll.registry(), gateways, count)?,
-        down: Gate::open(rt, poll.registry(), count, gateways)?,
-        bridge: begun(alloc, &setup.settings)?,
+        bridge,
         poll,
+        lanes,
+        down,
         line: None,
         is_lost: false,
         owed: Vec::new(alloc),
@@ -150,7 +228,7 @@ fn opened<'a, T: Net>(rt: &T, alloc: Global, setup: &'a Setup) -> Result<Turning
         refusal: None,
         opened: 0,
         short: 0,
-    })
+    }
 }
 
 /// The frame that a datagram spells, if it spells one.

@@ -92,9 +92,7 @@ fn disk_at<R: Files<File = File>, E: Write>(
 ) -> Result<FileDisk, Stop> {
     match FileDisk::at(rt, alloc, path) {
         Ok(mut disk) => {
-            if disk.len(Slot::First) == Ok(0) && disk.len(Slot::Second) == Ok(0) {
-                let _ = writeln!(err, "{path}.0, {path}.1: no spool is there, one is begun");
-            }
+            tell_begun(&mut disk, path, err);
             Ok(disk)
         }
         Err(FileDiskFault::Memory) => Err(Stop::Memory),
@@ -102,6 +100,13 @@ fn disk_at<R: Files<File = File>, E: Write>(
             let _ = writeln!(err, "{path}.0, {path}.1: {fault}");
             Err(Stop::Spool(1))
         }
+    }
+}
+
+/// Tells that a spool is begun, if both files are empty.
+fn tell_begun<E: Write>(disk: &mut FileDisk, path: &str, err: &mut E) {
+    if disk.len(Slot::First) == Ok(0) && disk.len(Slot::Second) == Ok(0) {
+        let _ = writeln!(err, "{path}.0, {path}.1: no spool is there, one is begun");
     }
 }
 
@@ -149,11 +154,38 @@ pub(crate) fn open<R: Files<File = File>, E: Write>(
 ) -> Result<Found, Stop> {
     let disk = disk_at(rt, alloc, path, err)?;
     let node = node_on(alloc, disk)?;
-    let Held { items, next } = held_by(alloc, &node)?;
-    let count = items.len();
+    match held_by(alloc, &node) {
+        Ok(held) => {
+            tell_count(held.items.len(), err);
+            found_of(alloc, node, path, held)
+        }
+        Err(stop) => {
+            drop(node);
+            Err(stop)
+        }
+    }
+}
+
+/// Tells how many readings the spool has.
+fn tell_count<E: Write>(count: usize, err: &mut E) {
     let _ = writeln!(err, "sn_bridge: the spool has {count} readings");
-    let spool = new_spool(alloc, node, path, next)?;
-    Ok(Found { spool, items, next })
+}
+
+/// A spool that was opened, and what it holds.
+fn found_of(
+    alloc: Global,
+    node: Node<Folded, FileDisk>,
+    path: &str,
+    held: Held,
+) -> Result<Found, Stop> {
+    let Held { items, next } = held;
+    match new_spool(alloc, node, path, next) {
+        Ok(spool) => Ok(Found { spool, items, next }),
+        Err(stop) => {
+            drop(items);
+            Err(stop)
+        }
+    }
 }
 
 /// What the gateway of a spool holds.
@@ -204,9 +236,20 @@ fn new_spool(
     path: &str,
     below: u64,
 ) -> Result<Spool, Stop> {
-    Ok(Spool {
+    match String::from_str(alloc, path) {
+        Ok(path) => Ok(spool_at(alloc, node, path, below)),
+        Err(_) => {
+            drop(node);
+            Err(Stop::Memory)
+        }
+    }
+}
+
+/// The same, of this path.
+fn spool_at(alloc: Global, node: Node<Folded, FileDisk>, path: String, below: u64) -> Spool {
+    Spool {
         node,
-        path: String::from_str(alloc, path)?,
+        path,
         stores: Vec::new(alloc),
         forgets: Vec::new(alloc),
         below,
@@ -217,7 +260,7 @@ fn new_spool(
         look: 0,
         base: 0,
         both: 0,
-    })
+    }
 }
 
 /// The number by which a refused write is told.

@@ -14,12 +14,22 @@ pub(crate) fn asked_by(alloc: Global, words: &[String]) -> Option<String> {
 
 /// The words by what they are for.
 fn parsed<'a>(alloc: Global, words: &'a [String]) -> Option<ArgMatches<'a>> {
-    let config = Arg::new(alloc, "config")
-        .long("config")
-        .required(true)
-        .action(ArgAction::Set);
-    let command = Command::new(alloc, "sn_bridge").arg(config).ok()?;
-    command.try_get_matches_from(words).ok()
+    command_line(alloc)?.try_get_matches_from(words).ok()
+}
+
+/// The whole command line.
+fn command_line<'a>(alloc: Global) -> Option<Command<'a>> {
+    Command::new(alloc, "sn_bridge").arg(config(alloc)).ok()
+}
+
+/// The option of the settings file.
+fn config<'a>(alloc: Global) -> Arg<'a> {
+    needed(Arg::new(alloc, "config").long("config"))
+}
+
+/// An option with a value that must be there.
+fn needed<'a>(arg: Arg<'a>) -> Arg<'a> {
+    arg.required(true).action(ArgAction::Set)
 }
 
 /// The path that the words say.
