@@ -59,109 +59,98 @@
 //! - `spool FROM BELOW NUMBER .. / NUMBER ..`: what is written of readings of the first numbers,
 //!   and of the others, which need not be kept; and what is found in it.
 //!
-//! - `fields`: octets of a line.
 //! - `packets`, `topics`, `machine`, `spool`: lines that are played.
-//! - `said`, `shown`: what is printed.
-//! - `stop`: why a line is not played.
+//! - `building`: a bridge of a line.
+//! - `said`: what is printed.
 
-mod fields;
+mod building;
 mod machine;
 mod packets;
 mod said;
-mod shown;
 mod spool;
-mod stop;
 mod topics;
 
-use crate::bridge::machine::Stage;
-use crate::bridge::stop::Stop;
+use crate::bridge::building::Stage;
+use crate::sets;
+use crate::sets::page::Page;
+use crate::sets::words::{Words, words_of};
 use mq_packet::Packet;
-use std::alloc::Global;
-use std::io::{self, ErrorKind, Write};
+use std::io;
 
 /// Plays rows, and writes what that prints, unless memory runs out.
 pub(crate) fn play_rows<T: Print + AllocGlobal>(rt: &T, lines: &[String]) -> io::Result<()> {
-    let mut text = String::new(rt.alloc());
-    let played = play_lines(rt.alloc(), &mut text, lines);
-    let written = write(rt, played, text.as_str());
-    drop(text);
+    let mut page = Page::new(rt.alloc());
+    play_lines(&mut page, lines);
+    let written = sets::write(rt, &page);
+    drop(page);
     written
 }
 
-/// Writes what is printed, unless memory ran out.
-fn write<T: Print>(rt: &T, played: Result<(), Stop>, text: &str) -> io::Result<()> {
-    match played {
-        Ok(()) => io::writer(rt).write_all(text.as_bytes()),
-        Err(_) => Err(io::Error::from(ErrorKind::OutOfMemory)),
-    }
-}
-
 /// Plays all lines; before the first there is no packet and no bridge.
-fn play_lines(alloc: Global, text: &mut String, lines: &[String]) -> Result<(), Stop> {
+fn play_lines(page: &mut Page, lines: &[String]) {
     let mut kept = None;
     let mut stage = None;
-    let played = play_each(alloc, text, &mut kept, &mut stage, lines);
+    for line in lines {
+        if !page.is_short() {
+            answer(page, &mut kept, &mut stage, line.as_str());
+        }
+    }
     drop(stage);
     drop(kept);
-    played
-}
-
-/// Plays one line after the other.
-fn play_each(
-    alloc: Global,
-    text: &mut String,
-    kept: &mut Option<Packet>,
-    stage: &mut Option<Stage>,
-    lines: &[String],
-) -> Result<(), Stop> {
-    for line in lines {
-        answer(alloc, text, kept, stage, line.as_str())?;
-    }
-    Ok(())
 }
 
 /// Plays a line; empty ones and explanations say nothing, and a row's name is printed.
-fn answer(
-    alloc: Global,
-    text: &mut String,
-    kept: &mut Option<Packet>,
-    stage: &mut Option<Stage>,
-    line: &str,
-) -> Result<(), Stop> {
-    if line.is_empty() || line.starts_with('#') || line.starts_with("=== ") {
-        return Ok(());
+fn answer(page: &mut Page, kept: &mut Option<Packet>, stage: &mut Option<Stage>, line: &str) {
+    if is_silent(line) {
+        return;
     }
     if line.starts_with("== ") {
-        return Ok(writeln!(text, "{line}")?);
-    }
-    match play(alloc, text, kept, stage, line) {
-        Err(Stop::Line) => Ok(writeln!(text, "no such line: {line}")?),
-        other => other,
+        page.line(line);
+    } else {
+        play_line(page, kept, stage, line);
     }
 }
 
-/// Plays a line of a row.
-fn play(
-    alloc: Global,
-    text: &mut String,
+/// Whether a line says nothing.
+fn is_silent(line: &str) -> bool {
+    line.is_empty() || line.starts_with('#') || line.starts_with("=== ")
+}
+
+/// Plays a line of a row, and tells one that is none of the language.
+fn play_line(page: &mut Page, kept: &mut Option<Packet>, stage: &mut Option<Stage>, line: &str) {
+    let mut words = words_of(page.alloc, line);
+    play_words(page, kept, stage, &mut words);
+    if let Some(stop) = words.stop {
+        page.stopped(stop, line);
+    }
+}
+
+/// Plays a line about packets or a spool, or another one.
+fn play_words(
+    page: &mut Page,
     kept: &mut Option<Packet>,
     stage: &mut Option<Stage>,
-    line: &str,
-) -> Result<(), Stop> {
-    let words = fields::words(alloc, line)?;
-    let Some((first, rest)) = words.as_slice().split_first() else {
-        return Err(Stop::Line);
-    };
-    match *first {
-        "packet" => packets::packet(alloc, text, kept, rest),
-        "with" => packets::with(alloc, text, kept, rest),
-        "firsts" => packets::firsts(alloc, text, rest),
-        "cuts" => packets::cuts(alloc, text, rest),
-        "left" => packets::left(alloc, text, rest),
-        "prefix" | "topic" | "strip" | "apart" | "below" => {
-            topics::play(alloc, text, first, rest)
-        }
-        "spool" => spool::play(alloc, text, rest),
-        other => machine::play(alloc, text, stage, other, rest),
+    words: &mut Words<'_>,
+) {
+    match words.first {
+        "packet" => packets::packet(page, kept, words),
+        "with" => packets::with(page, kept, words),
+        "firsts" => packets::firsts(page, words),
+        "cuts" => packets::cuts(page, words),
+        "left" => packets::left(page, words),
+        "spool" => spool::play(page, words),
+        _ => play_other(page, stage, words),
+    }
+}
+
+/// Plays a line about topics or a bridge.
+fn play_other(page: &mut Page, stage: &mut Option<Stage>, words: &mut Words<'_>) {
+    match words.first {
+        "prefix" => topics::prefix(page, words),
+        "topic" => topics::topic(page, words),
+        "strip" => topics::strip(page, words),
+        "apart" => topics::both_apart(page, words),
+        "below" => topics::below(page, words),
+        _ => machine::play(page, stage, words),
     }
 }

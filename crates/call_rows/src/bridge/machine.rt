@@ -1,399 +1,365 @@
 //! Lines about a bridge, and about a connection whose octets come in pieces.
 
-use crate::bridge::fields::octets;
-use crate::bridge::said::{Said, packet_name};
-use crate::bridge::shown::{Digits, Text};
+use crate::bridge::building::{Stage, new_stage, pass, ready_stage, size_of, taken};
+use crate::bridge::packets::{brief_fault, read};
+use crate::bridge::said::{packet_name, print_said};
 use crate::bridge::spool::{print_item, reading};
-use crate::bridge::stop::Stop;
-use br_core::{
-    Action, Bridge, DownFilter, Event, LaneSettings, MAX_WAITING, Moment, Settings, UpName, Why,
-    begun, step,
-};
-use mq_packet::{Packet, PacketFault, Qos};
-use mq_stream::PacketIn;
-use octets::{Octets, Sequence};
-use sn_frame::{Flags, Frame};
-use std::alloc::Global;
+use crate::sets::calls::{read_frame, write_frame};
+use crate::sets::datagrams::fields::{octets, octets_to};
+use crate::sets::datagrams::shown::{print_digits, print_text};
+use crate::sets::page::Page;
+use crate::sets::stop::Stop;
+use crate::sets::words::Words;
+use br_core::{Action, Command, Event, Why};
+use mq_packet::{Packet, PacketFault};
+use mq_stream::{Fed, PacketIn};
+use octets::NoMemory;
+use sn_frame::{Frame, FrameFault};
 use std::mem;
 
-/// The latest second of a line.
-const LATEST: u64 = 1_000_000_000;
+/// A command `c/ab` of quality of service 0.
+const COMMAND: &[u8] = b"\x30\x06\x00\x04c/ab";
 
-/// A bridge of the rows, and the second.
-#[derive(Drop)]
-pub(crate) struct Stage {
-    settings: Settings,
-    bridge: Bridge,
-    second: u64,
-}
+/// The REGISTER of the first name of lane 0, as id 7.
+const NAMED: &[u8] = b"\x09\x0a\x00\x07\x00\x0ct/0";
 
-/// The octets of a text.
-fn of(alloc: Global, text: &str) -> Result<Octets, Stop> {
-    Ok(Octets::from_slice(alloc, text.as_bytes())?)
-}
-
-/// A name of a lane, whose topic at the broker has `f/` in front.
-fn name(alloc: Global, name: &str) -> Result<UpName, Stop> {
-    let topic = format!(in alloc; "f/{name}")?;
-    Ok(UpName {
-        name: of(alloc, name)?,
-        topic: of(alloc, topic.as_str())?,
-        qos: Qos::One,
-        retain: false,
-    })
-}
-
-/// The lane of this place: its name is `t/` and the place; the first lane has the short name `qa`
-/// too.
-fn lane(alloc: Global, place: u32) -> Result<LaneSettings, Stop> {
-    let mut names = Vec::new(alloc);
-    let long = format!(in alloc; "t/{place}")?;
-    names.push(name(alloc, long.as_str())?)?;
-    if place == 0 {
-        names.push(name(alloc, "qa")?)?;
-    }
-    let client = format!(in alloc; "b-u{place}")?;
-    Ok(LaneSettings {
-        client: of(alloc, client.as_str())?,
-        names: Sequence::new(names),
-    })
-}
-
-/// So many lanes.
-fn lanes(alloc: Global, count: u32) -> Result<Vec<LaneSettings>, Stop> {
-    let mut all = Vec::new(alloc);
-    for place in 0..count {
-        all.push(lane(alloc, place)?)?;
-    }
-    Ok(all)
-}
-
-/// Commands come below `c/`, and kept ones too below `k/`.
-fn downs(alloc: Global) -> Result<Vec<DownFilter>, Stop> {
-    let mut all = Vec::new(alloc);
-    for (filter, strip, retained) in [("c/#", "c/", false), ("k/#", "k/", true)] {
-        all.push(DownFilter {
-            filter: of(alloc, filter)?,
-            strip: of(alloc, strip)?,
-            retained,
-        })?;
-    }
-    Ok(all)
-}
-
-/// How many lanes a bridge has, its window, and the room of its spool, if it has one.
-#[derive(Clone, Copy)]
-struct Size {
-    lanes: u32,
-    window: u16,
-    room: Option<u16>,
-}
-
-/// The small number that a field is.
-fn small(field: &str) -> Result<u16, Stop> {
-    match field.parse::<u16>() {
-        Ok(number) => Ok(number),
-        Err(_) => Err(Stop::Line),
+/// Plays a line about a bridge, or about pieces.
+pub(crate) fn play(page: &mut Page, kept: &mut Option<Stage>, words: &mut Words<'_>) {
+    match words.first {
+        "pieces" => pieces(page, words),
+        "bridge" => begin(page, kept, words, false),
+        "ready" => begin(page, kept, words, true),
+        _ => play_kept(page, kept, words),
     }
 }
 
-/// The size that fields say.
-fn size_of(fields: &[&str]) -> Result<Size, Stop> {
-    let (lanes, window, room) = match fields {
-        [lanes, window] => (lanes, window, None),
-        [lanes, window, room] => (lanes, window, Some(small(room)?)),
-        _ => return Err(Stop::Line),
-    };
-    Ok(Size {
-        lanes: u32::from(small(lanes)?),
-        window: small(window)?,
-        room,
-    })
-}
-
-/// How many readings wait at most.
-fn room_of(room: Option<u16>) -> usize {
-    match room {
-        None => MAX_WAITING,
-        Some(room) => usize::from(room),
+/// `bridge LANES WINDOW [ROOM]`: a bridge that begins; `ready ..`: one to which all said yes.
+fn begin(page: &mut Page, kept: &mut Option<Stage>, words: &mut Words<'_>, is_ready: bool) {
+    let size = size_of(words);
+    if words.end() {
+        let made = if is_ready {
+            ready_stage(page.alloc, size)
+        } else {
+            new_stage(page.alloc, size)
+        };
+        keep(page, kept, made);
     }
 }
 
-/// A bridge of this size.
-fn new_stage(alloc: Global, fields: &[&str]) -> Result<Stage, Stop> {
-    let size = size_of(fields)?;
-    let settings = Settings {
-        lanes: Sequence::new(lanes(alloc, size.lanes)?),
-        commands: of(alloc, "b-d0")?,
-        downs: Sequence::new(downs(alloc)?),
-        client: of(alloc, "b")?,
-        will: None,
-        login: None,
-        state: of(alloc, "s")?,
-        here: of(alloc, "here")?,
-        window: usize::from(size.window),
-        room: room_of(size.room),
-        spools: size.room.is_some(),
-    };
-    let bridge = begun(alloc, &settings)?;
-    Ok(Stage {
-        settings,
-        bridge,
-        second: 0,
-    })
-}
-
-/// An event goes through the machine; what is to be done.
-fn taken(alloc: Global, stage: &mut Stage, event: &Event) -> Result<Vec<Action>, Stop> {
-    let moment = Moment::of(stage.second.min(LATEST));
-    step(alloc, &stage.settings, event, moment, &mut stage.bridge)?;
-    Ok(mem::replace(&mut stage.bridge.out, Sequence::empty(alloc)).into_vec())
-}
-
-/// A frame that says that a name is subscribed to.
-fn sub_ack(topic_id: u16, msg_id: u16) -> Frame {
-    let flags = Flags { bits: 0x20 };
-    let code = 0;
-    Frame::SubAck {
-        flags,
-        topic_id,
-        msg_id,
-        code,
+/// Keeps a bridge.
+fn keep(page: &mut Page, kept: &mut Option<Stage>, made: Result<Stage, NoMemory>) {
+    match made {
+        Ok(stage) => drop(mem::replace(kept, Some(stage))),
+        Err(_) => page.run_out(),
     }
 }
 
-/// An event goes through the machine, and nobody asks what is to be done.
-fn pass(alloc: Global, stage: &mut Stage, event: Event) -> Result<(), Stop> {
-    let actions = taken(alloc, stage, &event);
-    drop(event);
-    drop(actions?);
-    Ok(())
-}
-
-/// A frame of a lane's gateway comes.
-fn hear(alloc: Global, stage: &mut Stage, lane: usize, frame: Frame) -> Result<(), Stop> {
-    pass(alloc, stage, Event::Field { lane, frame })
-}
-
-/// A lane connects and subscribes to all its names, the first of which gets id 5.
-fn lane_ready(alloc: Global, stage: &mut Stage, lane: usize) -> Result<(), Stop> {
-    hear(alloc, stage, lane, Frame::ConnAck { code: 0 })?;
-    hear(alloc, stage, lane, sub_ack(5, 1))?;
-    hear(alloc, stage, lane, sub_ack(0, 2))
-}
-
-/// All lanes connect and subscribe.
-fn lanes_ready(alloc: Global, stage: &mut Stage) -> Result<(), Stop> {
-    for lane in 0..stage.settings.lanes.len() {
-        lane_ready(alloc, stage, lane)?;
-    }
-    Ok(())
-}
-
-/// The gateway says yes to the lane for commands, and the broker to the connection.
-fn sides_ready(alloc: Global, stage: &mut Stage) -> Result<(), Stop> {
-    pass(alloc, stage, Event::Tick)?;
-    let frame = Frame::ConnAck { code: 0 };
-    pass(alloc, stage, Event::Commands { frame })?;
-    pass(alloc, stage, Event::BrokerOpen)?;
-    let (session, code) = (true, 0);
-    let packet = Packet::ConnAck { session, code };
-    pass(alloc, stage, Event::Broker { packet })
-}
-
-/// `ready LANES WINDOW [ROOM]`: a bridge to which the broker and the gateway have said yes.
-fn ready(alloc: Global, fields: &[&str]) -> Result<Stage, Stop> {
-    let mut made = new_stage(alloc, fields)?;
-    made.bridge.is_subscribed = true;
-    sides_ready(alloc, &mut made)?;
-    lanes_ready(alloc, &mut made)?;
-    Ok(made)
-}
-
-/// The frame that octets spell.
-fn frame_of(alloc: Global, fields: &[&str]) -> Result<Frame, Stop> {
-    let given = octets(alloc, fields)?;
-    match sn_frame::decode(alloc, given.as_slice()) {
-        Ok(frame) => Ok(frame),
-        Err(sn_frame::FrameFault::Memory) => Err(Stop::Memory),
-        Err(_) => Err(Stop::Line),
+/// Plays a line about the bridge that there is.
+fn play_kept(page: &mut Page, kept: &mut Option<Stage>, words: &mut Words<'_>) {
+    match kept {
+        Some(stage) => play_at(page, stage, words),
+        None => words.fail(Stop::Line),
     }
 }
 
-/// The packet that octets spell.
-fn packet_of(alloc: Global, fields: &[&str]) -> Result<Packet, Stop> {
-    let given = octets(alloc, fields)?;
-    match mq_packet::decode(alloc, given.as_slice()) {
-        Ok(packet) => Ok(packet),
-        Err(PacketFault::Memory) => Err(Stop::Memory),
-        Err(_) => Err(Stop::Line),
+/// Plays a line about a bridge.
+fn play_at(page: &mut Page, stage: &mut Stage, words: &mut Words<'_>) {
+    match words.first {
+        "second" => set_second(stage, words),
+        "known" => set_known(stage, words),
+        "crowd" => crowd(page, stage, words),
+        "named" => named(page, stage, words),
+        _ => play_event(page, stage, words),
     }
 }
 
-/// The number that a field is.
-fn number_of(fields: &[&str]) -> Result<u64, Stop> {
-    let [field] = fields else {
-        return Err(Stop::Line);
-    };
-    match field.parse::<u64>() {
-        Ok(number) => Ok(number),
-        Err(_) => Err(Stop::Line),
+/// `second N`: the second from now on.
+fn set_second(stage: &mut Stage, words: &mut Words<'_>) {
+    let second = words.number();
+    if words.end() {
+        stage.second = second;
     }
 }
 
-/// A frame of the gateway of the lane that the first field says.
-fn field_event(alloc: Global, fields: &[&str]) -> Result<Event, Stop> {
-    let Some((lane, rest)) = fields.split_first() else {
-        return Err(Stop::Line);
-    };
-    let Ok(lane) = lane.parse::<u16>() else {
-        return Err(Stop::Line);
-    };
-    let frame = frame_of(alloc, rest)?;
-    let lane = usize::from(lane);
-    Ok(Event::Field { lane, frame })
-}
-
-/// A frame of the gateway of the lane for commands.
-fn commands_event(alloc: Global, fields: &[&str]) -> Result<Event, Stop> {
-    let frame = frame_of(alloc, fields)?;
-    Ok(Event::Commands { frame })
-}
-
-/// A packet of the broker.
-fn broker_event(alloc: Global, fields: &[&str]) -> Result<Event, Stop> {
-    let packet = packet_of(alloc, fields)?;
-    Ok(Event::Broker { packet })
-}
-
-/// A line that is on the disk.
-fn kept_event(fields: &[&str]) -> Result<Event, Stop> {
-    let line = number_of(fields)?;
-    Ok(Event::Kept { line })
-}
-
-/// `crowd N`: the broker sends so many commands `c/ab` of quality of service 0.
-fn crowd(alloc: Global, stage: &mut Stage, count: u64) -> Result<(), Stop> {
-    for _ in 0..count {
-        let packet = packet_of(alloc, &["30", "06", "0004", "632f6162"])?;
-        pass(alloc, stage, Event::Broker { packet })?;
+/// `known`: it has subscribed to all filters in an earlier connection.
+fn set_known(stage: &mut Stage, words: &mut Words<'_>) {
+    if words.end() {
+        stage.bridge.is_subscribed = true;
     }
-    Ok(())
 }
 
-/// `named N`: the gateway registers the first name of lane 0 so often, as id 7.
-fn named(alloc: Global, stage: &mut Stage, count: u64) -> Result<(), Stop> {
-    for _ in 0..count {
-        let frame = frame_of(alloc, &["09", "0a", "0007", "000c", "742f30"])?;
-        hear(alloc, stage, 0, frame)?;
-    }
-    Ok(())
-}
-
-/// A reading that the spool has kept.
-fn found_event(alloc: Global, fields: &[&str]) -> Result<Event, Stop> {
-    let number = number_of(fields)?;
-    let item = reading(alloc, number)?;
-    Ok(Event::Found { item })
-}
-
-/// The event of a line about the spool.
-fn spool_event(alloc: Global, first: &str, rest: &[&str]) -> Result<Event, Stop> {
-    match first {
-        "found" => found_event(alloc, rest),
-        "resumed" => {
-            let number = number_of(rest)?;
-            Ok(Event::Resumed { number })
+/// `crowd N`: the broker sends so many commands.
+fn crowd(page: &mut Page, stage: &mut Stage, words: &mut Words<'_>) {
+    let count = words.number();
+    if words.end() {
+        for _ in 0..count {
+            command_once(page, stage);
         }
-        "stored" => {
-            let below = number_of(rest)?;
-            Ok(Event::Stored { below })
+    }
+}
+
+/// The broker sends a command.
+fn command_once(page: &mut Page, stage: &mut Stage) {
+    match read(page.alloc, COMMAND) {
+        Ok(packet) => pass_by(page, stage, Event::Broker { packet }),
+        Err(_) => page.run_out(),
+    }
+}
+
+/// `named N`: the gateway registers a name so often.
+fn named(page: &mut Page, stage: &mut Stage, words: &mut Words<'_>) {
+    let count = words.number();
+    if words.end() {
+        for _ in 0..count {
+            name_once(page, stage);
         }
-        "store-failed" => Ok(Event::StoreFailed),
-        _ => Err(Stop::Line),
+    }
+}
+
+/// The gateway registers a name.
+fn name_once(page: &mut Page, stage: &mut Stage) {
+    match read_frame(page.alloc, NAMED) {
+        Ok(frame) => pass_by(page, stage, Event::Field { lane: 0, frame }),
+        Err(_) => page.run_out(),
+    }
+}
+
+/// An event goes through the machine, and nothing is printed.
+fn pass_by(page: &mut Page, stage: &mut Stage, event: Event) {
+    if pass(page.alloc, stage, event).is_err() {
+        page.run_out();
+    }
+}
+
+/// Plays the event of a line.
+fn play_event(page: &mut Page, stage: &mut Stage, words: &mut Words<'_>) {
+    if let Some(event) = event_of(words) {
+        happen(page, stage, &event);
+        drop(event);
+    }
+}
+
+/// An event goes through the machine; what is to be done is printed.
+fn happen(page: &mut Page, stage: &mut Stage, event: &Event) {
+    match taken(page.alloc, stage, event) {
+        Ok(actions) => {
+            print_actions(page, actions.as_slice());
+            drop(actions);
+        }
+        Err(_) => page.run_out(),
     }
 }
 
 /// The event of a line.
-fn event_of(alloc: Global, first: &str, rest: &[&str]) -> Result<Event, Stop> {
-    match first {
-        "field" => field_event(alloc, rest),
-        "commands" => commands_event(alloc, rest),
-        "broker" => broker_event(alloc, rest),
-        "opened" => Ok(Event::BrokerOpen),
-        "lost" => Ok(Event::BrokerLost),
-        "kept" => kept_event(rest),
-        "tick" => Ok(Event::Tick),
-        other => spool_event(alloc, other, rest),
+fn event_of(words: &mut Words<'_>) -> Option<Event> {
+    match words.first {
+        "field" => field_event(words),
+        "commands" => commands_event(words),
+        "broker" => broker_event(words),
+        "found" => found_event(words),
+        "kept" | "resumed" | "stored" => number_event(words),
+        _ => bare_event(words),
     }
 }
 
-/// The octets of a frame.
-fn written(alloc: Global, frame: &Frame) -> Result<Vec<u8>, Stop> {
-    let mut out = Vec::new(alloc);
-    match sn_frame::encode(alloc, frame, &mut out) {
-        Ok(()) => Ok(out),
-        Err(sn_frame::EncodeFault::Memory) => Err(Stop::Memory),
-        Err(_) => Err(Stop::Line),
+/// A frame of the gateway of the lane that the first word says.
+fn field_event(words: &mut Words<'_>) -> Option<Event> {
+    let lane = usize::from(words.small_number());
+    match frame_in(words) {
+        Some(frame) => Some(Event::Field { lane, frame }),
+        None => None,
     }
+}
+
+/// A frame of the gateway of the lane for commands.
+fn commands_event(words: &mut Words<'_>) -> Option<Event> {
+    match frame_in(words) {
+        Some(frame) => Some(Event::Commands { frame }),
+        None => None,
+    }
+}
+
+/// A packet of the broker.
+fn broker_event(words: &mut Words<'_>) -> Option<Event> {
+    match packet_in(words) {
+        Some(packet) => Some(Event::Broker { packet }),
+        None => None,
+    }
+}
+
+/// A reading that the spool has kept.
+fn found_event(words: &mut Words<'_>) -> Option<Event> {
+    let number = words.number();
+    match reading(words.alloc, number) {
+        Ok(item) => Some(Event::Found { item }),
+        Err(_) => {
+            words.fail(Stop::Memory);
+            None
+        }
+    }
+}
+
+/// An event with a number: a line that is on the disk, or what the spool says.
+fn number_event(words: &mut Words<'_>) -> Option<Event> {
+    let number = words.number();
+    if !words.end() {
+        return None;
+    }
+    Some(match words.first {
+        "kept" => Event::Kept { line: number },
+        "resumed" => Event::Resumed { number },
+        _ => Event::Stored { below: number },
+    })
+}
+
+/// An event of one word.
+fn bare_event(words: &mut Words<'_>) -> Option<Event> {
+    let event = match words.first {
+        "opened" => Some(Event::BrokerOpen),
+        "lost" => Some(Event::BrokerLost),
+        "tick" => Some(Event::Tick),
+        "store-failed" => Some(Event::StoreFailed),
+        _ => None,
+    };
+    if event.is_none() {
+        words.fail(Stop::Line);
+    }
+    event
+}
+
+/// The frame that the words spell which are left.
+fn frame_in(words: &mut Words<'_>) -> Option<Frame> {
+    let given = octets(words);
+    let frame = if words.end() {
+        frame_of(words, &given)
+    } else {
+        None
+    };
+    drop(given);
+    frame
+}
+
+/// The frame that octets spell.
+fn frame_of(words: &mut Words<'_>, given: &[u8]) -> Option<Frame> {
+    match read_frame(words.alloc, given) {
+        Ok(frame) => Some(frame),
+        Err(fault) => {
+            let is_short = matches!(fault, FrameFault::Memory);
+            words.fail(if is_short { Stop::Memory } else { Stop::Line });
+            None
+        }
+    }
+}
+
+/// The packet that the words spell which are left.
+fn packet_in(words: &mut Words<'_>) -> Option<Packet> {
+    let given = octets(words);
+    let packet = if words.end() {
+        packet_of(words, &given)
+    } else {
+        None
+    };
+    drop(given);
+    packet
+}
+
+/// The packet that octets spell.
+fn packet_of(words: &mut Words<'_>, given: &[u8]) -> Option<Packet> {
+    match read(words.alloc, given) {
+        Ok(packet) => Some(packet),
+        Err(fault) => {
+            let is_short = matches!(fault, PacketFault::Memory);
+            words.fail(if is_short { Stop::Memory } else { Stop::Line });
+            None
+        }
+    }
+}
+
+/// Prints what is to be done, or that nothing is.
+fn print_actions(page: &mut Page, actions: &[Action]) {
+    if actions.is_empty() {
+        page.line("nothing");
+    }
+    for action in actions {
+        print_action(page, action);
+    }
+}
+
+/// Prints one thing that is to be done: a frame, a packet, or something else.
+fn print_action(page: &mut Page, action: &Action) {
+    match action {
+        Action::ToField { lane, frame } => {
+            page.text("to-field ");
+            page.value(*lane);
+            print_frame(page, frame);
+        }
+        Action::ToCommands { frame } => {
+            page.text("to-commands");
+            print_frame(page, frame);
+        }
+        Action::ToBroker { packet } => print_packet(page, packet),
+        Action::Reading { packet, .. } => print_packet(page, packet),
+        other => print_other(page, other),
+    }
+}
+
+/// Prints the octets of a frame, and ends the line.
+fn print_frame(page: &mut Page, frame: &Frame) {
+    let mut out = Vec::new(page.alloc);
+    let written = write_frame(page.alloc, frame, &mut out);
+    if written.is_ok() {
+        page.text(" ");
+        print_digits(page, &out);
+        page.end();
+    } else {
+        page.run_out();
+    }
+    drop(out);
+}
+
+/// Prints a packet for the broker.
+fn print_packet(page: &mut Page, packet: &Packet) {
+    page.text("to-broker ");
+    print_said(page, packet);
+    page.end();
+}
+
+/// Prints what is to be done beside frames and packets.
+fn print_other(page: &mut Page, action: &Action) {
+    match action {
+        Action::Refuse { line, command, why } => print_refused(page, *line, command, *why),
+        Action::Store { item } => {
+            page.text("store ");
+            print_item(page, item);
+        }
+        Action::Forget { number } => print_number(page, "forget ", *number),
+        Action::NextGateway { lane } => print_number(page, "next-gateway ", *lane as u64),
+        other => page.line(bare_word(other)),
+    }
+}
+
+/// Prints a line of a word and a number.
+fn print_number(page: &mut Page, word: &str, number: u64) {
+    page.text(word);
+    page.value(number);
+    page.end();
+}
+
+/// Prints that a command is refused, and why.
+fn print_refused(page: &mut Page, line: u64, command: &Command, why: Why) {
+    page.text("refuse ");
+    page.value(line);
+    page.text(word_of(why));
+    print_text(page, command.from.as_slice());
+    page.end();
 }
 
 /// Why a command is refused, in a word.
 fn word_of(why: Why) -> &'static str {
     match why {
-        Why::Topic => "topic",
-        Why::Body => "size",
-        Why::Gateway => "gateway",
-    }
-}
-
-/// Prints the octets of a frame, and ends the line.
-fn print_frame(alloc: Global, text: &mut String, frame: &Frame) -> Result<(), Stop> {
-    let octets = written(alloc, frame)?;
-    let digits = Digits(octets.as_slice());
-    Ok(writeln!(text, " {digits}")?)
-}
-
-/// Prints one thing that is to be done.
-fn print_action(alloc: Global, text: &mut String, action: &Action) -> Result<(), Stop> {
-    match action {
-        Action::ToField { lane, frame } => {
-            write!(text, "to-field {lane}")?;
-            print_frame(alloc, text, frame)
-        }
-        Action::ToCommands { frame } => {
-            text.push_str("to-commands")?;
-            print_frame(alloc, text, frame)
-        }
-        Action::ToBroker { packet } => print_packet(text, packet),
-        Action::Reading { packet, .. } => print_packet(text, packet),
-        other => print_other(text, other),
-    }
-}
-
-/// Prints a packet for the broker.
-fn print_packet(text: &mut String, packet: &Packet) -> Result<(), Stop> {
-    let said = Said(packet);
-    Ok(writeln!(text, "to-broker {said}")?)
-}
-
-/// Prints what is to be done beside frames and packets.
-fn print_other(text: &mut String, action: &Action) -> Result<(), Stop> {
-    match action {
-        Action::Refuse { line, command, why } => {
-            let (word, topic) = (word_of(*why), Text(command.from.as_slice()));
-            Ok(writeln!(text, "refuse {line} {word} {topic}")?)
-        }
-        Action::Store { item } => {
-            text.push_str("store ")?;
-            print_item(text, item)
-        }
-        Action::Forget { number } => Ok(writeln!(text, "forget {number}")?),
-        Action::NextGateway { lane } => Ok(writeln!(text, "next-gateway {lane}")?),
-        other => {
-            let word = bare_word(other);
-            Ok(writeln!(text, "{word}")?)
-        }
+        Why::Topic => " topic ",
+        Why::Body => " size ",
+        Why::Gateway => " gateway ",
     }
 }
 
@@ -406,74 +372,63 @@ fn bare_word(action: &Action) -> &'static str {
     }
 }
 
-/// Prints what is to be done, or that nothing is.
-fn print_actions(alloc: Global, text: &mut String, actions: &[Action]) -> Result<(), Stop> {
-    if actions.is_empty() {
-        return Ok(writeln!(text, "nothing")?);
+/// `pieces OCTETS .. / OCTETS ..`: the packets after each piece, and what waits.
+fn pieces(page: &mut Page, words: &mut Words<'_>) {
+    let mut input = PacketIn::new(page.alloc);
+    let mut is_over = false;
+    for _ in 0..words.left() {
+        if !is_over && words.left() > 0 {
+            is_over = piece(page, words, &mut input);
+        }
     }
-    for action in actions {
-        print_action(alloc, text, action)?;
-    }
-    Ok(())
+    drop(input);
 }
 
-/// `pieces OCTETS / OCTETS ..`: the packets after each piece, and what waits.
-fn pieces(alloc: Global, text: &mut String, fields: &[&str]) -> Result<(), Stop> {
-    let mut input = PacketIn::new(alloc);
-    for piece in fields.split(|field| *field == "/") {
-        let given = octets(alloc, piece)?;
-        let fed = input.feed(alloc, given.as_slice())?;
-        for packet in fed.packets.as_slice() {
-            let word = packet_name(packet);
-            writeln!(text, "{word}")?;
-        }
-        if let Some(fault) = fed.fault {
-            let number = fault.number();
-            return Ok(writeln!(text, "refused {number}")?);
-        }
-        let (waiting, over) = (input.waiting.len(), input.over);
-        writeln!(text, "{waiting} wait, {over} are passed over")?;
-    }
-    Ok(())
+/// The packets after the next piece, and what waits. Whether no more is read.
+fn piece(page: &mut Page, words: &mut Words<'_>, input: &mut PacketIn) -> bool {
+    let given = octets_to(words, "/");
+    let is_over = !words.are_right() || feed(page, input, &given);
+    drop(given);
+    is_over
 }
 
-/// Plays a line about a bridge, or about pieces.
-pub(crate) fn play(
-    alloc: Global,
-    text: &mut String,
-    stage_kept: &mut Option<Stage>,
-    first: &str,
-    rest: &[&str],
-) -> Result<(), Stop> {
-    match first {
-        "pieces" => return pieces(alloc, text, rest),
-        "bridge" => {
-            *stage_kept = Some(new_stage(alloc, rest)?);
-            return Ok(());
+/// A piece comes in.
+fn feed(page: &mut Page, input: &mut PacketIn, given: &[u8]) -> bool {
+    match input.feed(page.alloc, given) {
+        Ok(fed) => {
+            let is_over = print_fed(page, input, &fed);
+            drop(fed);
+            is_over
         }
-        "ready" => {
-            *stage_kept = Some(ready(alloc, rest)?);
-            return Ok(());
+        Err(_) => {
+            page.run_out();
+            true
         }
-        _ => {}
     }
-    let Some(stage) = stage_kept else {
-        return Err(Stop::Line);
-    };
-    match first {
-        "second" => {
-            stage.second = number_of(rest)?;
-            return Ok(());
-        }
-        "known" => {
-            stage.bridge.is_subscribed = true;
-            return Ok(());
-        }
-        "crowd" => return crowd(alloc, stage, number_of(rest)?),
-        "named" => return named(alloc, stage, number_of(rest)?),
-        _ => {}
+}
+
+/// The packets after a piece, and the fault after them or what waits. Whether there is a fault.
+fn print_fed(page: &mut Page, input: &PacketIn, fed: &Fed) -> bool {
+    for packet in fed.packets.as_slice() {
+        page.line(packet_name(packet));
     }
-    let event = event_of(alloc, first, rest)?;
-    let actions = taken(alloc, stage, &event)?;
-    print_actions(alloc, text, actions.as_slice())
+    match fed.fault {
+        Some(fault) => {
+            brief_fault(page, fault);
+            page.end();
+            true
+        }
+        None => {
+            print_waiting(page, input);
+            false
+        }
+    }
+}
+
+/// What waits.
+fn print_waiting(page: &mut Page, input: &PacketIn) {
+    page.value(input.waiting.len());
+    page.text(" wait, ");
+    page.value(input.over);
+    page.line(" are passed over");
 }

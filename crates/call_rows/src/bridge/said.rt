@@ -1,24 +1,9 @@
 //! Packets in the words of MQTT 3.1.1 section 3.
 
-use crate::bridge::shown::Text;
+use crate::sets::datagrams::shown::print_text;
+use crate::sets::page::Page;
 use mq_packet::{Delivery, Login, Packet, Qos, Will};
-use std::fmt;
-
-/// A packet with all its fields.
-#[derive(Clone, Copy)]
-pub(crate) struct Said<'a>(pub &'a Packet);
-
-/// How a publication is delivered.
-#[derive(Clone, Copy)]
-struct Way(Delivery);
-
-/// The fields of a will, if there is one.
-#[derive(Clone, Copy)]
-struct Wills<'a>(&'a Option<Will>);
-
-/// The fields of a login, if there is one.
-#[derive(Clone, Copy)]
-struct Logins<'a>(&'a Option<Login>);
+use octets::Octets;
 
 /// The name of a packet's type (section 2.2.1).
 pub(crate) fn packet_name(packet: &Packet) -> &'static str {
@@ -37,117 +22,153 @@ pub(crate) fn packet_name(packet: &Packet) -> &'static str {
     }
 }
 
-/// A quality of service.
-fn qos_digit(qos: Qos) -> u8 {
-    match qos {
-        Qos::Zero => 0,
-        Qos::One => 1,
+/// Prints a packet with all its fields.
+pub(crate) fn print_said(page: &mut Page, packet: &Packet) {
+    page.text(packet_name(packet));
+    match packet {
+        Packet::Connect {
+            clean,
+            keep_alive,
+            client,
+            will,
+            login,
+        } => {
+            print_client(page, *clean, client, *keep_alive);
+            print_will(page, will);
+            print_login(page, login);
+        }
+        Packet::Publish {
+            delivery,
+            retain,
+            topic,
+            body,
+        } => {
+            print_way(page, *delivery);
+            print_if(page, *retain, " RETAIN");
+            print_message(page, " ", topic, body);
+        }
+        _ => print_request(page, packet),
     }
 }
 
-/// A flag, if it is set.
-fn word_if(is_set: bool, word: &'static str) -> &'static str {
-    if is_set { word } else { "" }
+/// Prints a flag, if it is set.
+fn print_if(page: &mut Page, is_set: bool, word: &str) {
+    if is_set {
+        page.text(word);
+    }
 }
 
-impl fmt::Display for Said<'_> {
-    fn fmt<W: fmt::Write>(&self, f: &mut fmt::Formatter<W>) -> fmt::Result {
-        let name = packet_name(self.0);
-        write!(f, "{name}")?;
-        match self.0 {
-            Packet::Connect {
-                clean,
-                keep_alive,
-                client,
-                will,
-                login,
-            } => {
-                let (clean, client) = (word_if(*clean, " clean"), Text(client.as_slice()));
-                let (will, login) = (Wills(will), Logins(login));
-                write!(f, "{clean} {client}, {keep_alive} s{will}{login}")
-            }
-            Packet::Publish {
-                delivery,
-                retain,
-                topic,
-                body,
-            } => {
-                let (way, retain) = (Way(*delivery), word_if(*retain, " RETAIN"));
-                let (topic, body) = (Text(topic.as_slice()), Text(body.as_slice()));
-                write!(f, "{way}{retain} {topic}: {body}")
-            }
-            other => short_fields(f, other),
+/// Prints who connects, and how.
+fn print_client(page: &mut Page, is_clean: bool, client: &Octets, keep_alive: u16) {
+    print_if(page, is_clean, " clean");
+    page.text(" ");
+    print_text(page, client.as_slice());
+    page.text(", ");
+    page.value(keep_alive);
+    page.text(" s");
+}
+
+/// Prints a topic and a message.
+fn print_message(page: &mut Page, front: &str, topic: &Octets, body: &Octets) {
+    page.text(front);
+    print_text(page, topic.as_slice());
+    page.text(": ");
+    print_text(page, body.as_slice());
+}
+
+/// Prints a quality of service.
+fn print_qos(page: &mut Page, qos: Qos) {
+    match qos {
+        Qos::Zero => page.text(" QoS 0"),
+        Qos::One => page.text(" QoS 1"),
+    }
+}
+
+/// Prints how a publication is delivered.
+fn print_way(page: &mut Page, delivery: Delivery) {
+    match delivery {
+        Delivery::Once => print_qos(page, Qos::Zero),
+        Delivery::Acknowledged { id, dup } => {
+            print_qos(page, Qos::One);
+            print_if(page, dup, " DUP");
+            print_number(page, id);
         }
     }
 }
 
-/// The fields of the other packets.
-fn short_fields<W: fmt::Write>(f: &mut fmt::Formatter<W>, packet: &Packet) -> fmt::Result {
+/// Prints a number.
+fn print_number(page: &mut Page, number: u16) {
+    page.text(" ");
+    page.value(number);
+}
+
+/// Prints the fields of a will, if there is one.
+fn print_will(page: &mut Page, will: &Option<Will>) {
+    if let Some(will) = will {
+        page.text(", will");
+        print_qos(page, will.qos);
+        print_if(page, will.retain, " RETAIN");
+        print_message(page, " ", &will.topic, &will.message);
+    }
+}
+
+/// Prints the fields of a login, if there is one.
+fn print_login(page: &mut Page, login: &Option<Login>) {
+    if let Some(login) = login {
+        page.text(", user ");
+        print_text(page, login.user.as_slice());
+        print_password(page, &login.password);
+    }
+}
+
+/// Prints a password, if there is one.
+fn print_password(page: &mut Page, password: &Option<Octets>) {
+    if let Some(password) = password {
+        page.text(", password ");
+        print_text(page, password.as_slice());
+    }
+}
+
+/// Prints the fields of a packet that asks for topics, or of another one.
+fn print_request(page: &mut Page, packet: &Packet) {
+    match packet {
+        Packet::Subscribe { id, filter, qos } => {
+            print_filter(page, *id, filter);
+            print_qos(page, *qos);
+        }
+        Packet::Unsubscribe { id, filter } => print_filter(page, *id, filter),
+        _ => print_answer(page, packet),
+    }
+}
+
+/// Prints a packet id and a filter.
+fn print_filter(page: &mut Page, id: u16, filter: &Octets) {
+    print_number(page, id);
+    page.text(" ");
+    print_text(page, filter.as_slice());
+}
+
+/// Prints the fields of a packet that answers. The others have none.
+fn print_answer(page: &mut Page, packet: &Packet) {
     match packet {
         Packet::ConnAck { session, code } => {
-            let session = word_if(*session, " with a session");
-            write!(f, " {code}{session}")
+            print_number(page, u16::from(*code));
+            print_if(page, *session, " with a session");
         }
-        Packet::PubAck { id } | Packet::UnsubAck { id } => write!(f, " {id}"),
-        Packet::Subscribe { id, filter, qos } => {
-            let (filter, qos) = (Text(filter.as_slice()), qos_digit(*qos));
-            write!(f, " {id} {filter} QoS {qos}")
+        Packet::PubAck { id } => print_number(page, *id),
+        Packet::UnsubAck { id } => print_number(page, *id),
+        Packet::SubAck { id, granted } => {
+            print_number(page, *id);
+            print_granted(page, *granted);
         }
-        Packet::Unsubscribe { id, filter } => {
-            let filter = Text(filter.as_slice());
-            write!(f, " {id} {filter}")
-        }
-        Packet::SubAck { id, granted } => match granted {
-            None => write!(f, " {id} refused"),
-            Some(qos) => {
-                let qos = qos_digit(*qos);
-                write!(f, " {id} QoS {qos}")
-            }
-        },
-        _ => Ok(()),
+        _ => {}
     }
 }
 
-impl fmt::Display for Way {
-    fn fmt<W: fmt::Write>(&self, f: &mut fmt::Formatter<W>) -> fmt::Result {
-        match self.0 {
-            Delivery::Once => write!(f, " QoS 0"),
-            Delivery::Acknowledged { id, dup } => {
-                let dup = word_if(dup, " DUP");
-                write!(f, " QoS 1{dup} {id}")
-            }
-        }
-    }
-}
-
-impl fmt::Display for Wills<'_> {
-    fn fmt<W: fmt::Write>(&self, f: &mut fmt::Formatter<W>) -> fmt::Result {
-        match self.0 {
-            None => Ok(()),
-            Some(will) => {
-                let (qos, retain) = (qos_digit(will.qos), word_if(will.retain, " RETAIN"));
-                let (topic, message) = (Text(will.topic.as_slice()), Text(will.message.as_slice()));
-                write!(f, ", will QoS {qos}{retain} {topic}: {message}")
-            }
-        }
-    }
-}
-
-impl fmt::Display for Logins<'_> {
-    fn fmt<W: fmt::Write>(&self, f: &mut fmt::Formatter<W>) -> fmt::Result {
-        match self.0 {
-            None => Ok(()),
-            Some(login) => {
-                let user = Text(login.user.as_slice());
-                write!(f, ", user {user}")?;
-                match &login.password {
-                    None => Ok(()),
-                    Some(password) => {
-                        let password = Text(password.as_slice());
-                        write!(f, ", password {password}")
-                    }
-                }
-            }
-        }
+/// Prints what was granted, if something was.
+fn print_granted(page: &mut Page, granted: Option<Qos>) {
+    match granted {
+        Some(qos) => print_qos(page, qos),
+        None => page.text(" refused"),
     }
 }
