@@ -142,6 +142,7 @@ fn start<T, O: Write, E: Write>(
 where
     T: Env + Files<File = File> + Print + Eprint + Threads + Wait + Sync + Clock,
     T: Net<Listener = TcpListener, Stream = TcpStream>,
+    T::Dir: Send,
 {
     match words_of(rt, alloc) {
         Some(words) => start_with(rt, alloc, words, said, out, err),
@@ -161,6 +162,7 @@ fn start_with<T, O: Write, E: Write>(
 where
     T: Files<File = File> + Print + Eprint + Threads + Wait + Sync + Clock,
     T: Net<Listener = TcpListener, Stream = TcpStream>,
+    T::Dir: Send,
 {
     if asks_version(words.as_slice()) {
         drop(words);
@@ -187,6 +189,7 @@ fn start_as<T, O: Write, E: Write>(
 where
     T: Files<File = File> + Print + Eprint + Threads + Wait + Sync + Clock,
     T: Net<Listener = TcpListener, Stream = TcpStream>,
+    T::Dir: Send,
 {
     let settings = settings_at(rt, alloc, asked.config.as_str(), err);
     let shifts = asked.shifts;
@@ -215,6 +218,7 @@ fn start_by<T, O: Write, E: Write>(
 where
     T: Files<File = File> + Print + Eprint + Threads + Wait + Sync + Clock,
     T: Net<Listener = TcpListener, Stream = TcpStream>,
+    T::Dir: Send,
 {
     match disk_at(rt, alloc, settings, err) {
         Ok(disk) => {
@@ -268,6 +272,7 @@ fn work<T>(
 where
     T: Files<File = File> + Print + Eprint + Threads + Wait + Sync + Clock,
     T: Net<Listener = TcpListener, Stream = TcpStream>,
+    T::Dir: Send,
 {
     if shifts == 0 {
         drop(node);
