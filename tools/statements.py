@@ -22,7 +22,7 @@ CUT = {"gw_node": "gw_node gw_event gw_answer", "gw_sim": "gw_script gw_play gw_
        "rep_ops": "rep_ops rep_op rep_write rep_read sn_topic", "rep_octets": "rep_write rep_read rep_op", "sn_session": "sn_session sn_tables", "rep_model": "rep_model rep_ops rep_op",
        "sn_flow": "sn_flow sn_plan sn_local sn_subscribe row_laws rep_op", "sn_topic": "sn_topic octets",
        "sn_deliver": "sn_deliver sn_publish sn_exchange sn_tick sn_local sn_plan step_laws",
-       "received_laws": "promise_laws"}
+       "received_laws": "promise_laws", "cause_laws": "put_laws"}
 RENAMED, KINDS = {"so_far": "session_after", "ops_of": "all_of", "may_name": "is_topic_id"}, ["same", "type", "stands", "other", "gone"]
 
 

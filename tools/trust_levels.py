@@ -156,8 +156,8 @@ NAMED = set("""
     gw_answer/refusal/Refusal gw_answer/step/Step sn_plan/Drafts/session_after sn_exchange/Delivery/id_to_tell
     sn_exchange/Exchanges/open_exchange sn_exchange/Following/peer_at sn_exchange/Forms/form_of sn_exchange/Forms/publication
     sn_exchange/form/Form sn_exchange/peer/Peer sn_publish/Publishing/publication_meant sn_publish/Recipients/qos_for sn_publish/meaning/Meant
-    sn_deliver/Steps/row_for sn_deliver/Steps/step sn_tick/Ticking/tick cause_laws/Causes/gives_message
-    cause_laws/Causes/gives_topic gw_event/Drives/more_records gw_event/Drives/left_by gw_event/Drives/opened
+    sn_deliver/Steps/row_for sn_deliver/Steps/step sn_tick/Ticking/tick put_laws/Causes/gives_message
+    put_laws/Causes/gives_topic gw_event/Drives/more_records gw_event/Drives/left_by gw_event/Drives/opened
     gw_event/Drives/torn gw_event/Drives/with_record gw_event/Event/CompactStep gw_event/Event/DigestStep
     gw_event/Event/HasNoDelta gw_event/Event/IsWritable gw_event/Event/ReplyStep
     gw_event/Event/ViewStep gw_event/Excuses/IsExcuse gw_event/Occasions/IsNoFrame

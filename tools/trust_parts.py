@@ -20,7 +20,7 @@ PARTS = [
      "gateway accepts a message, the same step makes one for each recipient, and these wait. A replica shows what waits.",
      "Nothing here says that a message ever reaches a client. That needs a client that answers, and time.",
      ["rep_model::leaves_only", "rep_model::pending_laws", "rep_model::Replica::kept", "rep_model::Replica::view_of",
-      "row_laws::only_acknowledged", "row_laws::messages_wait", "step_laws::every_step", "cause_laws::acknowledged_for_cause",
+      "row_laws::only_acknowledged", "row_laws::messages_wait", "step_laws::every_step", "put_laws::acknowledged_for_cause",
       "put_laws::accepted_is_put"],
      []),
     ("Sets join in any order",

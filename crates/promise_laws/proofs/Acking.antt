@@ -12,8 +12,8 @@ use Rattle.sn_local.specs.declared.config.Addr.{Addr}
 use Rattle.sn_local.specs.declared.config.Config.{Config}
 use Rattle.sn_local.specs.Seen.{seen_of}
 use Rattle.sn_plan.specs.declared.plan.Plan.{Plan}
-use Rattle.cause_laws.proofs.Stepping.{step-cause}
-use Rattle.cause_laws.proofs.Timely.{tick-timely}
+use Rattle.put_laws.proofs.Stepping.{step-cause}
+use Rattle.put_laws.proofs.Timely.{tick-timely}
 use Rattle.gw_answer.specs.declared.out.Out.{Out}
 use Rattle.gw_answer.specs.declared.fault.NodeFault.{NodeFault}
 use Rattle.gw_answer.specs.declared.refusal.Refusal.{Refusal}

@@ -27,8 +27,8 @@ use Rattle.sn_publish.specs.Recipients.{puts_for}
 use Rattle.sn_exchange.specs.Following.{peer_at, followed_by, deliver_next}
 use Rattle.sn_deliver.specs.Serving.{publish_of, publish_in_at}
 use Rattle.sn_deliver.specs.Steps.{row_for, step}
-use Rattle.cause_laws.proofs.Acked.{plan-sends}
-use Rattle.cause_laws.proofs.Grown.{follows-stay}
+use Rattle.put_laws.proofs.Acked.{plan-sends}
+use Rattle.put_laws.proofs.Grown.{follows-stay}
 use Rattle.put_laws.specs.Puts.{puts_of, puts_at, puts_bound, puts_by_level, IsAnswered, IsPublished}
 use Rattle.put_laws.proofs.Putting.{step-messages}
 use Rattle.promise_laws.proofs.Carrying.{IsNewPublish}

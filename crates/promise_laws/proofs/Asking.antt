@@ -25,7 +25,7 @@ use Rattle.sn_publish.specs.declared.meaning.Meant.{Meant}
 use Rattle.sn_publish.specs.declared.meaning.Meant.TheVariants.{Topic, Refused}
 use Rattle.sn_publish.specs.Publishing.{named, short_name, entry_name, topic_meant, within_limit, publication_meant}
 use Rattle.sn_publish.specs.Recipients.{qos_at, qos_in, qos_for}
-use Rattle.cause_laws.proofs.Acked.{none-there}
+use Rattle.put_laws.proofs.Acked.{none-there}
 use Rattle.promise_laws.specs.Asked.{IsThere, AsksFor, IsNameFor, IsAbout}
 use Rattle.promise_laws.proofs.Serving.{head_there, behind_there, head_or}
 

@@ -22,7 +22,7 @@ use Rattle.sn_plan.specs.Own.{IsOwn, IsOfDraft, unnamed, messages}
 use Rattle.row_laws.proofs.Known.{same-behind}
 use Rattle.row_laws.proofs.Names.{plan-own}
 use Rattle.row_laws.proofs.Stepping.{step-new_put}
-use Rattle.cause_laws.proofs.Acked.{none-there}
+use Rattle.put_laws.proofs.Acked.{none-there}
 use Rattle.put_laws.specs.Puts.{IsOfGateway, IsKept}
 use Rattle.put_laws.proofs.Putting.{of-draft}
 use Rattle.put_laws.proofs.Waiting.{gateway-kept}

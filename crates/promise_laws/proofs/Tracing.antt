@@ -19,7 +19,7 @@ use Rattle.sn_local.specs.declared.config.Config.{Config}
 use Rattle.sn_local.specs.Seen.{seen_of}
 use Rattle.sn_plan.specs.declared.plan.Plan.{Plan}
 use Rattle.sn_plan.specs.Bound.{session_of}
-use Rattle.cause_laws.proofs.Acked.{none-there}
+use Rattle.put_laws.proofs.Acked.{none-there}
 use Rattle.gw_answer.specs.declared.out.Out.{Out}
 use Rattle.gw_answer.specs.declared.fault.NodeFault.{NodeFault}
 use Rattle.gw_answer.specs.declared.refusal.Refusal.{Refusal}

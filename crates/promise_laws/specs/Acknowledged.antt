@@ -8,7 +8,7 @@ use Rattle.rep_ops.specs.Splitting.{all_of}
 use Rattle.sn_local.specs.declared.config.Send.{Send}
 use Rattle.sn_local.specs.Seen.{seen_of}
 use Rattle.sn_plan.specs.declared.plan.Plan.{Plan}
-use Rattle.cause_laws.specs.Causes.{IsForCause, IsTimely}
+use Rattle.put_laws.specs.Causes.{IsForCause, IsTimely}
 use Rattle.gw_answer.specs.declared.out.Out.{Out}
 use Rattle.gw_answer.specs.declared.refusal.Refusal.{Refusal}
 use Rattle.gw_answer.specs.declared.refusal.Refusal.TheVariants as refusals

@@ -29,7 +29,7 @@ ghost use Rattle.promise_laws.specs.Promised.{WaitsUntilAnswered};
 /// recipient has a message of its own, made with this step. However a run goes on, the message
 /// waits for its client, at this gateway and at each that has the delta with it. Deltas may be
 /// lost, repeated and reordered, writes may fail, and gateways may stop and start again. The
-/// message waits until a step after this answer acknowledges it, for a cause that `cause_laws`
+/// message waits until a step after this answer acknowledges it, for a cause that `put_laws`
 /// names. So it is on the disks of these gateways too. The same is so of each message of a delta
 /// that an answer reports, at any quality of service (`made`). No acknowledgement of it is
 /// anywhere in the field without such a step (`only`).

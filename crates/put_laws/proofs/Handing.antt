@@ -13,7 +13,7 @@ use Rattle.rep_model.proofs.Topics.{topic-retained, topics-named, topics-ascend}
 use Rattle.sn_local.specs.Seen.{seen_of}
 use Rattle.sn_plan.specs.declared.draft.Posted.{Posted}
 use Rattle.sn_subscribe.specs.Handing.{at_most, handed_for}
-use Rattle.cause_laws.proofs.Acked.{none-there}
+use Rattle.put_laws.proofs.Acked.{none-there}
 use Rattle.put_laws.proofs.Recipients.{head_there, behind_there, head_or}
 
 -- ---- elements

@@ -6,7 +6,7 @@ use Rattle.sn_session.specs.declared.will.Will.{Will}
 use Rattle.sn_local.specs.Seen.{Seen}
 use Rattle.sn_plan.specs.declared.draft.NewPut.{NewPut}
 use Rattle.sn_publish.specs.Recipients.{qos_for, message_for, puts_among, puts_for, is_another, puts_of_will}
-use Rattle.cause_laws.proofs.Acked.{none-there}
+use Rattle.put_laws.proofs.Acked.{none-there}
 use Rattle.put_laws.specs.Puts.{IsAmong}
 
 pub head_there : {X : Type 0} (x : X) (xs : List X) → Contains (x ∷ xs) x

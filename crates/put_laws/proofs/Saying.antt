@@ -49,7 +49,7 @@ use Rattle.sn_publish.specs.Publishing.{named, topic_meant, within_limit, public
 use Rattle.sn_publish.specs.Recipients.{puts_for}
 use Rattle.sn_deliver.specs.Serving.{publish_of, publish_in_at}
 use Rattle.sn_deliver.specs.Steps.{step}
-use Rattle.cause_laws.proofs.Acked.{none-there, plan-sends}
+use Rattle.put_laws.proofs.Acked.{none-there, plan-sends}
 use Rattle.put_laws.specs.Puts.{puts_at, puts_bound, puts_by_level, IsAnswered, IsPublished, HasReceived}
 use Rattle.put_laws.proofs.Putting.{step-messages}
 

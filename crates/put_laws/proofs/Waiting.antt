@@ -18,8 +18,8 @@ use Rattle.sn_plan.specs.Own.{IsFresh, AreFresh}
 use Rattle.sn_plan.proofs.Lists.{all-both}
 use Rattle.sn_plan.proofs.Standing.{fresh-stand}
 use Rattle.row_laws.proofs.Freshness.{IsUnacknowledged, plan-fresh, plan-unacked}
-use Rattle.cause_laws.proofs.Stepping.{step-cause}
-use Rattle.cause_laws.proofs.Timely.{tick-timely}
+use Rattle.put_laws.proofs.Stepping.{step-cause}
+use Rattle.put_laws.proofs.Timely.{tick-timely}
 use Rattle.put_laws.specs.Puts.{IsOfGateway, IsKept}
 use Rattle.put_laws.proofs.Putting.{of-draft}
 

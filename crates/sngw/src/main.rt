@@ -138,6 +138,7 @@ fn start<T, O: Write, E: Write>(
 where
     T: Env + Files<File = File> + Print + Eprint + Threads + Wait + Sync + Clock,
     T: Net<Listener = TcpListener, Stream = TcpStream>,
+    T::Dir: Send,
 {
     match words_of(rt, alloc) {
         Some(words) => start_with(rt, alloc, words, said, out, err),
@@ -157,6 +158,7 @@ fn start_with<T, O: Write, E: Write>(
 where
     T: Files<File = File> + Print + Eprint + Threads + Wait + Sync + Clock,
     T: Net<Listener = TcpListener, Stream = TcpStream>,
+    T::Dir: Send,
 {
     if asks_version(words.as_slice()) {
         drop(words);
@@ -183,6 +185,7 @@ fn start_as<T, O: Write, E: Write>(
 where
     T: Files<File = File> + Print + Eprint + Threads + Wait + Sync + Clock,
     T: Net<Listener = TcpListener, Stream = TcpStream>,
+    T::Dir: Send,
 {
     let settings = settings_at(rt, alloc, asked.config.as_str(), err);
     let shifts = asked.shifts;
@@ -210,6 +213,7 @@ fn start_by<T, O: Write, E: Write>(
 where
     T: Files<File = File> + Print + Eprint + Threads + Wait + Sync + Clock,
     T: Net<Listener = TcpListener, Stream = TcpStream>,
+    T::Dir: Send,
 {
     match disk_at(rt, alloc, settings, err) {
         Ok(disk) => match opened(alloc, settings, disk, out, err) {
@@ -243,6 +247,7 @@ fn work<T>(
 where
     T: Files<File = File> + Print + Eprint + Threads + Wait + Sync + Clock,
     T: Net<Listener = TcpListener, Stream = TcpStream>,
+    T::Dir: Send,
 {
     if shifts == 0 {
         drop(node);

@@ -40,6 +40,7 @@ pub(crate) fn run<T, R, D>(
 where
     T: Threads + Wait + Sync + Clock + Print + Eprint + Files<File = File>,
     T: Net<Listener = TcpListener, Stream = TcpStream>,
+    T::Dir: Send,
     R: Replica + Send,
     R::Staged: Send,
     D: Disk + Drop + Send,
@@ -231,6 +232,7 @@ fn run_beside<T, R, D>(
 where
     T: Threads + Wait + Sync + Clock + Print + Eprint + Files<File = File>,
     T: Net<Listener = TcpListener, Stream = TcpStream>,
+    T::Dir: Send,
     R: Replica + Send,
     R::Staged: Send,
     D: Disk + Drop + Send,
@@ -262,6 +264,7 @@ fn keep_and_show<T>(
 where
     T: Threads + Wait + Sync + Clock + Print + Eprint + Files<File = File>,
     T: Net<Listener = TcpListener, Stream = TcpStream>,
+    T::Dir: Send,
 {
     if !shared.board.is_watched {
         keep_all(rt, alloc, doors, &listeners.link, shared, over, said);

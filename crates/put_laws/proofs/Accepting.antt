@@ -31,10 +31,10 @@ use Rattle.sn_flow.specs.Accept.{cleared, accept, has_no_room}
 use Rattle.sn_flow.specs.Connection.{has_bit, request_of, refusal_of, connect_row, connect}
 use Rattle.sn_flow.specs.WillUpdate.{topic_asked}
 use Rattle.sn_flow.specs.Wills.{congestion, not_supported, will_of, dismissed, concluded, topic_given, topic_row, topic_in, topic_at, message_row, message_in, message_at}
-use Rattle.cause_laws.specs.Causes.{by_topic, gives_topic, by_message, gives_message, IsWelcome, BeganClean, IsCause}
-use Rattle.cause_laws.proofs.Acked.{none-there}
-use Rattle.cause_laws.proofs.Quiet.{QuietRow, stray-quiet}
-use Rattle.cause_laws.proofs.Fitting.{Cause, FitsRow, quiet-fits, heard-fits, choose-fits}
+use Rattle.put_laws.specs.Causes.{by_topic, gives_topic, by_message, gives_message, IsWelcome, BeganClean, IsCause}
+use Rattle.put_laws.proofs.Acked.{none-there}
+use Rattle.put_laws.proofs.Quiet.{QuietRow, stray-quiet}
+use Rattle.put_laws.proofs.Fitting.{Cause, FitsRow, quiet-fits, heard-fits, choose-fits}
 
 one-there : {X : Type 0} (x y : X) → Contains (x ∷ []) y → x ≡ y
 one-there x y there =

@@ -22,13 +22,13 @@ use Rattle.sn_exchange.specs.Exchanges.{is_served}
 use Rattle.sn_exchange.specs.Following.{peer_at, followed_by, followed_for}
 use Rattle.sn_deliver.specs.Steps.{row_for, step}
 use Rattle.step_laws.specs.Laws.{IsOfOneDone}
-use Rattle.cause_laws.specs.Causes.{sender_of, IsCause, IsSpent, IsForCause}
-use Rattle.cause_laws.proofs.Acked.{plan-acks, plan-sends, puts-acks}
-use Rattle.cause_laws.proofs.Grown.{Stays, follows-spend, follows-stay}
-use Rattle.cause_laws.proofs.Quiet.{QuietRow, other-quiet, disconnect-quiet, topic_update-quiet, message_update-quiet, register-quiet, subscribe-quiet, unsubscribe-quiet, publish-quiet, pubrel-quiet, wake-quiet}
-use Rattle.cause_laws.proofs.Fitting.{Caused, FitsFor, FitsRow, quiet-fits}
-use Rattle.cause_laws.proofs.Answering.{puback-fits, regack-fits, pubrec-fits, pubcomp-quiet}
-use Rattle.cause_laws.proofs.Accepting.{connect-fits, will_topic-fits, will_msg-fits}
+use Rattle.put_laws.specs.Causes.{sender_of, IsCause, IsSpent, IsForCause}
+use Rattle.put_laws.proofs.Acked.{plan-acks, plan-sends, puts-acks}
+use Rattle.put_laws.proofs.Grown.{Stays, follows-spend, follows-stay}
+use Rattle.put_laws.proofs.Quiet.{QuietRow, other-quiet, disconnect-quiet, topic_update-quiet, message_update-quiet, register-quiet, subscribe-quiet, unsubscribe-quiet, publish-quiet, pubrel-quiet, wake-quiet}
+use Rattle.put_laws.proofs.Fitting.{Caused, FitsFor, FitsRow, quiet-fits}
+use Rattle.put_laws.proofs.Answering.{puback-fits, regack-fits, pubrec-fits, pubcomp-quiet}
+use Rattle.put_laws.proofs.Accepting.{connect-fits, will_topic-fits, will_msg-fits}
 
 -- ---- every row
 

@@ -40,7 +40,7 @@ use Rattle.sn_deliver.specs.Serving.{publish_of, publish_in_at, pubrel_of}
 use Rattle.sn_deliver.specs.Waking.{claimed, answered, has_nothing, woken_by, woken_if, woken, wake_of, wake}
 use Rattle.sn_plan.proofs.Lists.{fold_one_more}
 use Rattle.row_laws.proofs.Keeping.{of_register, of_subscribe, of_unsubscribe, of_will_topic_update, of_will_msg_update}
-use Rattle.cause_laws.proofs.Grown.{IsServed}
+use Rattle.put_laws.proofs.Grown.{IsServed}
 
 -- a row for the client that the frame is from, or for nobody, that acknowledges nothing
 abbrev pub QuietFor : Seen → Option (List ℕ) → Option (List ℕ) → Drafted → Follow → Type 0

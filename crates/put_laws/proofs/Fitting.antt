@@ -12,9 +12,9 @@ use Rattle.sn_plan.specs.declared.row.Row.{Row}
 use Rattle.sn_plan.specs.Bound.{session_of}
 use Rattle.sn_plan.specs.Drafts.{Drafted, moved, session_after}
 use Rattle.sn_plan.specs.Rows.{heard_row}
-use Rattle.cause_laws.proofs.Acked.{none-there}
-use Rattle.cause_laws.proofs.Grown.{IsServed}
-use Rattle.cause_laws.proofs.Quiet.{QuietFor, QuietRow}
+use Rattle.put_laws.proofs.Acked.{none-there}
+use Rattle.put_laws.proofs.Grown.{IsServed}
+use Rattle.put_laws.proofs.Quiet.{QuietFor, QuietRow}
 
 -- a cause to acknowledge a message of a client, by the frames that are sent
 abbrev pub Cause : Type 1

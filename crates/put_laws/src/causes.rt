@@ -12,7 +12,7 @@ ghost use Rattle.sn_deliver.specs.Steps.{step};
 ghost use Rattle.sn_tick.specs.declared.due.Due.TheVariants.{Loss};
 ghost use Rattle.sn_tick.specs.Due.{first_due};
 ghost use Rattle.sn_tick.specs.Ticking.{tick};
-ghost use Rattle.cause_laws.specs.Causes.{IsForCause, IsTimely};
+ghost use Rattle.put_laws.specs.Causes.{IsForCause, IsTimely};
 
 /// A step acknowledges a message for a cause that the client gave, or because Delivery is done with
 /// it. By a frame only messages are acknowledged that wait for the client that it is from: all of

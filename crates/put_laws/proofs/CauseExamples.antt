@@ -16,8 +16,8 @@ use Rattle.sn_local.specs.Timers.{started}
 use Rattle.sn_plan.specs.Numbering.{write, planned}
 use Rattle.sn_flow.proofs.Rows.{s1, seven, session_of_s1, bound_seven, first_take}
 use Rattle.sn_deliver.specs.Steps.{step}
-use Rattle.cause_laws.specs.Causes.{sender_of, IsCause, IsForCause}
-use Rattle.cause_laws.proofs.Stepping.{step-cause}
+use Rattle.put_laws.specs.Causes.{sender_of, IsCause, IsForCause}
+use Rattle.put_laws.proofs.Stepping.{step-cause}
 
 -- a message of quality of service 2 that waits for the client
 abbrev waiting : Put

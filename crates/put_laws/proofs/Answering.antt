@@ -23,9 +23,9 @@ use Rattle.sn_exchange.specs.Exchanges.{same_name, message_of, open_exchange}
 use Rattle.sn_exchange.specs.Following.{peer_at}
 use Rattle.sn_deliver.specs.Acknowledging.{same_phase, if_awaits, awaiting, put_of, put_awaiting, done, entry_published, forgotten, puback_of, is_at_two, awaiting_pubrec, pubrec_again, pubrec_of, pubcomp_of, registered, regack_of}
 use Rattle.sn_deliver.specs.Serving.{ack_of}
-use Rattle.cause_laws.specs.Causes.{AnswersFor, IsRefusal, IsCause}
-use Rattle.cause_laws.proofs.Quiet.{QuietRow}
-use Rattle.cause_laws.proofs.Fitting.{AreCaused, FitsRow, none-caused, one-caused, choose-caused}
+use Rattle.put_laws.specs.Causes.{AnswersFor, IsRefusal, IsCause}
+use Rattle.put_laws.proofs.Quiet.{QuietRow}
+use Rattle.put_laws.proofs.Fitting.{AreCaused, FitsRow, none-caused, one-caused, choose-caused}
 
 same_phase-true : (p q : Phase) → same_phase p q ≡ true → p ≡ q
 same_phase-true Registering Registering h = refl

@@ -32,9 +32,9 @@ use Rattle.sn_tick.specs.Due.{elapsed, is_overdue, due_exchange, due_by, due_at,
 use Rattle.sn_tick.specs.Ticking.{is_old, dialog_ended, dialogs_ended, needs_timer, timer_begun, cleaned, may_advertise, advertised, lost, plan_due, plan_if_due, tick}
 use Rattle.step_laws.specs.Laws.{IsOfOneDone}
 use Rattle.step_laws.proofs.Keeping.{fold_keeps}
-use Rattle.cause_laws.specs.Causes.{IsTimely}
-use Rattle.cause_laws.proofs.Acked.{none-there, plan-acks, plan-sends}
-use Rattle.cause_laws.proofs.Grown.{to-served, follows-spend}
+use Rattle.put_laws.specs.Causes.{IsTimely}
+use Rattle.put_laws.proofs.Acked.{none-there, plan-acks, plan-sends}
+use Rattle.put_laws.proofs.Grown.{to-served, follows-spend}
 
 -- a plan without operations acknowledges nothing
 without-acks : (d : Drafted) (plan : Plan) → Some (plan_without d) ≡ Some plan → (e : List ℕ) (name : ℕ × ℕ) → is_acknowledged e plan.ops name ≡ true → ⊥
