@@ -41,7 +41,7 @@ ALSO = {"gw_world": ["laws"]}
 # Crates that are not for everybody who may use their group. A name is a group or a crate.
 ONLY_FOR = {
     "rep_plain": ["simulator", "gw_sim", "tests and benchmarks"],
-    "gw_world": ["laws of fields", "simulator", "refusal_rows"],
+    "gw_world": ["laws of fields", "simulator", "call_rows"],
 }
 
 

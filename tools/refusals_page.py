@@ -1,5 +1,5 @@
 #!/usr/bin/env python3
-"""Writes docs/REFUSALS.md: the faults of each call of refusal_rows, and the clauses about them.
+"""Writes docs/REFUSALS.md: the faults of each call of call_rows, and the clauses about them.
 
     python3 tools/refusals_page.py            writes the page
     python3 tools/refusals_page.py --check    compares it; exits 1 and says what differs
@@ -30,7 +30,7 @@ say when each comes; and the clauses that say what stands after it.
 - A refused opening may have synced its slots, cut a torn record away, or begun a journal.
 
 `tools/refusals.py` shows the rest: it refuses each growth of memory in the row of that name, in
-both builds of `refusal_rows`. With ample memory no row answers `Memory`. With one growth refused
+both builds of `call_rows`. With ample memory no row answers `Memory`. With one growth refused
 the call says so in its own type, or its disk fails and says that it was starved. What the row looks
 at is then as before, and the same call succeeds at once.
 """
@@ -115,7 +115,7 @@ FAULTS = {
     "gw_shift::Shift::after": "Behind, Memory | err | reads",
     "gw_shift::Shift::glance": ROW,
     "gw_shift::Shift::messages_known": ROW,
-    "gw_tally::tally": "Memory | type | reads",
+    "gw_shift::tally": "Memory | type | reads",
     "gw_net::LinkIn::feed": "Failed, Memory | failed, err | unchanged",
     "gw_net::link_out": "Memory, Write | fault | fault",
     "gw_page::page": "Memory | type | reads",

@@ -5,3 +5,4 @@ pub mod Passes
 pub mod Calling
 pub mod Closing
 pub mod inner
+pub mod Tallies

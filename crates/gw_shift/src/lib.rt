@@ -18,12 +18,15 @@
 //!   outside.
 //! - `closing`: whether passes hold the calls of a history.
 //! - `fault`: why something is refused.
+//! - `tallying`: how many calls of each kind a closed history has, by answer. The history was compared
+//!   with its passes, so these numbers are exact; they are late by one shift.
 //! - `laws`: passes that account for a history have no stranger among them, and one that made no
 //!   call may be left out.
 //!
 //! The definitions are in `specs/`: `Calls` (a call, and what contracts see of a pass), `Legal` (a
 //! legal history), `Passes` (what passes hold, and which deltas calls made), `Calling` (what a call
-//! leaves), `Closing` (when passes and history agree).
+//! leaves), `Closing` (when passes and history agree), `Tallies` (the calls of a history by kind and
+//! answer).
 //!
 //! `gw_node` is passed on, since types of it stand in ours.
 #![tactic(auto)]
@@ -38,6 +41,7 @@ mod laws;
 mod locked;
 mod pass;
 mod shift;
+mod tallying;
 
 pub use ended::{Closed, Ended};
 pub use entry::Entry;
@@ -46,3 +50,4 @@ pub use gw_node;
 pub use laws::{strangers_are_not_known, unused_passes_may_go};
 pub use pass::Pass;
 pub use shift::{MAX_STEPS, Shift};
+pub use tallying::tally;

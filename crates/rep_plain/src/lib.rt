@@ -1,7 +1,7 @@
 //! The plain replica of a set of operations (`Plain`).
 //!
 //! It keeps every operation of a client that it has taken, client by client, and beside them the
-//! view that they give; of topics what was retained last (`rep_whole`). Operations are taken in two
+//! view that they give; of topics what was retained last (`rep_retain`). Operations are taken in two
 //! steps: `prepare` finds out what of it is new, works out fresh entries for the clients of the new
 //! operations, and makes places for clients that had none; `commit` moves the entries into their
 //! places, for which no memory is needed. What brings nothing new costs nothing but the look-ups.
@@ -35,7 +35,7 @@ mod waiting;
 
 pub use plain::{PlainClients, Staged};
 pub use rep_model::{ClientView, Limit, Puts, Replica, TakeFault};
-pub use rep_whole::Whole;
+pub use rep_retain::Whole;
 
 /// The plain replica: the plain one of clients, and a table of topics.
 pub type Plain = Whole<PlainClients>;

@@ -1,6 +1,6 @@
 //! The folded replica of a set of operations (`Folded`): it forgets what no answer needs.
 //!
-//! Of topics what was retained last is held (`rep_whole`). Of a client only what must be kept is
+//! Of topics what was retained last is held (`rep_retain`). Of a client only what must be kept is
 //! held (`rep_entry`): the session operations of the visible stamp and those above it, which wait
 //! for their Take; the messages that wait, in the order of delivery; and per origin the
 //! acknowledged numbers as ranges. The view and the counts stand beside them, and are never worked
@@ -40,7 +40,7 @@ mod table;
 
 pub use octets::NoMemory;
 pub use rep_model::{ClientView, Limit, Puts, Replica, TakeFault};
-pub use rep_whole::Whole;
+pub use rep_retain::Whole;
 pub use replica::{FoldedClients, Staged};
 
 /// The folded replica: the folded one of clients, and a table of topics.

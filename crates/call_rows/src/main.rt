@@ -1,0 +1,104 @@
+//! Rows of what no clause says of the libraries' calls: that they succeed, and the octets.
+//!
+//! Standard input holds lines. Those in front of the first line that begins with `=== ` name calls,
+//! each to be played with a growth of memory refused (`refusals`): what a call prints is printed at
+//! once. From that line on stand rows of datagrams, sets and streams (`sets`): they are played on
+//! both replicas after the last line is read.
+//!
+//! The heads of `refusals.rt` and `sets.rt` have the words.
+#![tactic(auto)]
+
+mod refusals;
+mod sets;
+
+use std::fs::{File, Files};
+use std::io::{self, ErrorKind, Input};
+use std::process::ExitCode;
+use std::sync::Wait;
+use std::thread::Threads;
+
+/// What a heading begins with.
+const HEADING: &str = "=== ";
+
+fn main(rt: HostRuntime) -> ExitCode {
+    match play_input(&rt) {
+        Ok(()) => ExitCode::SUCCESS,
+        Err(error) => {
+            let _ = eprintln!(&rt; "call_rows: {error}");
+            ExitCode::FAILURE
+        }
+    }
+}
+
+/// Plays standard input.
+fn play_input<T>(rt: &T) -> io::Result<()>
+where
+    T: Threads + Wait + Sync + Files<File = File> + Input + Print + Eprint + AllocGlobal,
+{
+    let mut rows = Vec::new(rt.alloc());
+    let read = read_lines(rt, &mut rows);
+    let played = play_rows(rt, read, &rows);
+    drop(rows);
+    played
+}
+
+/// Plays the rows, if there are any and all lines were read.
+fn play_rows<T>(rt: &T, read: io::Result<()>, rows: &[String]) -> io::Result<()>
+where
+    T: Print + AllocGlobal,
+{
+    if read.is_err() || rows.is_empty() {
+        read
+    } else {
+        drop(read);
+        sets::play(rt, rows)
+    }
+}
+
+/// Reads all lines, plays those in front of the first heading, and keeps the others.
+fn read_lines<T>(rt: &T, rows: &mut Vec<String>) -> io::Result<()>
+where
+    T: Threads + Wait + Sync + Files<File = File> + Input + Print + Eprint + AllocGlobal,
+{
+    for line in rt.lines(rt.alloc()) {
+        take_read(rt, rows, line)?;
+    }
+    Ok(())
+}
+
+/// Plays or keeps a line that is read.
+fn take_read<T>(rt: &T, rows: &mut Vec<String>, line: io::Result<String>) -> io::Result<()>
+where
+    T: Threads + Wait + Sync + Files<File = File> + Print + Eprint + AllocGlobal,
+{
+    match line {
+        Ok(line) => take_line(rt, rows, line),
+        Err(error) => Err(error),
+    }
+}
+
+/// Plays or keeps a line.
+fn take_line<T>(rt: &T, rows: &mut Vec<String>, line: String) -> io::Result<()>
+where
+    T: Threads + Wait + Sync + Files<File = File> + Print + Eprint + AllocGlobal,
+{
+    if rows.is_empty() && !line.starts_with(HEADING) {
+        let played = refusals::play_line(rt, line.as_str());
+        drop(line);
+        played
+    } else {
+        keep(rows, line)
+    }
+}
+
+/// Keeps a line.
+fn keep(rows: &mut Vec<String>, line: String) -> io::Result<()> {
+    let pushed = rows.push(line);
+    let is_short = pushed.is_err();
+    drop(pushed);
+    if is_short {
+        Err(io::Error::from(ErrorKind::OutOfMemory))
+    } else {
+        Ok(())
+    }
+}

@@ -1,0 +1,52 @@
+//! Octets of a line about datagrams.
+
+use crate::sets::words::Words;
+
+/// The octets that the words write which are left, one after the other.
+pub(crate) fn octets(words: &mut Words<'_>) -> Vec<u8> {
+    let mut octets = Vec::new(words.alloc);
+    for _ in 0..words.left() {
+        add_field(words, &mut octets);
+    }
+    octets
+}
+
+/// The octets that the next word writes.
+pub(crate) fn field(words: &mut Words<'_>) -> Vec<u8> {
+    let mut octets = Vec::new(words.alloc);
+    add_field(words, &mut octets);
+    octets
+}
+
+/// Adds the octets that the next word writes: `-` none, a text after an apostrophe, or hexadecimal
+/// digits.
+fn add_field(words: &mut Words<'_>, octets: &mut Vec<u8>) {
+    let word = words.word();
+    if word == "-" {
+        return;
+    }
+    match word.strip_prefix('\'') {
+        Some(text) => words.extend(octets, text.as_bytes()),
+        None => add_digits(words, octets, word),
+    }
+}
+
+/// Adds the octets of hexadecimal digits, or of these after how often they stand.
+fn add_digits(words: &mut Words<'_>, octets: &mut Vec<u8>, word: &str) {
+    match word.split_once('x') {
+        Some((times, digits)) => {
+            let times = words.number_of(times);
+            add_times(words, octets, times, digits);
+        }
+        None => add_times(words, octets, 1, word),
+    }
+}
+
+/// Adds the octets of hexadecimal digits, so often.
+fn add_times(words: &mut Words<'_>, octets: &mut Vec<u8>, times: u64, digits: &str) {
+    let some = words.digits_of(digits);
+    for _ in 0..times {
+        words.extend(octets, &some);
+    }
+    drop(some);
+}

@@ -1,4 +1,0 @@
-pub mod Refusing
-pub mod Held
-pub mod Telling
-pub mod Topical
