@@ -51,7 +51,7 @@ where
         read
     } else {
         drop(read);
-        sets::play(rt, rows)
+        sets::play_rows(rt, rows)
     }
 }
 

@@ -206,7 +206,7 @@ struct Begun<R: Replica> {
 }
 
 /// Plays rows on both replicas, and writes what that prints, unless memory runs out.
-pub(crate) fn play<T: Print + AllocGlobal>(rt: &T, lines: &[String]) -> io::Result<()> {
+pub(crate) fn play_rows<T: Print + AllocGlobal>(rt: &T, lines: &[String]) -> io::Result<()> {
     let page = print_both(rt.alloc(), lines);
     let written = write(rt, &page);
     drop(page);

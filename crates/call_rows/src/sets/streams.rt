@@ -17,11 +17,11 @@ const SCRIPT: &[u8] = b"gateway 0\n";
 
 /// A reader that gives so many pieces of three line feeds, and then fails.
 #[derive(Drop)]
-struct Broken {
+struct Failing {
     left: u8,
 }
 
-impl Read for Broken {
+impl Read for Failing {
     fn read(&mut self, buf: &mut [u8]) -> io::Result<usize> {
         if self.left == 0 || buf.len() < 3 {
             return Err(io::Error::from(ErrorKind::Other));
@@ -57,11 +57,11 @@ impl Write for Full {
 
 /// A source of line feeds that never ends.
 #[derive(Drop)]
-struct Endless {
+struct Unending {
     made: u64,
 }
 
-impl Source for Endless {
+impl Source for Unending {
     ghost reads = { λ s. s.made };
 
     fn read(&mut self, buf: &mut [u8]) -> io::Result<usize> {
@@ -89,7 +89,7 @@ fn broken(page: &mut Page, words: &mut Words<'_>) {
     let left = words.octet();
     if words.end() {
         let mut printed = Vec::new(page.alloc);
-        let mut source = Counted::new(Broken { left });
+        let mut source = Counted::new(Failing { left });
         let status = play_script(page.alloc, &mut source, &mut printed);
         drop(source);
         tell(page, status, printed.len());
@@ -100,7 +100,7 @@ fn broken(page: &mut Page, words: &mut Words<'_>) {
 /// A source never ends.
 fn endless(page: &mut Page, words: &mut Words<'_>) {
     if words.end() {
-        let mut source = Endless { made: 0 };
+        let mut source = Unending { made: 0 };
         let read = read_all(page.alloc, &mut source);
         page.either(
             matches!(&read, Err(ReadFault::Endless)),
