@@ -8,7 +8,8 @@ unpacked into the trial's folder; no service of the machine is started. If it ca
 
 Each message has a number. What a sensor was told PUBACK 0 for has to come to the reader at the broker, and what the publisher at the broker was told
 PUBACK for has to come to the actor in the field, or into the file of refused commands. What comes twice is counted. mosquitto may lose, at a kill,
-what it acknowledged within the last seconds: that is counted apart.
+what it acknowledged within the last seconds: that is counted apart. Where programs are killed, a relay between bridge and mosquitto notes what
+mosquitto acknowledged, and when. If a part fails, the folder of the trial stays.
 """
 import argparse
 import os
@@ -133,6 +134,74 @@ class Peer:
         self.is_over = True
         if self.socket:
             self.socket.shutdown(socket.SHUT_RDWR)
+
+
+class Relay:
+    """Stands between the bridge and the broker, and hands on each octet. It notes when the broker acknowledged which publication, before the bridge hears it."""
+
+    def __init__(self, port: int):
+        self.port, self.server = port, socket.create_server((HOST, 0))
+        self.acked = {}  # by topic and message, the moments of the PUBACKs
+        threading.Thread(target=self.run, daemon=True).start()
+
+    def run(self) -> None:
+        while True:
+            try:
+                bridge, _ = self.server.accept()
+            except OSError:
+                return
+            try:
+                broker = socket.create_connection((HOST, self.port), 5)
+            except OSError:
+                bridge.close()
+                continue
+            sent = {}
+            for line in (bridge, broker):
+                line.settimeout(None)
+                line.setsockopt(socket.IPPROTO_TCP, socket.TCP_NODELAY, 1)
+            for source, target in ((bridge, broker), (broker, bridge)):
+                threading.Thread(target=self.hand_on, args=(source, target, sent), daemon=True).start()
+
+    def hand_on(self, source, target, sent: dict) -> None:
+        octets = b""
+        try:
+            while came := source.recv(65535):
+                octets = self.note(octets + came, sent)
+                target.sendall(came)
+        except OSError:
+            pass
+        for line in (source, target):
+            try:
+                line.shutdown(socket.SHUT_RDWR)
+            except OSError:
+                pass
+
+    def note(self, octets: bytes, sent: dict) -> bytes:
+        """Notes whole packets; what is left is the begin of one."""
+        while len(octets) > 1:
+            size, at = 0, 1
+            while at < len(octets):
+                size |= (octets[at] & 127) << 7 * (at - 1)
+                at += 1
+                if octets[at - 1] < 128:
+                    break
+            else:
+                return octets
+            if len(octets) < at + size:
+                return octets
+            self.note_one(octets[0], octets[at:at + size], sent)
+            octets = octets[at + size:]
+        return octets
+
+    def note_one(self, first: int, body: bytes, sent: dict) -> None:
+        if first >> 4 == 3 and first & 6:
+            size = int.from_bytes(body[:2], "big")
+            sent[body[2 + size:4 + size]] = body[2:2 + size], body[4 + size:]
+        elif first >> 4 == 4 and body in sent:
+            self.acked.setdefault(sent[body], []).append(time.monotonic())
+
+    def close(self) -> None:
+        self.server.close()
 
 
 # ---- MQTT-SN 1.2
@@ -316,9 +385,11 @@ class Scene:
 
     names = [b"t/heat", b"t/cold", b"t/wind", b"t/rain"]
 
-    def __init__(self, bridge: str, sngw: str, broker: tuple, folder: str, lanes: int = 2, names: tuple = (), spools: bool = False, **more: str):
+    def __init__(self, bridge: str, sngw: str, broker: tuple, folder: str, lanes: int = 2, names: tuple = (), spools: bool = False, relays: bool = False,
+                 **more: str):
         self.folder, self.spools = tempfile.mkdtemp(dir=folder), spools
         self.broker_port = free_ports(1)[0]
+        self.relay = Relay(self.broker_port) if relays else None
         self.gateway = Gateway(sngw, self.folder, 1, **more)
         self.names = list(names) or Scene.names
         self.settings = os.path.join(self.folder, "b1.toml")
@@ -336,9 +407,13 @@ class Scene:
                     it.write("user root\n")
             self.broker = Process([broker[0], "-c", config], self.folder, "mosquitto", broker[1])
 
+    def port_of_bridge(self) -> int:
+        """Where the bridge finds the broker."""
+        return self.relay.server.getsockname()[1] if self.relay else self.broker_port
+
     def text(self, lanes: int) -> str:
         names = ", ".join(f'"{it.decode()}"' for it in self.names)
-        return (f'name = "b1"\ngateways = ["{HOST}:{self.gateway.port}"]\nbroker = "{HOST}:{self.broker_port}"\nclient = "nimhazel-b1"\n'
+        return (f'name = "b1"\ngateways = ["{HOST}:{self.gateway.port}"]\nbroker = "{HOST}:{self.port_of_bridge()}"\nclient = "nimhazel-b1"\n'
                 f'lanes = {lanes}\nrefused = "{self.refused}"\n' + (f'spool = "{self.folder}/spool"\n' if self.spools else "") + f'[[up]]\ntopics = [{names}]\nshort = ["qa"]\nto = "field/1/"\n'
                 f'[[down]]\nfilter = "cmd/1/act/#"\nstrip = "cmd/1/"\n')
 
@@ -357,6 +432,8 @@ class Scene:
         self.bridge.kill()
         if self.broker:
             self.broker.kill()
+        if self.relay:
+            self.relay.close()
         self.gateway.kill()
 
 
@@ -693,7 +770,7 @@ def spooled_kills(bridge: str, sngw: str, broker: tuple, folder: str, words) -> 
 def kills(bridge: str, sngw: str, broker: tuple, folder: str, words, spools: bool = False) -> str:
     """The bridge, the broker and the gateway are killed in turn: nothing that was acknowledged is lost."""
     dice = random.Random(words.seed)
-    with Scene(bridge, sngw, broker, folder, spools=spools) as scene:
+    with Scene(bridge, sngw, broker, folder, spools=spools, relays=True) as scene:
         reader, writer = Peer(scene.broker_port, b"reader", (b"field/#",)), Peer(scene.broker_port, b"writer")
         actor, is_over, killed, sent = Node(scene.gateway, b"actor"), [], [], {}
         actor.connect()
@@ -756,22 +833,40 @@ def kills(bridge: str, sngw: str, broker: tuple, folder: str, words, spools: boo
         expect(not faults, f"{faults}")
         end = time.monotonic() + 180
         while time.monotonic() < end:
-            lost = lost_of(sent, reader, actor, killed)
+            lost = lost_of(sent, reader, actor, killed, scene.relay.acked)
             if not lost[0] and not lost[1]:
                 break
             time.sleep(1)
         is_over[0] = 2
-        expect(not lost[0], f"{len(lost[0])} acknowledged messages are lost, among them {sorted(lost[0])[:5]}; kept in {scene.folder}")
+        if lost[0]:
+            write_story(os.path.join(scene.folder, "story"), lost, sent, reader, actor, killed, scene.relay.acked)
+        expect(not lost[0], f"{len(lost[0])} acknowledged messages are lost, among them {sorted(lost[0])[:5]}; see {scene.folder}/story")
         twice = len(reader.came) + len(actor.came) - len({(topic, body) for topic, body, _ in reader.came}) - len({(name, body) for name, body, _ in actor.came})
         return f"{words.kills} kills, {len(sent)} messages, none lost but {len(lost[1])} that mosquitto acknowledged within {SAVED:.0f} seconds of its kill, {twice} twice"
 
 
-def lost_of(sent: dict, reader: Peer, actor: Node, killed: list) -> tuple:
-    """What was acknowledged and did not come: what is a fault, and what mosquitto may have lost."""
+def lost_of(sent: dict, reader: Peer, actor: Node, killed: list, acked: dict) -> tuple:
+    """What was acknowledged and did not come: what is a fault, and what mosquitto acknowledged and may have lost. It acknowledges readings to the bridge, and
+    commands to the writer."""
     came = {(topic.removeprefix(b"field/1/"), int(body)) for topic, body, _ in reader.came} | {(name, int(body)) for name, body, _ in actor.came}
     lost = {it for it in sent if it not in came}
-    brokers = {it for it in lost if any(-SAVED < moment - sent[it] < SAVED for moment in killed)}
+
+    def moments(name: bytes, at: int) -> list:
+        return [sent[name, at]] if name == b"act/lamp" else acked.get((b"field/1/" + name, b"%d" % at), [])[-1:]
+
+    brokers = {it for it in lost if any(0 <= kill - moment < SAVED for moment in moments(*it) for kill in killed)}
     return lost - brokers, brokers
+
+
+def write_story(path: str, lost: tuple, sent: dict, reader: Peer, actor: Node, killed: list, acked: dict) -> None:
+    """What is known of each message, for who looks for one that is lost."""
+    with open(path, "w", encoding="utf-8") as it:
+        it.write(f"lost {sorted(lost[0])}\nlost by mosquitto {sorted(lost[1])}\n")
+        lines = [(moment, "mosquitto is killed") for moment in killed] + [(moment, f"{name.decode()} {at} acknowledged") for (name, at), moment in sent.items()]
+        lines += [(moment, f"{name.decode()} {body.decode()} came") for name, body, moment in [*reader.came, *actor.came]]
+        lines += [(moment, f"{name.decode()} {body.decode()} acknowledged by mosquitto") for (name, body), moments in acked.items() for moment in moments]
+        for moment, line in sorted(lines):
+            it.write(f"{moment:.3f} {line}\n")
 
 
 PARTS = {"settings": settings, "names": names, "through": through, "retained": retained, "predefined": predefined, "away": away, "spool": spool, "full": full,
@@ -792,19 +887,22 @@ def main() -> int:
     words.add_argument("--seed", type=int, default=1)
     words = words.parse_args()
     bridge, sngw = os.path.abspath(words.program), os.path.abspath(words.sngw)
-    status = 0
-    with tempfile.TemporaryDirectory() as folder:
-        broker, why = broker_program(folder)
-        if not broker:
-            print(f"mosquitto cannot be had: {why}; only {' and '.join(WITHOUT_BROKER)} are tried")
-        for name in words.parts or PARTS:
-            if not broker and name not in WITHOUT_BROKER:
-                continue
-            try:
-                print(f"{name:13} {PARTS[name](bridge, sngw, broker, folder, words)}", flush=True)
-            except Failed as fault:
-                print(f"{name:13} FAILED: {fault}", flush=True)
-                status = 1
+    status, folder = 0, tempfile.mkdtemp()
+    broker, why = broker_program(folder)
+    if not broker:
+        print(f"mosquitto cannot be had: {why}; only {' and '.join(WITHOUT_BROKER)} are tried")
+    for name in words.parts or PARTS:
+        if not broker and name not in WITHOUT_BROKER:
+            continue
+        try:
+            print(f"{name:13} {PARTS[name](bridge, sngw, broker, folder, words)}", flush=True)
+        except Failed as fault:
+            print(f"{name:13} FAILED: {fault}", flush=True)
+            status = 1
+    if status:
+        print(f"what the programs left is in {folder}")
+    else:
+        shutil.rmtree(folder, ignore_errors=True)
     return status
 
 
