@@ -45,6 +45,7 @@ prove:
 test:
 	python3 rows/join_rows.py --check
 	python3 tools/layers.py --check
+	python3 tools/names.py
 	python3 tools/trust.py --check
 	python3 tools/voice.py
 	python3 tools/links.py

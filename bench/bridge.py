@@ -4,36 +4,49 @@
 Usage: bridge.py PROGRAM SNGW [--many N] [--spool]
 
 While the broker is away, so many readings wait for each lane, at most 1,000; then it comes back, and the time from the first to the last one at the
-broker's reader counts. A plain round trip is a publication at quality of service 1 and its PUBACK, to the gateway and to the broker, one after the
-other. The goals are 0.7 of what both round trips add up to for one lane, and three times as much for four lanes.
+broker's reader counts. A plain round trip is a publication at quality of service 1 and its PUBACK: to the gateway, where a client sleeps that gets it,
+and to the broker, whose reader gets it, one after the other. The goals are 0.7 of what both round trips add up to for one lane, and three times as much for four lanes.
 """
 import argparse
 import os
 import pathlib
 import signal
+import socket
 import sys
 import tempfile
 import time
 
 sys.path.insert(0, str(pathlib.Path(__file__).resolve().parent.parent / "trials"))
-from bridge import Node, Peer, Scene, broker_program, count_of  # noqa: E402
-from gateway import Failed, until  # noqa: E402
+from bridge import Node, Peer, Scene, broker_program, count_of, packet, text  # noqa: E402
+from gateway import HOST, Failed, frame, number, until  # noqa: E402
 
 
-def plain(scene: Scene, many: int) -> float:
-    """The seconds of a round trip to the gateway and of one to the broker, together."""
-    sensor, writer = Node(scene.gateway, b"plain"), Peer(scene.broker_port, b"plain")
+def plain_to_gateway(scene: Scene, many: int) -> float:
+    """The seconds of a round trip to the gateway, which keeps each message for one client that sleeps."""
+    sleeper, sensor = Node(scene.gateway, b"sleeper"), Node(scene.gateway, b"plain")
+    sleeper.connect()
+    sleeper.listen(b"t/plain")
+    sleeper.ask(frame(0x18, number(6000)), 0x18)
     sensor.connect()
-    until(lambda: writer.socket, 10, "the writer did not connect")
-    sensor.publish(b"t/none", b"0")
+    sensor.id_of(b"t/plain")
     began = time.monotonic()
     for at in range(many):
-        sensor.publish(b"t/none", b"%d" % at)
-    middle = time.monotonic()
-    for at in range(many):
-        writer.publish(b"none", b"%d" % at)
-    writer.close()
-    return (time.monotonic() - began) / many if middle else 0.0
+        sensor.publish(b"t/plain", b"%d" % at)
+    return (time.monotonic() - began) / many
+
+
+def plain_to_broker(scene: Scene, many: int) -> float:
+    """The seconds of a round trip to the broker. Its reader gets each message."""
+    with socket.create_connection((HOST, scene.broker_port), 5) as line:
+        line.setsockopt(socket.IPPROTO_TCP, socket.TCP_NODELAY, 1)
+        line.sendall(packet(0x10, text(b"MQTT") + bytes([4, 2]) + number(0) + text(b"plain")))
+        octets = line.makefile("rb")
+        octets.read(4)
+        began = time.monotonic()
+        for at in range(many):
+            line.sendall(packet(0x32, text(b"field/plain") + number(at + 1) + b"%d" % at))
+            octets.read(4)
+        return (time.monotonic() - began) / many
 
 
 def rate(words, folder: str, broker: tuple, lanes: int) -> tuple:
@@ -41,7 +54,8 @@ def rate(words, folder: str, broker: tuple, lanes: int) -> tuple:
     with Scene(words.program, words.sngw, broker, folder, lanes, spools=words.spool) as scene:
         reader = Peer(scene.broker_port, b"reader", (b"field/#",))
         scene.ready()
-        trip = plain(scene, words.many)
+        until(lambda: reader.socket, 10, "the reader did not connect")
+        trip = plain_to_gateway(scene, words.many) + plain_to_broker(scene, words.many)
         scene.broker.kill(signal.SIGTERM)
         time.sleep(1)
         sensor = Node(scene.gateway, b"s0")
@@ -52,7 +66,7 @@ def rate(words, folder: str, broker: tuple, lanes: int) -> tuple:
                 sensor.publish(name, b"%d" % at)
         scene.broker.start()
         until(lambda: all(len(set(count_of(reader.came, b"field/1/" + name))) >= words.many for name in names), 300, "readings are missing")
-        moments = [moment for _, _, moment in reader.came]
+        moments = [moment for topic, _, moment in reader.came if topic != b"field/plain"]
         return len(names) * words.many / (max(moments) - min(moments)), trip
 
 
