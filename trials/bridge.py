@@ -28,6 +28,7 @@ import time
 from gateway import HOST, Failed, Gateway, connect, expect, frame, free_ports, number, opened, published, register, subscribe, until, with_the_starter
 
 SAVED = 3.0  # seconds after which mosquitto has surely saved what it acknowledged
+NOTED = 0.1  # seconds after which a PUBACK that has come is surely noted; a broker that was started has not said one by then
 SUBACK = b"\x90\x03\x00\x01\x01"  # the answer to the only filter of a scene
 ENDLESS = 1 << 40  # octets of a file; who passes such a limit is told, and not killed
 AHEAD = 100  # messages of a name that may be on their way while programs are killed
@@ -820,9 +821,10 @@ def kills(bridge: str, sngw: str, broker: tuple, folder: str, words, spools: boo
                 scene.bridge.kill()
                 scene.bridge.start()
             elif which == 1:
-                killed.append(time.monotonic())
+                began = time.monotonic()
                 scene.broker.kill()
                 time.sleep(dice.uniform(0.0, 0.5))
+                killed.append((began, time.monotonic()))
                 scene.broker.start()
             else:
                 scene.gateway.kill()
@@ -846,15 +848,15 @@ def kills(bridge: str, sngw: str, broker: tuple, folder: str, words, spools: boo
 
 
 def lost_of(sent: dict, reader: Peer, actor: Node, killed: list, acked: dict) -> tuple:
-    """What was acknowledged and did not come: what is a fault, and what mosquitto acknowledged and may have lost. It acknowledges readings to the bridge, and
-    commands to the writer."""
+    """What was acknowledged and did not come: what is a fault, and what mosquitto acknowledged shortly before it was killed, and may have lost. It
+    acknowledges readings to the bridge, and commands to the writer."""
     came = {(topic.removeprefix(b"field/1/"), int(body)) for topic, body, _ in reader.came} | {(name, int(body)) for name, body, _ in actor.came}
     lost = {it for it in sent if it not in came}
 
     def moments(name: bytes, at: int) -> list:
         return [sent[name, at]] if name == b"act/lamp" else acked.get((b"field/1/" + name, b"%d" % at), [])[-1:]
 
-    brokers = {it for it in lost if any(0 <= kill - moment < SAVED for moment in moments(*it) for kill in killed)}
+    brokers = {it for it in lost if any(began - SAVED < moment < ended + NOTED for moment in moments(*it) for began, ended in killed)}
     return lost - brokers, brokers
 
 
@@ -862,7 +864,8 @@ def write_story(path: str, lost: tuple, sent: dict, reader: Peer, actor: Node, k
     """What is known of each message, for who looks for one that is lost."""
     with open(path, "w", encoding="utf-8") as it:
         it.write(f"lost {sorted(lost[0])}\nlost by mosquitto {sorted(lost[1])}\n")
-        lines = [(moment, "mosquitto is killed") for moment in killed] + [(moment, f"{name.decode()} {at} acknowledged") for (name, at), moment in sent.items()]
+        lines = [(began, "mosquitto is killed") for began, _ in killed] + [(ended, "mosquitto is started") for _, ended in killed]
+        lines += [(moment, f"{name.decode()} {at} acknowledged") for (name, at), moment in sent.items()]
         lines += [(moment, f"{name.decode()} {body.decode()} came") for name, body, moment in [*reader.came, *actor.came]]
         lines += [(moment, f"{name.decode()} {body.decode()} acknowledged by mosquitto") for (name, body), moments in acked.items() for moment in moments]
         for moment, line in sorted(lines):
