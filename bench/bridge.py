@@ -1,11 +1,13 @@
 #!/usr/bin/env python3
 """How many readings a second the bridge brings from a gateway to mosquitto, by one lane and by four, beside plain round trips to both.
 
-Usage: bridge.py PROGRAM SNGW [--many N] [--spool]
+Usage: bridge.py PROGRAM SNGW [--many N] [--spool] [--saves]
 
 While the broker is away, so many readings wait for each lane, at most 1,000; then it comes back, and the time from the first to the last one at the
 broker's reader counts. A plain round trip is a publication at quality of service 1 and its PUBACK: to the gateway, where a client sleeps that gets it,
-and to the broker, whose reader gets it, one after the other. The goals are 0.7 of what both round trips add up to for one lane, and three times as much for four lanes.
+and to the broker, whose reader gets it, one after the other. The goals are 0.7 of what both round trips add up to for one lane, and three times as much for
+four lanes.
+With --saves mosquitto saves all it has on each change, one message at a time: then it sets the pace, for any number of lanes.
 """
 import argparse
 import os
@@ -51,7 +53,7 @@ def plain_to_broker(scene: Scene, many: int) -> float:
 
 def rate(words, folder: str, broker: tuple, lanes: int) -> tuple:
     """Readings a second by so many lanes, and the seconds of the plain round trips."""
-    with Scene(words.program, words.sngw, broker, folder, lanes, spools=words.spool) as scene:
+    with Scene(words.program, words.sngw, broker, folder, lanes, spools=words.spool, saves=words.saves) as scene:
         reader = Peer(scene.broker_port, b"reader", (b"field/#",))
         scene.ready()
         until(lambda: reader.socket, 10, "the reader did not connect")
@@ -65,7 +67,7 @@ def rate(words, folder: str, broker: tuple, lanes: int) -> tuple:
             for name in names:
                 sensor.publish(name, b"%d" % at)
         scene.broker.start()
-        until(lambda: all(len(set(count_of(reader.came, b"field/1/" + name))) >= words.many for name in names), 300, "readings are missing")
+        until(lambda: all(len(set(count_of(reader.came, b"field/1/" + name))) >= words.many for name in names), 300, "readings are missing", 0.5)
         moments = [moment for topic, _, moment in reader.came if topic != b"field/plain"]
         return len(names) * words.many / (max(moments) - min(moments)), trip
 
@@ -76,6 +78,7 @@ def main() -> int:
     words.add_argument("sngw", type=os.path.abspath)
     words.add_argument("--many", type=int, default=1000)
     words.add_argument("--spool", action="store_true")
+    words.add_argument("--saves", action="store_true")
     words = words.parse_args()
     with tempfile.TemporaryDirectory() as folder:
         broker, why = broker_program(folder)

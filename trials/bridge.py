@@ -387,7 +387,7 @@ class Scene:
     names = [b"t/heat", b"t/cold", b"t/wind", b"t/rain"]
 
     def __init__(self, bridge: str, sngw: str, broker: tuple, folder: str, lanes: int = 2, names: tuple = (), spools: bool = False, relays: bool = False,
-                 **more: str):
+                 saves: bool = True, **more: str):
         self.folder, self.spools = tempfile.mkdtemp(dir=folder), spools
         self.broker_port = free_ports(1)[0]
         self.relay = Relay(self.broker_port) if relays else None
@@ -403,7 +403,7 @@ class Scene:
             config = os.path.join(self.folder, "mosquitto.conf")
             with open(config, "w", encoding="utf-8") as it:
                 it.write(f"listener {self.broker_port} {HOST}\nallow_anonymous true\nmax_queued_messages 0\npersistence true\n"
-                         f"persistence_location {self.folder}/\nautosave_on_changes true\nautosave_interval 1\n")
+                         f"persistence_location {self.folder}/\n" + ("autosave_on_changes true\nautosave_interval 1\n" if saves else ""))
                 if os.geteuid() == 0:
                     it.write("user root\n")
             self.broker = Process([broker[0], "-c", config], self.folder, "mosquitto", broker[1])
