@@ -8,6 +8,7 @@ use Rattle.br_core.specs.declared.settings.LaneSettings.{LaneSettings}
 use Rattle.br_core.specs.declared.settings.Settings.{Settings}
 use Rattle.br_core.specs.declared.state.Bridge.{Bridge}
 use Rattle.br_core.specs.declared.state.Lane.{Lane}
+use Rattle.br_core.specs.declared.state.Moment.{Moment}
 use Rattle.br_core.specs.declared.state.Named.{Named}
 use Rattle.br_core.specs.declared.state.Open.{Open}
 use Rattle.mq_packet.specs.declared.packet.Packet.{Packet}
@@ -17,6 +18,7 @@ use Rattle.sn_frame.specs.declared.frame.Frame.TheVariants as frames
 use Rattle.br_core.specs.declared.event.Event.{Event}
 use Rattle.br_core.specs.declared.event.Event.TheVariants as events
 use Rattle.br_core.specs.Sides.{acknowledged}
+use Rattle.br_core.specs.Lanes.{lane_frame}
 use Rattle.br_core.proofs.Walk.{FirstMay, FrameCame, FrameIn, FrameMay, FrameOwn, IfThere, ItemDone, LaneJust, LastJust, PacketDone, Reasons}
 
 abbrev pub Yes : ℕ → Type 0
@@ -51,16 +53,18 @@ pub item-any : (item : Option Item) → ItemDone Yes item
 item-any None = tt
 item-any (Some item) = tt
 
-pub frame-own : (place : ℕ) (frame : Frame) (n : ℕ) → FrameOwn Its place frame n
-frame-own place (frames.Publish flags topic msg_id body) n = tt
-frame-own place frame n = tt
+pub frame-own : (place : ℕ) (frame : Frame) (b after : Bridge) → FrameOwn Its place frame b after
+frame-own place (frames.Publish flags topic msg_id body) b after = λ took. tt
+frame-own place frame b after = tt
 
-pub frame-came : (own : LaneSettings) (ids : List Named) (place n : ℕ) (frame : Frame) → FrameCame Any own ids place n frame
-frame-came own ids place n (frames.Publish flags topic msg_id body) = λ name up level named there. tt
-frame-came own ids place n frame = tt
+pub frame-came : (own : LaneSettings) (ids : List Named) (place : ℕ) (frame : Frame) (b after : Bridge) → FrameCame Any own ids place frame b after
+frame-came own ids place (frames.Publish flags topic msg_id body) b after = λ took name up level named there. tt
+frame-came own ids place frame b after = tt
 
-pub frame-any : (settings : Settings) (place : ℕ) (frame : Frame) (b : Bridge) → FrameIn Its Any settings place frame b
-frame-any settings place frame b = (frame-own place frame b.number, λ own x mine there. frame-came own x.ids place b.number frame)
+pub frame-any : (settings : Settings) (place : ℕ) (m : Moment) (frame : Frame) (b : Bridge) → FrameIn Its Any settings place m frame b
+frame-any settings place m frame b = λ own x mine there.
+    let after : Bridge = lane_frame settings place m frame own x b in
+    (frame-own place frame b after, frame-came own x.ids place frame b after)
 
 pub frame-may : (frame : Frame) (b : Bridge) → FrameMay Yes frame b
 frame-may (frames.PubAck topic_id msg_id code) b = λ doing asked accepted. first-any b.down.queue
@@ -71,11 +75,11 @@ packet-any settings (packets.PubAck id) b = item-any (acknowledged id b.flight)
 packet-any settings (packets.Publish delivery retain topic body) b = (λ kept left wanted. tt, tt)
 packet-any settings packet b = tt
 
-pub reasons-any : (settings : Settings) (event : Event) (b : Bridge) → Reasons Yes Yes Its Yes Any Each settings event b
-reasons-any settings (events.Field place frame) b = frame-any settings place frame b
-reasons-any settings (events.Commands frame) b = frame-may frame b
-reasons-any settings (events.Broker packet) b = packet-any settings packet b
-reasons-any settings (events.Kept line) b = λ doing. first-any b.down.queue
-reasons-any settings (events.Found item) b = tt
-reasons-any settings (events.Stored below) b = λ may number under. tt
-reasons-any settings event b = tt
+pub reasons-any : (settings : Settings) (event : Event) (m : Moment) (b : Bridge) → Reasons Yes Yes Its Yes Any Each settings event m b
+reasons-any settings (events.Field place frame) m b = frame-any settings place m frame b
+reasons-any settings (events.Commands frame) m b = frame-may frame b
+reasons-any settings (events.Broker packet) m b = packet-any settings packet b
+reasons-any settings (events.Kept line) m b = λ doing. first-any b.down.queue
+reasons-any settings (events.Found item) m b = tt
+reasons-any settings (events.Stored below) m b = λ may number under. tt
+reasons-any settings event m b = tt

@@ -121,6 +121,6 @@ module _ (Good : ℕ → Type 0) (Done : ℕ → Type 0) (lift : (n : ℕ) → D
     owes = λ l out w f n q h. h.0.3;
   }
 
-  pub event-just : (settings : Settings) (event : Event) (m : Moment) (b : Bridge) → Reasons Good Done Own May Came Asked settings event b
+  pub event-just : (settings : Settings) (event : Event) (m : Moment) (b : Bridge) → Reasons Good Done Own May Came Asked settings event m b
       → At P b → At P (whole.event_step settings event m b)
   event-just settings event m b why h = event-walked Good Done lift Own May Came Asked P just-walked settings event m b why h

@@ -135,8 +135,8 @@ packet-reasons settings before moment (packets.Publish delivery retain topic bod
 packet-reasons settings before moment packet = tt
 
 its-reasons : (settings : Settings) (before : List Come) (moment : ℕ) (event : Event)
-    → Reasons Yes (Handed settings (before ++ (event, moment) ∷ [])) Its Yes Any Each settings event (emptied (after settings before))
-its-reasons settings before moment (events.Field place frame) = frame-any settings place frame (emptied (after settings before))
+    → Reasons Yes (Handed settings (before ++ (event, moment) ∷ [])) Its Yes Any Each settings event (moment_of moment) (emptied (after settings before))
+its-reasons settings before moment (events.Field place frame) = frame-any settings place (moment_of moment) frame (emptied (after settings before))
 its-reasons settings before moment (events.Commands frame) = frame-may frame (emptied (after settings before))
 its-reasons settings before moment (events.Broker packet) = packet-reasons settings before moment packet
 its-reasons settings before moment (events.Kept line) = λ doing. first-any (after settings before).down.queue

@@ -183,7 +183,7 @@ lifts n h = h
 order-one : (settings : Settings) (come : Come) (b : Bridge) (low : ℕ) → Rises low (numbers b.waiting) b.number → At (P low) (stepped settings b come)
 order-one settings come b low h =
     let same : low ≤ low = omega arith in
-    event-walked Yes Yes lifts Its Yes Any Each (P low) (sorted-walked low) settings come.0 (moment_of come.1) (emptied b) (reasons-any settings come.0 (emptied b)) (low, same, h)
+    event-walked Yes Yes lifts Its Yes Any Each (P low) (sorted-walked low) settings come.0 (moment_of come.1) (emptied b) (reasons-any settings come.0 (moment_of come.1) (emptied b)) (low, same, h)
 
 order-from : (settings : Settings) (run : List Come) (b : Bridge) (low : ℕ) → Rises low (numbers b.waiting) b.number
     → Rises low (firsts (done_from settings b run)) (after_from settings b run).number

@@ -25,10 +25,11 @@ use Rattle.br_core.specs.Begins.{begun, moment_of, new_lane}
 use Rattle.br_core.specs.Commands.{filter_for}
 use Rattle.br_core.specs.Runs.{Answered, AreAllowed, Brought, Came, CameDown, CameOver, Come, Handed, IsSent, LeavesKept, MayTell, Spooled, WasFound, after, after_from, done, done_from, stepped}
 use Rattle.br_core.specs.Sides.{acknowledged}
-use Rattle.br_core.specs.Steps.{emptied, id_in}
+use Rattle.br_core.specs.Lanes.{lane_frame}
+use Rattle.br_core.specs.Steps.{emptied, id_in, lane_does}
 use Rattle.br_core.proofs.Just.{Flown, Stand, event-just, sent-more}
 use Rattle.br_core.proofs.Lists.{all-map, later-on, no-more, one-more, regroup}
-use Rattle.br_core.proofs.Walk.{AreGood, AtPlaces, FirstMay, FrameCame, FrameIn, FrameMay, FrameOwn, ItemDone, LaneJust, LastJust, PacketDone, Reasons, Tells, map-places}
+use Rattle.br_core.proofs.Walk.{AreGood, AtPlaces, FirstMay, FrameCame, FrameIn, FrameMay, FrameOwn, ItemDone, LaneJust, LastJust, PacketDone, Reasons, Tells, Took, map-places}
 
 -- ---- runs
 
@@ -88,6 +89,7 @@ brought-on settings run more place number msg_id h =
       moment = h.moment;
       comes = later-on run h.earlier (events.Field place (frames.Publish h.flags h.topic msg_id h.body), h.moment) h.later more h.comes;
       next = h.next;
+      took = h.took;
     }
 
 over-on : (settings : Settings) (run more : List Come) (item : Item) → CameOver settings run item → CameOver settings (run ++ more) item
@@ -105,6 +107,7 @@ over-on settings run more item h =
       up = h.up;
       comes = later-on run h.earlier (events.Field item.lane (frames.Publish h.flags h.topic h.msg_id item.body), h.moment) h.later more h.comes;
       next = h.next;
+      took = h.took;
       has_own = h.has_own;
       has_lane = h.has_lane;
       has_name = h.has_name;
@@ -180,9 +183,20 @@ module _ (settings : Settings) (before : List Come) (moment : ℕ) (stand : Stan
   abbrev here : Bridge
   here = emptied (after settings before)
 
-  field-own : (place : ℕ) (frame : Frame)
-      → FrameOwn (Brought settings (grown (events.Field place frame))) place frame here.number
-  field-own place (frames.Publish flags topic msg_id body) =
+  -- what the lane makes of a frame, and what the bridge does
+  abbrev made : ℕ → Frame → LaneSettings → Lane → Bridge
+  made place frame own x = lane_frame settings place (moment_of moment) frame own x here
+
+  took-by : (place : ℕ) (frame : Frame) (own : LaneSettings) (x : Lane) → slice_get settings.lanes place ≡ Some own → slice_get here.lanes place ≡ Some x
+      → Took here (made place frame own x) → Took here (stepped settings (after settings before) (events.Field place frame, moment))
+  took-by place frame own x mine there took =
+      let f : LaneSettings → Lane → Bridge → Bridge = lane_frame settings place (moment_of moment) frame in
+      let P : Option LaneSettings → Option Lane → Type 0 = λ o y. Took here (lane_does o y f here) in
+      subst (λ (o : Option LaneSettings). P o (slice_get here.lanes place)) (sym mine) (subst (λ (y : Option Lane). P (Some own) y) (sym there) took)
+
+  field-own : (place : ℕ) (frame : Frame) (own : LaneSettings) (x : Lane) → slice_get settings.lanes place ≡ Some own → slice_get here.lanes place ≡ Some x
+      → FrameOwn (Brought settings (grown (events.Field place frame))) place frame here (made place frame own x)
+  field-own place (frames.Publish flags topic msg_id body) own x mine there = λ took.
       record {
         earlier = before;
         later = [];
@@ -192,12 +206,13 @@ module _ (settings : Settings) (before : List Come) (moment : ℕ) (stand : Stan
         moment = moment;
         comes = refl;
         next = refl;
+        took = took-by place (frames.Publish flags topic msg_id body) own x mine there took;
       }
-  field-own place frame = tt
+  field-own place frame own x mine there = tt
 
   field-came : (place : ℕ) (frame : Frame) (own : LaneSettings) (x : Lane) → slice_get settings.lanes place ≡ Some own → slice_get here.lanes place ≡ Some x
-      → FrameCame (Came settings (grown (events.Field place frame))) own x.ids place here.number frame
-  field-came place (frames.Publish flags topic msg_id body) own x mine there = λ name up level named is.
+      → FrameCame (Came settings (grown (events.Field place frame))) own x.ids place frame here (made place frame own x)
+  field-came place (frames.Publish flags topic msg_id body) own x mine there = λ took name up level named is.
       inl (record {
         earlier = before;
         later = [];
@@ -211,6 +226,7 @@ module _ (settings : Settings) (before : List Come) (moment : ℕ) (stand : Stan
         up = up;
         comes = refl;
         next = refl;
+        took = took-by place (frames.Publish flags topic msg_id body) own x mine there took;
         has_own = mine;
         has_lane = there;
         has_name = named;
@@ -221,8 +237,8 @@ module _ (settings : Settings) (before : List Come) (moment : ℕ) (stand : Stan
   field-came place frame own x mine there = tt
 
   field-reasons : (place : ℕ) (frame : Frame)
-      → FrameIn (Brought settings (grown (events.Field place frame))) (Came settings (grown (events.Field place frame))) settings place frame here
-  field-reasons place frame = (field-own place frame, field-came place frame)
+      → FrameIn (Brought settings (grown (events.Field place frame))) (Came settings (grown (events.Field place frame))) settings place (moment_of moment) frame here
+  field-reasons place frame = λ own x mine there. (field-own place frame own x mine there, field-came place frame own x mine there)
 
   accepted-first : (topic_id msg_id code : ℕ) (queue : List Command)
       → here.down.doing ≡ doings.Publishing → msg_id ≡ here.down.msg_id → code ≡ 0 → here.down.queue ≡ queue → AllByRecursion (CameDown settings before) queue
@@ -326,7 +342,7 @@ module _ (settings : Settings) (before : List Come) (moment : ℕ) (stand : Stan
       })
 
   pub reasons : (event : Event)
-      → Reasons (Answered settings (grown event)) (Handed settings (grown event)) (Brought settings (grown event)) (MayTell settings (grown event)) (Came settings (grown event)) (CameDown settings (grown event)) settings event here
+      → Reasons (Answered settings (grown event)) (Handed settings (grown event)) (Brought settings (grown event)) (MayTell settings (grown event)) (Came settings (grown event)) (CameDown settings (grown event)) settings event (moment_of moment) here
   reasons (events.Field place frame) = field-reasons place frame
   reasons (events.Commands frame) = command-reasons frame
   reasons (events.Broker packet) = broker-reasons packet

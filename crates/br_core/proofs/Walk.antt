@@ -2,7 +2,7 @@
 -- and is kept by each small change, holds after each step; whatever makes a reading good, done, a
 -- lane's own or one that came, a publication one of which the broker may be told, and a command one
 -- that came, if the event gives reasons.
-use Rattle.std.proofs.Common.{◌≡◌, ◌==◌, ◌+◌, ◌≤◌, ℕ, zero, suc, Bool, true, false, ◌&&◌, not, if◌then◌else◌, List, [], ◌∷◌, ◌++◌, length, fold, Option, Some, None, refl, sym, ap, subst, arith, eqb-true, leb-true}
+use Rattle.std.proofs.Common.{◌≡◌, ◌∙◌, ◌==◌, ◌+◌, ◌≤◌, ℕ, zero, suc, Bool, true, false, ◌&&◌, not, if◌then◌else◌, List, [], ◌∷◌, ◌++◌, length, fold, Option, Some, None, refl, sym, ap, subst, arith, eqb-true, leb-true}
 use Rattle.std.specs.Prelude.{nat_lt, nat_le, slice_get, slice_set}
 use Rattle.std.specs.List.{AllByRecursion}
 use Rattle.std.specs.Str.{bytes_eq}
@@ -126,23 +126,28 @@ unset : (c : Bool) → not c ≡ true → c ≡ false
 unset true e = cc
 unset false e = refl
 
--- a PUBLISH brings the next number to its lane
-abbrev pub FrameOwn : (ℕ → ℕ → ℕ → Type 0) → ℕ → Frame → ℕ → Type 0
-FrameOwn Own place (frames.Publish flags topic msg_id body) number = Own place number msg_id
-FrameOwn Own place frame number = Unit {0}
+-- the next number was taken
+abbrev pub Took : Bridge → Bridge → Type 0
+Took b after = after.number ≡ b.number + 1
+
+-- a PUBLISH that takes the next number brings it to its lane
+abbrev pub FrameOwn : (ℕ → ℕ → ℕ → Type 0) → ℕ → Frame → Bridge → Bridge → Type 0
+FrameOwn Own place (frames.Publish flags topic msg_id body) b after = Took b after → Own place b.number msg_id
+FrameOwn Own place frame b after = Unit {0}
 
 -- and what it brings under a name came, for a lane of these names and ids
-abbrev pub FrameCame : (Item → Type 0) → LaneSettings → List Named → ℕ → ℕ → Frame → Type 0
-FrameCame Came own ids place number (frames.Publish flags topic msg_id body) =
-    (name : ℕ) (up : UpName) (qos : Qos) → lane.name_of (kind_of flags.bits) topic own.names ids ≡ Some name
-    → slice_get own.names name ≡ Some up → Came (lane.item_of number place qos up body)
-FrameCame Came own ids place number frame = Unit {0}
+abbrev pub FrameCame : (Item → Type 0) → LaneSettings → List Named → ℕ → Frame → Bridge → Bridge → Type 0
+FrameCame Came own ids place (frames.Publish flags topic msg_id body) b after =
+    Took b after → (name : ℕ) (up : UpName) (qos : Qos) → lane.name_of (kind_of flags.bits) topic own.names ids ≡ Some name
+    → slice_get own.names name ≡ Some up → Came (lane.item_of b.number place qos up body)
+FrameCame Came own ids place frame b after = Unit {0}
 
--- both, for the lane that there is
-abbrev pub FrameIn : (ℕ → ℕ → ℕ → Type 0) → (Item → Type 0) → Settings → ℕ → Frame → Bridge → Type 0
-FrameIn Own Came settings place frame b =
-    FrameOwn Own place frame b.number × ((own : LaneSettings) (x : Lane) → slice_get settings.lanes place ≡ Some own
-    → slice_get b.lanes place ≡ Some x → FrameCame Came own x.ids place b.number frame)
+-- both, for the lane that there is, and what it makes of the frame
+abbrev pub FrameIn : (ℕ → ℕ → ℕ → Type 0) → (Item → Type 0) → Settings → ℕ → Moment → Frame → Bridge → Type 0
+FrameIn Own Came settings place m frame b =
+    (own : LaneSettings) (x : Lane) → slice_get settings.lanes place ≡ Some own → slice_get b.lanes place ≡ Some x
+    → FrameOwn Own place frame b (lane.lane_frame settings place m frame own x b)
+    × FrameCame Came own x.ids place frame b (lane.lane_frame settings place m frame own x b)
 
 -- PUBACK 0 of what was published last lets the broker be told of the first command
 abbrev pub FrameMay : (ℕ → Type 0) → Frame → Bridge → Type 0
@@ -173,14 +178,14 @@ abbrev pub AreGood : (ℕ → Type 0) → Settings → ℕ → Bridge → Type 0
 AreGood Good settings below b = whole.may_keep settings below b ≡ true → (number : ℕ) → nat_lt number below ≡ true → Good number
 
 -- what an event gives as reasons
-abbrev pub Reasons : (ℕ → Type 0) → (ℕ → Type 0) → (ℕ → ℕ → ℕ → Type 0) → (ℕ → Type 0) → (Item → Type 0) → (Command → Type 0) → Settings → Event → Bridge → Type 0
-Reasons Good Done Own May Came Asked settings (events.Field place frame) b = FrameIn Own Came settings place frame b
-Reasons Good Done Own May Came Asked settings (events.Commands frame) b = FrameMay May frame b
-Reasons Good Done Own May Came Asked settings (events.Broker packet) b = PacketDone Done May Asked settings packet b
-Reasons Good Done Own May Came Asked settings (events.Kept line) b = b.down.doing ≡ doings.Refusing line → FirstMay May b.down.queue
-Reasons Good Done Own May Came Asked settings (events.Found item) b = Came item
-Reasons Good Done Own May Came Asked settings (events.Stored below) b = AreGood Good settings below b
-Reasons Good Done Own May Came Asked settings event b = Unit {0}
+abbrev pub Reasons : (ℕ → Type 0) → (ℕ → Type 0) → (ℕ → ℕ → ℕ → Type 0) → (ℕ → Type 0) → (Item → Type 0) → (Command → Type 0) → Settings → Event → Moment → Bridge → Type 0
+Reasons Good Done Own May Came Asked settings (events.Field place frame) m b = FrameIn Own Came settings place m frame b
+Reasons Good Done Own May Came Asked settings (events.Commands frame) m b = FrameMay May frame b
+Reasons Good Done Own May Came Asked settings (events.Broker packet) m b = PacketDone Done May Asked settings packet b
+Reasons Good Done Own May Came Asked settings (events.Kept line) m b = b.down.doing ≡ doings.Refusing line → FirstMay May b.down.queue
+Reasons Good Done Own May Came Asked settings (events.Found item) m b = Came item
+Reasons Good Done Own May Came Asked settings (events.Stored below) m b = AreGood Good settings below b
+Reasons Good Done Own May Came Asked settings event m b = Unit {0}
 
 -- what holds of lanes, actions, readings that wait, readings in flight, the number of the next one,
 -- and commands
@@ -238,6 +243,36 @@ pub record IsWalked (Good : ℕ → Type 0) (Done : ℕ → Type 0) (Own : ℕ �
   pub ends : (first : Command) (more : List Command) (l : List Lane) (out : List Action) (w : List Item) (f : List Flight) (n : ℕ) → P l out w f n (first ∷ more) → P l out w f n more
   pub clears : (l : List Lane) (out : List Action) (w : List Item) (f : List Flight) (n : ℕ) (q : List Command) → P l out w f n q → P l out w f n []
   pub owes : (l : List Lane) (out : List Action) (w : List Item) (f : List Flight) (n : ℕ) (q : List Command) → P l out w f n q → AllByRecursion Asked q
+
+-- a reading that is taken leaves the number of the next one as it was
+sent-number : (qos : Qos) (item : Item) (b : Bridge) → (sent_at qos item b).number ≡ b.number
+sent-number levels.Zero item b = refl
+sent-number levels.One item b = refl
+
+offered-number : (c : Bool) (item : Item) (b : Bridge) → (if c then sent_at item.qos item b else waits item b).number ≡ b.number
+offered-number true item b = sent-number item.qos item b
+offered-number false item b = refl
+
+kept-number : (qos : Qos) (item : Item) (b : Bridge) → (kept_at qos item b).number ≡ b.number
+kept-number levels.Zero item b = refl
+kept-number levels.One item b = refl
+
+takes-number : (side : Side) (settings : Settings) (item : Item) (b : Bridge) → (takes_at side settings item b).number ≡ b.number
+takes-number sides.Up settings item b = offered-number ((length b.waiting == 0) && has_window settings item.qos b.flight) item b
+takes-number side settings item b = kept-number item.qos item b
+
+stored-number : (spools : Bool) (item : Item) (b : Bridge) → (if spools then does (actions.Store item) b else b).number ≡ b.number
+stored-number true item b = refl
+stored-number false item b = refl
+
+-- what was taken by the one of two that a test has chosen
+took-first : (c : Bool) (b x y : Bridge) → c ≡ true → Took b x → Took b (if c then x else y)
+took-first true b x y e h = h
+took-first false b x y e h = cc
+
+took-second : (c : Bool) (b x y : Bridge) → c ≡ false → Took b y → Took b (if c then x else y)
+took-second true b x y e h = cc
+took-second false b x y e h = h
 
 -- what is sent leaves what waits as it was
 pub sent-waiting : (qos : Qos) (item : Item) (b : Bridge) → (sent_at qos item b).waiting ≡ b.waiting
@@ -313,6 +348,10 @@ module _ (Good : ℕ → Type 0) (Done : ℕ → Type 0) (lift : (n : ℕ) → D
   choose-by true x y p q = p refl
   choose-by false x y p q = q
 
+  choose-each : (c : Bool) (x y : Bridge) → (c ≡ true → J x) → (c ≡ false → J y) → J (if c then x else y)
+  choose-each true x y p q = p refl
+  choose-each false x y p q = q refl
+
   choose-not : (c : Bool) (x y : Bridge) → J x → (c ≡ false → J y) → J (if c then x else y)
   choose-not true x y p q = p
   choose-not false x y p q = q refl
@@ -366,14 +405,22 @@ module _ (Good : ℕ → Type 0) (Done : ℕ → Type 0) (lift : (n : ℕ) → D
   stored-just settings item b came h = choose settings.spools (does (actions.Store item) b) b (does-just (actions.Store item) b tt came h) h
 
   brings-just : (settings : Settings) (place name : ℕ) (up : UpName) (topic_id msg_id : ℕ) (body : List ℕ) (x : Lane) (b : Bridge)
-      → Own place b.number msg_id → Came (lane.item_of b.number place levels.One up body) → L place x → J b → J (lane.brings settings place name up topic_id msg_id body x b)
+      → (Took b (lane.brings settings place name up topic_id msg_id body x b) → Own place b.number msg_id)
+      → (Took b (lane.brings settings place name up topic_id msg_id body x b) → Came (lane.item_of b.number place levels.One up body)) → L place x → J b
+      → J (lane.brings settings place name up topic_id msg_id body x b)
   brings-just settings place name up topic_id msg_id body x b own came p h =
       let brought : Lane = record x { last = Some (lane.open_of b.number name topic_id msg_id body) } in
       let item : Item = lane.item_of b.number place levels.One up body in
-      let counted : Bridge = lane.counted settings place levels.One up body (lane.seated place brought b) in
-      choose (lane.has_room settings body b) (lane.stored settings item counted) (lane.asleep_in x.phase place x b)
-      (stored-just settings item counted came
-      (counted-just settings place levels.One up body (lane.seated place brought b) came (put-just place brought b (own, unanswered) h)))
+      let seated : Bridge = lane.seated place brought b in
+      let counted : Bridge = lane.counted settings place levels.One up body seated in
+      let kept : Bridge = lane.stored settings item counted in
+      let asleep : Bridge = lane.asleep_in x.phase place x b in
+      let more : Took b kept = stored-number settings.spools item counted ∙ takes-number b.side settings item (record seated { number = b.number + 1 }) in
+      choose-by (lane.has_room settings body b) kept asleep
+      (λ e.
+      let took : Took b (lane.brings settings place name up topic_id msg_id body x b) = took-first (lane.has_room settings body b) b kept asleep e more in
+      stored-just settings item counted (came took)
+      (counted-just settings place levels.One up body seated (came took) (put-just place brought b (own took, unanswered) h)))
       (asleep-in-just x.phase place x b p h)
 
   again-at-just : (c : Bool) (place topic_id msg_id : ℕ) (held : Open) (x : Lane) (b : Bridge)
@@ -390,29 +437,39 @@ module _ (Good : ℕ → Type 0) (Done : ℕ → Type 0) (lift : (n : ℕ) → D
       eqb-true held.msg_id msg_id (and_parts (held.name == name) (held.msg_id == msg_id) both.0).1
 
   brings-if-just : (last : Option Open) (settings : Settings) (place name : ℕ) (up : UpName) (topic_id msg_id : ℕ) (body : List ℕ) (x : Lane) (b : Bridge)
-      → LastJust Good Own place last → Own place b.number msg_id → Came (lane.item_of b.number place levels.One up body) → L place x → J b
+      → LastJust Good Own place last → (Took b (lane.brings_if last settings place name up topic_id msg_id body x b) → Own place b.number msg_id)
+      → (Took b (lane.brings_if last settings place name up topic_id msg_id body x b) → Came (lane.item_of b.number place levels.One up body)) → L place x → J b
       → J (lane.brings_if last settings place name up topic_id msg_id body x b)
   brings-if-just None settings place name up topic_id msg_id body x b o own came p h =
       brings-just settings place name up topic_id msg_id body x b own came p h
   brings-if-just (Some held) settings place name up topic_id msg_id body x b o own came p h =
-      choose-by (lane.is_same name msg_id body held) (lane.again_at held.is_answered place topic_id msg_id held x b)
-      (lane.brings settings place name up topic_id msg_id body x b)
+      let same : Bool = lane.is_same name msg_id body held in
+      let again : Bridge = lane.again_at held.is_answered place topic_id msg_id held x b in
+      let brought : Bridge = lane.brings settings place name up topic_id msg_id body x b in
+      choose-each same again brought
       (λ e. again-at-just held.is_answered place topic_id msg_id held x b refl (same-id name msg_id body held e) o h)
-      (brings-just settings place name up topic_id msg_id body x b own came p h)
+      (λ e. brings-just settings place name up topic_id msg_id body x b (λ took. own (took-second same b again brought e took))
+      (λ took. came (took-second same b again brought e took)) p h)
 
-  passes-just : (settings : Settings) (place : ℕ) (up : UpName) (body : List ℕ) (x : Lane) (b : Bridge) → Came (lane.item_of b.number place levels.Zero up body) → L place x → J b
+  passes-just : (settings : Settings) (place : ℕ) (up : UpName) (body : List ℕ) (x : Lane) (b : Bridge)
+      → (Took b (lane.passes settings place up body x b) → Came (lane.item_of b.number place levels.Zero up body)) → L place x → J b
       → J (lane.passes settings place up body x b)
   passes-just settings place up body x b came p h =
-      choose (lane.goes_on settings body b) (lane.counted settings place levels.Zero up body (lane.seated place x b)) (lane.seated place x b)
-      (counted-just settings place levels.Zero up body (lane.seated place x b) came (put-just place x b p h))
+      let seated : Bridge = lane.seated place x b in
+      let item : Item = lane.item_of b.number place levels.Zero up body in
+      let counted : Bridge = lane.counted settings place levels.Zero up body seated in
+      let more : Took b counted = takes-number b.side settings item (record seated { number = b.number + 1 }) in
+      choose-by (lane.goes_on settings body b) counted seated
+      (λ e. counted-just settings place levels.Zero up body seated (came (took-first (lane.goes_on settings body b) b counted seated e more)) (put-just place x b p h))
       (put-just place x b p h)
 
   publication-at-just : (qos : FieldQos) (settings : Settings) (place name : ℕ) (up : UpName) (topic_id msg_id : ℕ) (body : List ℕ) (x : Lane) (b : Bridge)
-      → Own place b.number msg_id → ((qos : Qos) → Came (lane.item_of b.number place qos up body)) → L place x → J b
+      → (Took b (lane.publication_at qos settings place name up topic_id msg_id body x b) → Own place b.number msg_id)
+      → (Took b (lane.publication_at qos settings place name up topic_id msg_id body x b) → (level : Qos) → Came (lane.item_of b.number place level up body)) → L place x → J b
       → J (lane.publication_at qos settings place name up topic_id msg_id body x b)
-  publication-at-just field_levels.Zero settings place name up topic_id msg_id body x b own cames p h = passes-just settings place up body x b (cames levels.Zero) p h
+  publication-at-just field_levels.Zero settings place name up topic_id msg_id body x b own cames p h = passes-just settings place up body x b (λ took. cames took levels.Zero) p h
   publication-at-just field_levels.One settings place name up topic_id msg_id body x b own cames p h =
-      brings-if-just x.last settings place name up topic_id msg_id body x b p own (cames levels.One) p h
+      brings-if-just x.last settings place name up topic_id msg_id body x b p own (λ took. cames took levels.One) p h
   publication-at-just qos settings place name up topic_id msg_id body x b own cames p h = put-just place x b p h
 
   unknown-at-just : (qos : FieldQos) (kind : TopicIdType) (place topic_id msg_id : ℕ) (x : Lane) (b : Bridge) → L place x → J b → J (lane.unknown_at qos kind place topic_id msg_id x b)
@@ -421,18 +478,22 @@ module _ (Good : ℕ → Type 0) (Done : ℕ → Type 0) (lift : (n : ℕ) → D
   unknown-at-just qos kind place topic_id msg_id x b p h = put-just place x b p h
 
   named-at-just : (up : Option UpName) (qos : FieldQos) (kind : TopicIdType) (settings : Settings) (place name topic_id msg_id : ℕ) (body : List ℕ) (x : Lane) (b : Bridge)
-      → Own place b.number msg_id → ((u : UpName) (level : Qos) → up ≡ Some u → Came (lane.item_of b.number place level u body)) → L place x → J b
+      → (Took b (lane.named_at up qos kind settings place name topic_id msg_id body x b) → Own place b.number msg_id)
+      → (Took b (lane.named_at up qos kind settings place name topic_id msg_id body x b) → (u : UpName) (level : Qos) → up ≡ Some u → Came (lane.item_of b.number place level u body))
+      → L place x → J b
       → J (lane.named_at up qos kind settings place name topic_id msg_id body x b)
   named-at-just None qos kind settings place name topic_id msg_id body x b own cames p h = unknown-at-just qos kind place topic_id msg_id x b p h
   named-at-just (Some up) qos kind settings place name topic_id msg_id body x b own cames p h =
-      publication-at-just qos settings place name up topic_id msg_id body x b own (λ level. cames up level refl) p h
+      publication-at-just qos settings place name up topic_id msg_id body x b own (λ took level. cames took up level refl) p h
 
   known-at-just : (name : Option ℕ) (qos : FieldQos) (kind : TopicIdType) (settings : Settings) (own : LaneSettings) (place topic_id msg_id : ℕ) (body : List ℕ) (x : Lane) (b : Bridge)
-      → Own place b.number msg_id → ((n : ℕ) (u : UpName) (level : Qos) → name ≡ Some n → slice_get own.names n ≡ Some u → Came (lane.item_of b.number place level u body)) → L place x → J b
+      → (Took b (lane.known_at name qos kind settings own place topic_id msg_id body x b) → Own place b.number msg_id)
+      → (Took b (lane.known_at name qos kind settings own place topic_id msg_id body x b) → (n : ℕ) (u : UpName) (level : Qos) → name ≡ Some n → slice_get own.names n ≡ Some u
+      → Came (lane.item_of b.number place level u body)) → L place x → J b
       → J (lane.known_at name qos kind settings own place topic_id msg_id body x b)
   known-at-just None qos kind settings own place topic_id msg_id body x b mine cames p h = unknown-at-just qos kind place topic_id msg_id x b p h
   known-at-just (Some name) qos kind settings own place topic_id msg_id body x b mine cames p h =
-      named-at-just (slice_get own.names name) qos kind settings place name topic_id msg_id body x b mine (λ u level e. cames name u level refl e) p h
+      named-at-just (slice_get own.names name) qos kind settings place name topic_id msg_id body x b mine (λ took u level e. cames took name u level refl e) p h
 
   goes-away-just : (place : ℕ) (m : Moment) (x : Lane) (b : Bridge) → L place x → J b → J (lane.goes_away place m x b)
   goes-away-just place m x b p h = put-just place (record x { phase = phases.Away; tries = 0; due = m.at }) b p h
@@ -445,7 +506,8 @@ module _ (Good : ℕ → Type 0) (Done : ℕ → Type 0) (lift : (n : ℕ) → D
       (says-just place (frames.RegAck topic_id msg_id 0) known b tt p h) (goes-away-just place m x b p h)
 
   awake-just : (settings : Settings) (own : LaneSettings) (place : ℕ) (m : Moment) (frame : Frame) (x : Lane) (b : Bridge)
-      → FrameOwn Own place frame b.number → FrameCame Came own x.ids place b.number frame → L place x → J b → J (lane.awake_frame settings own place m frame x b)
+      → FrameOwn Own place frame b (lane.awake_frame settings own place m frame x b) → FrameCame Came own x.ids place frame b (lane.awake_frame settings own place m frame x b)
+      → L place x → J b → J (lane.awake_frame settings own place m frame x b)
   awake-just settings own place m (frames.Publish flags topic msg_id body) x b mine cames p h =
       known-at-just (lane.name_of (kind_of flags.bits) topic own.names x.ids) (qos_of flags.bits) (kind_of flags.bits) settings own place topic msg_id body x b mine cames p h
   awake-just settings own place m (frames.Register topic_id msg_id name) x b mine cames p h =
@@ -464,7 +526,8 @@ module _ (Good : ℕ → Type 0) (Done : ℕ → Type 0) (lift : (n : ℕ) → D
       choose (code == 0) (lane.subscribing own place (next + 1) m named b) b (subscribing-just own place (next + 1) m named b p h) h
 
   naming-just : (settings : Settings) (own : LaneSettings) (place next : ℕ) (m : Moment) (frame : Frame) (x : Lane) (b : Bridge)
-      → FrameOwn Own place frame b.number → FrameCame Came own x.ids place b.number frame → L place x → J b → J (lane.naming_frame settings own place next m frame x b)
+      → FrameOwn Own place frame b (lane.naming_frame settings own place next m frame x b)
+      → FrameCame Came own x.ids place frame b (lane.naming_frame settings own place next m frame x b) → L place x → J b → J (lane.naming_frame settings own place next m frame x b)
   naming-just settings own place next m (frames.SubAck flags topic_id msg_id code) x b mine cames p h =
       choose (lane.is_its next msg_id x) (lane.subscribed own place next m topic_id code x b) b (subscribed-just own place next m topic_id code x b p h) h
   naming-just settings own place next m frame x b mine cames p h = awake-just settings own place m frame x b mine cames p h
@@ -478,13 +541,15 @@ module _ (Good : ℕ → Type 0) (Done : ℕ → Type 0) (lift : (n : ℕ) → D
   heard-ids false x m = refl
 
   frame-in-just : (phase : Phase) (settings : Settings) (own : LaneSettings) (place : ℕ) (m : Moment) (frame : Frame) (x : Lane) (b : Bridge)
-      → FrameOwn Own place frame b.number → FrameCame Came own x.ids place b.number frame → L place x → J b → J (lane.frame_in phase settings own place m frame x b)
+      → FrameOwn Own place frame b (lane.frame_in phase settings own place m frame x b) → FrameCame Came own x.ids place frame b (lane.frame_in phase settings own place m frame x b)
+      → L place x → J b → J (lane.frame_in phase settings own place m frame x b)
   frame-in-just phases.Away settings own place m frame x b mine cames p h = h
   frame-in-just phases.Connecting settings own place m frame x b mine cames p h = connected-just own place m frame x b p h
   frame-in-just (phases.Subscribing next) settings own place m frame x b mine cames p h = naming-just settings own place next m frame x b mine cames p h
   frame-in-just phases.Listening settings own place m frame x b mine cames p h =
       let same : (lane.heard m x).ids ≡ x.ids = heard-ids (x.tries == 0) x m in
-      let heard : FrameCame Came own (lane.heard m x).ids place b.number frame = subst (λ (ids : List Named). FrameCame Came own ids place b.number frame) (sym same) cames in
+      let after : Bridge = lane.awake_frame settings own place m frame (lane.heard m x) b in
+      let heard : FrameCame Came own (lane.heard m x).ids place frame b after = subst (λ (ids : List Named). FrameCame Came own ids place frame b after) (sym same) cames in
       awake-just settings own place m frame (lane.heard m x) b mine heard (heard-lane (x.tries == 0) place x (record x { tries = 0; due = m.ping }) p p) h
   frame-in-just phases.Asleep settings own place m frame x b mine cames p h = h
 
@@ -816,8 +881,8 @@ module _ (Good : ℕ → Type 0) (Done : ℕ → Type 0) (lift : (n : ℕ) → D
 
   new-packet-just : (settings : Settings) (m : Moment) (packet : Packet) (b : Bridge) → J b → J (whole.new_packet settings m packet b)
   new-packet-just settings m (packets.ConnAck session code) b h =
-      choose (code == 0) (whole.welcomed_at (session && b.is_subscribed) settings m b) (whole.hangs_up settings m.minute b)
-      (welcomed-at-just (session && b.is_subscribed) settings m b h) (hangs-up-just settings m.minute b h)
+      choose (code == 0) (whole.welcomed_at (session && b.is_subscribed && whole.wants_kept settings.downs) settings m b) (whole.hangs_up settings m.minute b)
+      (welcomed-at-just (session && b.is_subscribed && whole.wants_kept settings.downs) settings m b h) (hangs-up-just settings m.minute b h)
   new-packet-just settings m packet b h = hangs-up-just settings m.retry b h
 
   -- being heard changes neither what is in flight nor the lanes
@@ -876,10 +941,10 @@ module _ (Good : ℕ → Type 0) (Done : ℕ → Type 0) (lift : (n : ℕ) → D
       choose-by (whole.may_keep settings below b) (whole.each_lane settings (λ place. lane.keeps below place) storing) b
       (λ e. each-lane-just settings (λ place. lane.keeps below place) storing (λ place own x b p h. keeps-held-just x.last below place x b p (good e) h) h) h
 
-  pub event-walked : (settings : Settings) (event : Event) (m : Moment) (b : Bridge) → Reasons Good Done Own May Came Asked settings event b → J b → J (whole.event_step settings event m b)
+  pub event-walked : (settings : Settings) (event : Event) (m : Moment) (b : Bridge) → Reasons Good Done Own May Came Asked settings event m b → J b → J (whole.event_step settings event m b)
   event-walked settings (events.Field place frame) m b why h =
       at-lane-just settings place (lane.lane_frame settings place m frame) b
-      (λ own x mine there p. frame-in-just x.phase settings own place m frame x b why.0 (why.1 own x mine there) p h) h
+      (λ own x mine there p. frame-in-just x.phase settings own place m frame x b (why own x mine there).0 (why own x mine there).1 p h) h
   event-walked settings (events.Commands frame) m b why h = down-frame-in-just b.down.phase m frame b why h
   event-walked settings (events.Broker packet) m b why h = packet-in-just b.side settings m packet b why h
   event-walked settings events.BrokerOpen m b why h =

@@ -59,7 +59,8 @@ done settings run = done_from settings (begun settings) run
 -- ---- what came
 
 -- The reading came over its lane, in a PUBLISH with its octets, under a name that the lane had an
--- id for; it took the next number, and it goes under the broker's topic of this name.
+-- id for; it took the next number, which no other has, and it goes under the broker's topic of this
+-- name.
 pub record CameOver (settings : Settings) (run : List Come) (item : Item) : Type 0 where
   pub earlier : List Come
   pub later : List Come
@@ -75,6 +76,9 @@ pub record CameOver (settings : Settings) (run : List Come) (item : Item) : Type
       ≡ earlier
       ++ (events.Field item.lane (frames.Publish flags topic msg_id item.body), moment) ∷ later
   pub next : (after settings earlier).number ≡ item.number
+  pub took : (stepped settings (after settings earlier)
+      (events.Field item.lane (frames.Publish flags topic msg_id item.body), moment)).number
+      ≡ item.number + 1
   pub has_own : slice_get settings.lanes item.lane ≡ Some own
   pub has_lane : slice_get (after settings earlier).lanes item.lane ≡ Some lane
   pub has_name : name_of (kind_of flags.bits) topic own.names lane.ids ≡ Some name
@@ -114,7 +118,8 @@ pub record CameDown (settings : Settings) (run : List Come) (command : Command) 
   pub has_id : command.id ≡ id_in delivery
   pub goes_to : command.topic ≡ field_topic settings command.from
 
--- The reading of this number came from the gateway of this lane, in a PUBLISH of this message id.
+-- The reading of this number came from the gateway of this lane, in a PUBLISH of this message id,
+-- which took the number: `takes_in` says that it is in the bridge then.
 pub record Brought (settings : Settings) (run : List Come) (place number msg_id : ℕ) : Type 0 where
   pub earlier : List Come
   pub later : List Come
@@ -125,6 +130,9 @@ pub record Brought (settings : Settings) (run : List Come) (place number msg_id 
   pub comes : run
       ≡ earlier ++ (events.Field place (frames.Publish flags topic msg_id body), moment) ∷ later
   pub next : (after settings earlier).number ≡ number
+  pub took : (stepped settings (after settings earlier)
+      (events.Field place (frames.Publish flags topic msg_id body), moment)).number
+      ≡ number + 1
 
 -- ---- who has it
 

@@ -1,5 +1,6 @@
 -- The step of the whole bridge.
 use Rattle.std.specs.Prelude.{ℕ, ◌+◌, ◌/◌, ◌==◌, ◌&&◌, ◌||◌, Bool, true, false, nat_lt, nat_le, if◌then◌else◌, List, [], ◌∷◌, length, slice_get, Option, Some, None}
+use Rattle.std.specs.List.{list_any}
 use Rattle.mq_packet.specs.declared.packet.Delivery.{Delivery}
 use Rattle.mq_packet.specs.declared.packet.Delivery.TheVariants as deliveries
 use Rattle.mq_packet.specs.declared.packet.Packet.{Packet}
@@ -121,8 +122,13 @@ lost settings due bridge = rests settings (ended due bridge)
 abbrev pub hangs_up : Settings → ℕ → Bridge → Bridge
 hangs_up settings due bridge = does actions.HangUp (lost settings due bridge)
 
--- CONNACK: the broker knows the session, in which all filters were subscribed to; or they are
--- subscribed to; or it does not want us, and is asked again in a minute
+-- whether one of the filters hands on what the broker had kept
+abbrev pub wants_kept : List DownFilter → Bool
+wants_kept downs = list_any (λ entry. entry.retained) downs
+
+-- CONNACK: the filters are subscribed to. But they are not if the broker knows the session, this
+-- run has subscribed to all of them, and one hands on what the broker had kept, which would come
+-- again. Or the broker does not want us, and is asked again in a minute.
 abbrev pub welcomed_at : Bool → Settings → Moment → Bridge → Bridge
 welcomed_at true settings m bridge = up settings m bridge
 welcomed_at false settings m bridge =
@@ -130,7 +136,9 @@ welcomed_at false settings m bridge =
 
 abbrev pub welcomed : Settings → Bool → ℕ → Moment → Bridge → Bridge
 welcomed settings session code m bridge =
-    if code == 0 then welcomed_at (session && bridge.is_subscribed) settings m bridge
+    if code == 0
+    then welcomed_at (session && bridge.is_subscribed && wants_kept settings.downs) settings m
+    bridge
     else hangs_up settings m.minute bridge
 
 -- the spool need not keep a reading any longer, if there is a spool

@@ -10,7 +10,8 @@ ghost use Rattle.br_core.specs.Steps.{is_next};
 
 /// What was taken from one side is acknowledged there only after the other side has acknowledged
 /// it, or after the spool has it, or after a line of what no side will have is on the disk. What
-/// goes to the broker and into the spool is what came: its octets, under the topic of its name.
+/// goes to the broker and into the spool is what came: its octets, under the topic of its name. A
+/// lane acknowledges only a message that took a number, which is then in the bridge (`takes_in`).
 /// What goes to the gateway as a command, or into a line, came from the broker. The spool forgets
 /// only what the broker has. It holds of every list of events, whatever the sides send. The
 /// function does nothing; its contract is the law.

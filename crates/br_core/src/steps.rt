@@ -12,7 +12,7 @@ use crate::event::Event;
 use crate::item::Item;
 use crate::lanes::{answers, falls_asleep, keeps, lane_frame, lane_tick, wakes};
 use crate::queue::Queue;
-use crate::settings::Settings;
+use crate::settings::{DownFilter, Settings};
 use crate::sides::{acknowledged, all_again, does, free_id, is_up, next_id, sends, takes};
 use crate::state::{
     BROKER_KEEP_ALIVE, Bridge, Doing, Down, LAST_NUMBER, Lane, Moment, Phase, Side,
@@ -383,9 +383,17 @@ fn hangs_up(
     does(bridge, Action::HangUp)
 }
 
-/// CONNACK (MQTT 3.1.1 section 3.2): the broker knows the session, in which all filters were
-/// subscribed to; or they are subscribed to; or it does not want us, and is asked again in a
-/// minute.
+/// Whether one of the filters hands on what the broker had kept.
+fn wants_kept(downs: &[DownFilter]) -> bool
+    ensures { result ≡ spec.wants_kept downs.now }
+{
+    downs.iter().any(|entry| entry.retained)
+}
+
+/// CONNACK (MQTT 3.1.1 section 3.2): the filters are subscribed to. A broker that went back to what
+/// it had saved may have lost some. But they are not if the broker knows the session, this run has
+/// subscribed to all of them, and one hands on what the broker had kept, which would come again. Or
+/// the broker does not want us, and is asked again in a minute.
 fn welcomed(
     alloc: Global,
     settings: &Settings,
@@ -399,7 +407,7 @@ fn welcomed(
     if code != 0 {
         return hangs_up(alloc, settings, m.minute, bridge);
     }
-    if session && bridge.is_subscribed {
+    if session && bridge.is_subscribed && wants_kept(settings.downs.as_slice()) {
         return up(alloc, settings, m, bridge);
     }
     bridge.is_subscribed = false;

@@ -44,6 +44,7 @@
 //! - `bridge LANES WINDOW [ROOM]`: a bridge that begins, with a spool if it has room for one.
 //!   `ready LANES WINDOW [ROOM]`: one to which all have said yes; the id of each long name is 5.
 //! - `known`: it has subscribed to all filters in an earlier connection.
+//! - `unkept`: no filter hands on what the broker had kept.
 //! - `crowd N`: the broker sends so many commands `c/ab` of quality of service 0; nothing is
 //!   printed. `named N`: the gateway registers `t/0` for lane 0 so often; nothing is printed.
 //! - `second N`: the second from now on.

@@ -10,10 +10,10 @@ use crate::sets::datagrams::shown::{print_digits, print_text};
 use crate::sets::page::Page;
 use crate::sets::stop::Stop;
 use crate::sets::words::Words;
-use br_core::{Action, Command, Event, Why};
+use br_core::{Action, Command, DownFilter, Event, Why};
 use mq_packet::{Packet, PacketFault};
 use mq_stream::{Fed, PacketIn};
-use octets::NoMemory;
+use octets::{NoMemory, Sequence};
 use sn_frame::{Frame, FrameFault};
 use std::mem;
 
@@ -67,6 +67,7 @@ fn play_at(page: &mut Page, stage: &mut Stage, words: &mut Words<'_>) {
     match words.first {
         "second" => set_second(stage, words),
         "known" => set_known(stage, words),
+        "unkept" => set_unkept(page, stage, words),
         "crowd" => crowd(page, stage, words),
         "named" => named(page, stage, words),
         _ => play_event(page, stage, words),
@@ -86,6 +87,22 @@ fn set_known(stage: &mut Stage, words: &mut Words<'_>) {
     if words.end() {
         stage.bridge.is_subscribed = true;
     }
+}
+
+/// `unkept`: no filter hands on what the broker had kept.
+fn set_unkept(page: &Page, stage: &mut Stage, words: &mut Words<'_>) {
+    if words.end() {
+        let downs = mem::replace(&mut stage.settings.downs, Sequence::empty(page.alloc));
+        stage.settings.downs = unkept(downs.into_vec());
+    }
+}
+
+/// The same filters, none of which hands on what the broker had kept.
+fn unkept(mut downs: Vec<DownFilter>) -> Sequence<DownFilter> {
+    for entry in downs.iter_mut() {
+        entry.retained = false;
+    }
+    Sequence::new(downs)
 }
 
 /// `crowd N`: the broker sends so many commands.
