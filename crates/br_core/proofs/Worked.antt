@@ -85,8 +85,8 @@ unknown : done_from small ready ((events.Field 0 (frames.Publish once 6 9 (codes
     ≡ actions.ToField 0 (frames.PubAck 6 9 2) ∷ []
 unknown = refl
 
--- the broker goes away while a reading is in flight: the lane sleeps; then the reading comes again
--- under its id, and filters that were subscribed to are not again
+-- the broker goes away while a reading is in flight: the lane sleeps; then filters are subscribed to
+-- again, and the reading comes again under its id
 abbrev away : List Come
 away = (events.Field 0 (frames.Publish once 5 9 (codes "21")), 3) ∷ (events.BrokerLost, 4) ∷ []
 
@@ -95,10 +95,10 @@ slept : done_from small ready away
 slept = refl
 
 abbrev back : List Come
-back = (events.BrokerOpen, 6) ∷ (events.Broker (packets.ConnAck true 0), 6) ∷ []
+back = (events.BrokerOpen, 6) ∷ (events.Broker (packets.ConnAck true 0), 6) ∷ (events.Broker (packets.SubAck 3 (Some levels.One)), 6) ∷ []
 
 back_again : done_from small (after_from small ready away) back
-    ≡ actions.ToBroker hello ∷ actions.ToBroker here
+    ≡ actions.ToBroker hello ∷ actions.ToBroker (packets.Subscribe 3 (codes "c/#") levels.One) ∷ actions.ToBroker here
     ∷ actions.ToBroker (packets.Publish (deliveries.Acknowledged 2 true) false (codes "f/t/heat") (codes "21"))
     ∷ actions.ToField 0 (frames.Connect plain 1 60 (codes "b1-u0")) ∷ []
 back_again = refl
@@ -111,7 +111,7 @@ anew =
 
 brought_again : done_from small (after_from small (after_from small ready away) back) anew
     ≡ actions.ToField 0 (frames.Subscribe once 2 (codes "t/heat"))
-    ∷ actions.Reading 1 (packets.Publish (deliveries.Acknowledged 3 false) false (codes "f/t/heat") (codes "21")) ∷ []
+    ∷ actions.Reading 1 (packets.Publish (deliveries.Acknowledged 4 false) false (codes "f/t/heat") (codes "21")) ∷ []
 brought_again = refl
 
 -- while names are subscribed to, a topic that is no id is asked for again later: then it has its id
