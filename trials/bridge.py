@@ -8,8 +8,8 @@ unpacked into the trial's folder; no service of the machine is started. If it ca
 
 Each message has a number. What a sensor was told PUBACK 0 for has to come to the reader at the broker, and what the publisher at the broker was told
 PUBACK for has to come to the actor in the field, or into the file of refused commands. What comes twice is counted. mosquitto may lose, at a kill,
-what it acknowledged within the last seconds: that is counted apart. Where programs are killed, a relay between bridge and mosquitto notes what
-mosquitto acknowledged, and when. If a part fails, the folder of the trial stays.
+what it acknowledged within the last seconds: that is counted apart. Where programs are killed, a relay between bridge and mosquitto notes what each of
+them sent and acknowledged, and when. If a part fails, the folder of the trial stays.
 """
 import argparse
 import os
@@ -32,6 +32,21 @@ NOTED = 0.1  # seconds after which a PUBACK that has come is surely noted; a bro
 SUBACK = b"\x90\x03\x00\x01\x01"  # the answer to the only filter of a scene
 ENDLESS = 1 << 40  # octets of a file; who passes such a limit is told, and not killed
 AHEAD = 100  # messages of a name that may be on their way while programs are killed
+UP, COMMAND, LAMP = b"field/1/", b"cmd/1/act/lamp", b"act/lamp"  # what stands in front of a reading at the broker; a command there, and in the field
+
+
+def spawn(faults: list, work, *words) -> threading.Thread:
+    """Starts a thread. An exception that ends it lands in a list."""
+
+    def run() -> None:
+        try:
+            work(*words)
+        except Exception as fault:
+            faults.append(f"{work.__name__}: {fault!r}")
+
+    thread = threading.Thread(target=run, daemon=True)
+    thread.start()
+    return thread
 
 
 # ---- MQTT 3.1.1
@@ -59,9 +74,9 @@ class Peer:
 
     def __init__(self, port: int, name: bytes, filters: tuple = ()):
         self.port, self.name, self.filters = port, name, filters
-        self.came, self.acked, self.id = [], set(), 0
+        self.came, self.acked, self.id, self.faults = [], {}, 0, []
         self.socket, self.lock, self.is_over = None, threading.Lock(), False
-        threading.Thread(target=self.run, daemon=True).start()
+        spawn(self.faults, self.run)
 
     def run(self) -> None:
         while not self.is_over:
@@ -102,31 +117,32 @@ class Peer:
         elif kind == 3:
             size = int.from_bytes(body[:2], "big")
             topic, rest = body[2:2 + size], body[2 + size:]
-            if first & 6:
-                line.sendall(packet(0x40, rest[:2]))
-                rest = rest[2:]
+            message, rest = (rest[:2], rest[2:]) if first & 6 else (b"", rest)
             self.came.append((topic, rest, time.monotonic()))
+            if message:
+                line.sendall(packet(0x40, message))
         elif kind == 5:
             line.sendall(packet(0x62, body))
         elif kind in (4, 7):
-            self.acked.add(int.from_bytes(body, "big"))
+            self.acked[int.from_bytes(body, "big")] = time.monotonic()
 
-    def publish(self, topic: bytes, body: bytes, qos: int = 1, seconds: float = 60.0, retain: bool = False) -> None:
-        """Publishes, again and again until PUBACK or PUBCOMP at quality of service 1 or 2."""
+    def publish(self, topic: bytes, body: bytes, qos: int = 1, seconds: float = 60.0, retain: bool = False) -> float:
+        """Publishes, again and again until PUBACK or PUBCOMP at quality of service 1 or 2, and gives the moment of that."""
         with self.lock:
             self.id = self.id % 50000 + 1
-            self.acked.discard(self.id)
+            self.acked.pop(self.id, None)
             end, dup, sent = time.monotonic() + seconds, 0, 0.0
             while True:
-                if time.monotonic() - sent > 1.0 and self.socket:
+                line = self.socket
+                if line and time.monotonic() - sent > 1.0:
                     head = 0x30 | qos << 1 | dup | int(retain)
                     try:
-                        self.socket.sendall(packet(head, text(topic) + (number(self.id) if qos else b"") + body))
+                        line.sendall(packet(head, text(topic) + (number(self.id) if qos else b"") + body))
                         dup, sent = 8 if qos else 0, time.monotonic()
                     except OSError:
                         pass
                 if sent and (not qos or self.id in self.acked):
-                    return
+                    return self.acked.get(self.id, sent)
                 if time.monotonic() > end:
                     raise Failed(f"the broker did not acknowledge {body!r}")
                 time.sleep(0.001)
@@ -137,13 +153,34 @@ class Peer:
             self.socket.shutdown(socket.SHUT_RDWR)
 
 
+class Way:
+    """A direction of a connection: its publications in `published`, those that were acknowledged in `done`, both in their order; and in `acked`, by topic
+    and message, the moments of the PUBACKs."""
+
+    def __init__(self, published: list, acked: dict):
+        self.open, self.published, self.done, self.acked = {}, published, [], acked
+
+    def publish(self, body: bytes) -> None:
+        size = int.from_bytes(body[:2], "big")
+        message = body[2:2 + size], body[4 + size:]
+        self.published.append(message)
+        self.open[body[2 + size:4 + size]] = message
+
+    def acknowledge(self, name: bytes) -> None:
+        message = self.open.pop(name, None)
+        if message:
+            self.done.append(message)
+            self.acked.setdefault(message, []).append(time.monotonic())
+
+
 class Relay:
-    """Stands between the bridge and the broker, and hands on each octet. It notes when the broker acknowledged which publication, before the bridge hears it."""
+    """Stands between the bridge and the broker, and hands on each octet. Before it does, it notes in `up` what the bridge published, in `acked` what the
+    broker acknowledged of it, in `answered` what the bridge acknowledged, and in `downs` the way down of each connection."""
 
     def __init__(self, port: int):
         self.port, self.server = port, socket.create_server((HOST, 0))
-        self.acked = {}  # by topic and message, the moments of the PUBACKs
-        threading.Thread(target=self.run, daemon=True).start()
+        self.up, self.acked, self.answered, self.downs, self.faults = [], {}, {}, [], []
+        spawn(self.faults, self.run)
 
     def run(self) -> None:
         while True:
@@ -156,18 +193,19 @@ class Relay:
             except OSError:
                 bridge.close()
                 continue
-            sent = {}
+            up, down = Way(self.up, self.acked), Way([], self.answered)
+            self.downs.append(down)
             for line in (bridge, broker):
                 line.settimeout(None)
                 line.setsockopt(socket.IPPROTO_TCP, socket.TCP_NODELAY, 1)
-            for source, target in ((bridge, broker), (broker, bridge)):
-                threading.Thread(target=self.hand_on, args=(source, target, sent), daemon=True).start()
+            spawn(self.faults, self.hand_on, bridge, broker, up, down)
+            spawn(self.faults, self.hand_on, broker, bridge, down, up)
 
-    def hand_on(self, source, target, sent: dict) -> None:
+    def hand_on(self, source, target, own: Way, other: Way) -> None:
         octets = b""
         try:
             while came := source.recv(65535):
-                octets = self.note(octets + came, sent)
+                octets = self.note(octets + came, own, other)
                 target.sendall(came)
         except OSError:
             pass
@@ -177,7 +215,7 @@ class Relay:
             except OSError:
                 pass
 
-    def note(self, octets: bytes, sent: dict) -> bytes:
+    def note(self, octets: bytes, own: Way, other: Way) -> bytes:
         """Notes whole packets; what is left is the begin of one."""
         while len(octets) > 1:
             size, at = 0, 1
@@ -190,16 +228,16 @@ class Relay:
                 return octets
             if len(octets) < at + size:
                 return octets
-            self.note_one(octets[0], octets[at:at + size], sent)
+            self.note_one(octets[0], octets[at:at + size], own, other)
             octets = octets[at + size:]
         return octets
 
-    def note_one(self, first: int, body: bytes, sent: dict) -> None:
+    def note_one(self, first: int, body: bytes, own: Way, other: Way) -> None:
+        """A publication is of its own direction, and a PUBACK of a publication of the other one."""
         if first >> 4 == 3 and first & 6:
-            size = int.from_bytes(body[:2], "big")
-            sent[body[2 + size:4 + size]] = body[2:2 + size], body[4 + size:]
-        elif first >> 4 == 4 and body in sent:
-            self.acked.setdefault(sent[body], []).append(time.monotonic())
+            own.publish(body)
+        elif first >> 4 == 4:
+            other.acknowledge(body)
 
     def close(self) -> None:
         self.server.close()
@@ -230,10 +268,10 @@ class Node:
         kind, body = opened(octets)
         if kind == 0x0C:
             name = self.names.get(body[1:3])
-            if body[0] & 0x60:
-                self.say(published(body[1:3], int.from_bytes(body[3:5], "big"), 0 if name else 2))
             if name:
                 self.came.append((name, body[5:], time.monotonic()))
+            if body[0] & 0x60:
+                self.say(published(body[1:3], int.from_bytes(body[3:5], "big"), 0 if name else 2))
         elif kind == 0x0A:
             self.names[body[:2]] = body[4:]
             self.say(frame(0x0B, body[:4] + b"\0"))
@@ -446,6 +484,20 @@ def count_of(came: list, topic: bytes) -> list:
 def first_of(numbers: list) -> list:
     """Each number once, where it came first."""
     return list(dict.fromkeys(numbers))
+
+
+def is_rising(numbers: list) -> bool:
+    return numbers == sorted(set(numbers))
+
+
+def silence(came: list) -> float:
+    """For how many seconds nothing has come."""
+    return time.monotonic() - (came[-1][2] if came else 0.0)
+
+
+def latest(came: list, topic: bytes) -> int:
+    """The last number that came under a topic; -1 if none did."""
+    return next((int(body) for name, body, _ in reversed(came) if name == topic), -1)
 
 
 # ---- parts
@@ -769,107 +821,185 @@ def spooled_kills(bridge: str, sngw: str, broker: tuple, folder: str, words) -> 
 
 
 def kills(bridge: str, sngw: str, broker: tuple, folder: str, words, spools: bool = False) -> str:
-    """The bridge, the broker and the gateway are killed in turn: nothing that was acknowledged is lost."""
+    """The bridge, the broker and the gateway are killed in turn: nothing that was acknowledged is lost, and the bridge keeps the order."""
     dice = random.Random(words.seed)
     with Scene(bridge, sngw, broker, folder, spools=spools, relays=True) as scene:
-        reader, writer = Peer(scene.broker_port, b"reader", (b"field/#",)), Peer(scene.broker_port, b"writer")
-        actor, is_over, killed, sent = Node(scene.gateway, b"actor"), [], [], {}
-        actor.connect()
-        actor.listen(b"act/lamp")
-        threading.Thread(target=actor.run, args=(lambda: bool(is_over) and is_over[0] > 1,), daemon=True).start()
-        scene.ready()
-        faults = []
+        traffic = Traffic(scene)
+        try:
+            traffic.begin()
+            for which in turns(dice, words.kills):
+                traffic.wait_for_flow()
+                time.sleep(dice.uniform(0.0, 2.0))
+                traffic.kill(which, dice)
+            traffic.end()
+            traffic.check()
+        except Failed as fault:
+            traffic.write_story()
+            raise Failed(f"{fault}; see {scene.folder}/story") from fault
+        return (f"{words.kills} kills, {traffic.flowing} of the bridge within a second after a reading came, {len(traffic.sent)} messages, none lost but "
+                f"{len(traffic.lost()[1])} that mosquitto acknowledged within {SAVED:.0f} seconds of its kill, {traffic.twice()} twice, {traffic.order()}")
 
-        def pause(name: bytes, at: int, came) -> None:
-            """Waits until what was sent some time ago has come, or is lost: a gateway keeps 1,024 messages for a lane."""
-            end = time.monotonic() + 60
-            while not is_over and at >= AHEAD and (name, at - AHEAD) not in came() and time.monotonic() < end:
-                time.sleep(0.05)
 
-        def read(name: bytes) -> None:
-            sensor, at = Node(scene.gateway, b"s" + name[-2:]), 0
-            try:
-                sensor.connect()
-                while not is_over:
-                    pause(b"field/1/" + name, at, lambda: {(topic, int(body)) for topic, body, _ in reader.came[-4000:]})
-                    sensor.publish(name, b"%d" % at)
-                    sent[name, at] = time.monotonic()
-                    at += 1
-                    time.sleep(0.02)
-            except Failed as fault:
-                faults.append(str(fault))
+def turns(dice: random.Random, many: int) -> list:
+    """What is killed, one after the other: all three in turn, each time in another order."""
+    found = []
+    while len(found) < many:
+        found += dice.sample(["bridge", "broker", "gateway"], 3)
+    return found[:many]
 
-        def command() -> None:
-            at = 0
-            try:
-                while not is_over:
-                    pause(b"act/lamp", at, lambda: {(topic, int(body)) for topic, body, _ in actor.came[-4000:]})
-                    writer.publish(b"cmd/1/act/lamp", b"%d" % at)
-                    sent[b"act/lamp", at] = time.monotonic()
-                    at += 1
-                    time.sleep(0.05)
-            except Failed as fault:
-                faults.append(str(fault))
 
-        threads = [threading.Thread(target=read, args=(name,)) for name in scene.names] + [threading.Thread(target=command)]
-        for it in threads:
-            it.start()
-        for turn in range(words.kills):
-            time.sleep(dice.uniform(1.0, 6.0))
-            which = turn % 3
-            if which == 0:
-                scene.bridge.kill()
-                scene.bridge.start()
-            elif which == 1:
-                began = time.monotonic()
-                scene.broker.kill()
-                time.sleep(dice.uniform(0.0, 0.5))
-                killed.append((began, time.monotonic()))
-                scene.broker.start()
-            else:
-                scene.gateway.kill()
-                scene.gateway.start()
-        is_over.append(1)
-        for it in threads:
-            it.join()
+class Traffic:
+    """Sensors, a reader, a writer and an actor, whose messages are numbers. `sent` has what was acknowledged to who sent it, and when; `killed` has what
+    was killed, and when that began and ended."""
+
+    def __init__(self, scene: Scene):
+        self.scene, self.sent, self.killed, self.faults = scene, {}, [], []
+        self.flowing, self.senders, self.is_over, self.is_done = 0, [], False, False
+        self.reader, self.writer = Peer(scene.broker_port, b"reader", (b"field/#",)), Peer(scene.broker_port, b"writer")
+        self.actor = Node(scene.gateway, b"actor")
+
+    def begin(self) -> None:
+        """Begins once all sessions are on the disk of the broker."""
+        self.actor.connect()
+        self.actor.listen(LAMP)
+        spawn(self.faults, self.actor.run, lambda: self.is_done)
+        self.scene.ready()
+        until(lambda: self.reader.socket and self.writer.socket, 10, "the peers did not connect")
+        time.sleep(SAVED)
+        self.senders = [spawn(self.faults, self.read, name) for name in self.scene.names] + [spawn(self.faults, self.command)]
+
+    def look(self) -> None:
+        """No thread has ended by a fault."""
+        faults = self.faults + self.reader.faults + self.writer.faults + self.scene.relay.faults
         expect(not faults, f"{faults}")
+
+    def pause(self, topic: bytes, at: int, came: list) -> None:
+        """Waits while too many messages are on their way: a gateway keeps 1,024 for a lane. What mosquitto has lost is not waited for once a later one
+        has come."""
+        end = time.monotonic() + 10
+        while not self.is_over and at - latest(came, topic) > AHEAD and time.monotonic() < end:
+            time.sleep(0.05)
+
+    def read(self, name: bytes) -> None:
+        """A sensor publishes readings until it is over."""
+        sensor, at = Node(self.scene.gateway, b"s" + name[-2:]), 0
+        sensor.connect()
+        while not self.is_over:
+            self.pause(UP + name, at, self.reader.came)
+            sensor.publish(name, b"%d" % at)
+            self.sent[name, at] = time.monotonic()
+            at += 1
+            time.sleep(0.02)
+
+    def command(self) -> None:
+        """The writer publishes commands until it is over."""
+        at = 0
+        while not self.is_over:
+            self.pause(LAMP, at, self.actor.came)
+            self.sent[LAMP, at] = self.writer.publish(COMMAND, b"%d" % at)
+            at += 1
+            time.sleep(0.05)
+
+    def wait_for_flow(self) -> None:
+        """Waits until a reading has just come, but not for ever. After a kill of the gateway its lanes notice nothing for 20 seconds."""
+        end = time.monotonic() + 30
+        while silence(self.reader.came) > 0.5 and time.monotonic() < end:
+            time.sleep(0.02)
+
+    def kill(self, which: str, dice: random.Random) -> None:
+        """Kills one of the three, which must not have ended by itself, and starts it again."""
+        program = {"bridge": self.scene.bridge, "broker": self.scene.broker, "gateway": self.scene.gateway}[which]
+        self.look()
+        program.alive()
+        self.flowing += which == "bridge" and silence(self.reader.came) < 1.0
+        began = time.monotonic()
+        program.kill()
+        if which == "broker":
+            time.sleep(dice.uniform(0.0, 0.5))
+        self.killed.append((which, began, time.monotonic()))
+        program.start()
+
+    def end(self) -> None:
+        """Waits until all has come, or nothing comes any more but what mosquitto may have lost."""
+        self.stop_senders()
+        self.look()
         end = time.monotonic() + 180
         while time.monotonic() < end:
-            lost = lost_of(sent, reader, actor, killed, scene.relay.acked)
-            if not lost[0] and not lost[1]:
+            faults, losses = self.lost()
+            if not faults and (not losses or min(silence(self.reader.came), silence(self.actor.came)) > 30):
                 break
             time.sleep(1)
-        is_over[0] = 2
-        if lost[0]:
-            write_story(os.path.join(scene.folder, "story"), lost, sent, reader, actor, killed, scene.relay.acked)
-        expect(not lost[0], f"{len(lost[0])} acknowledged messages are lost, among them {sorted(lost[0])[:5]}; see {scene.folder}/story")
-        twice = len(reader.came) + len(actor.came) - len({(topic, body) for topic, body, _ in reader.came}) - len({(name, body) for name, body, _ in actor.came})
-        return f"{words.kills} kills, {len(sent)} messages, none lost but {len(lost[1])} that mosquitto acknowledged within {SAVED:.0f} seconds of its kill, {twice} twice"
+        self.is_done = True
 
+    def stop_senders(self) -> None:
+        self.is_over = True
+        for it in self.senders:
+            it.join()
 
-def lost_of(sent: dict, reader: Peer, actor: Node, killed: list, acked: dict) -> tuple:
-    """What was acknowledged and did not come: what is a fault, and what mosquitto acknowledged shortly before it was killed, and may have lost. It
-    acknowledges readings to the bridge, and commands to the writer."""
-    came = {(topic.removeprefix(b"field/1/"), int(body)) for topic, body, _ in reader.came} | {(name, int(body)) for name, body, _ in actor.came}
-    lost = {it for it in sent if it not in came}
+    def lost(self) -> tuple:
+        """What was acknowledged and did not come: what is a fault, and what mosquitto may have lost."""
+        came = {(topic.removeprefix(UP), int(body)) for topic, body, _ in self.reader.came + self.actor.came} | self.refused()
+        lost = {it for it in self.sent if it not in came}
+        losses = {it for it in lost if self.may_lose(self.moments(*it))}
+        return lost - losses, losses
 
-    def moments(name: bytes, at: int) -> list:
-        return [sent[name, at]] if name == b"act/lamp" else acked.get((b"field/1/" + name, b"%d" % at), [])[-1:]
+    def refused(self) -> set:
+        """The commands in the file of what nobody will have."""
+        if not os.path.exists(self.scene.refused):
+            return set()
+        with open(self.scene.refused, encoding="ascii") as it:
+            return {(LAMP, int(bytes.fromhex(line.split()[4]))) for line in it if line.endswith("\n")}
 
-    brokers = {it for it in lost if any(began - SAVED < moment < ended + NOTED for moment in moments(*it) for began, ended in killed)}
-    return lost - brokers, brokers
+    def moments(self, name: bytes, at: int) -> list:
+        """When mosquitto answered for a message: for a reading to the bridge, for a command to the writer, unless the bridge has answered for it since."""
+        body = b"%d" % at
+        if name == LAMP:
+            return [] if (COMMAND, body) in self.scene.relay.answered else [self.sent[name, at]]
+        return self.scene.relay.acked.get((UP + name, body), [])
 
+    def may_lose(self, moments: list) -> bool:
+        """Whether mosquitto may have lost what it acknowledged at these moments: each time it was killed before it had saved that."""
+        spans = [(began - SAVED, ended + NOTED) for which, began, ended in self.killed if which == "broker"]
+        return bool(moments) and all(any(began < moment < ended for began, ended in spans) for moment in moments)
 
-def write_story(path: str, lost: tuple, sent: dict, reader: Peer, actor: Node, killed: list, acked: dict) -> None:
-    """What is known of each message, for who looks for one that is lost."""
-    with open(path, "w", encoding="utf-8") as it:
-        it.write(f"lost {sorted(lost[0])}\nlost by mosquitto {sorted(lost[1])}\n")
-        lines = [(began, "mosquitto is killed") for began, _ in killed] + [(ended, "mosquitto is started") for _, ended in killed]
-        lines += [(moment, f"{name.decode()} {at} acknowledged") for (name, at), moment in sent.items()]
-        lines += [(moment, f"{name.decode()} {body.decode()} came") for name, body, moment in [*reader.came, *actor.came]]
-        lines += [(moment, f"{name.decode()} {body.decode()} acknowledged by mosquitto") for (name, body), moments in acked.items() for moment in moments]
-        for moment, line in sorted(lines):
-            it.write(f"{moment:.3f} {line}\n")
+    def twice(self) -> int:
+        came = [(topic, body) for topic, body, _ in self.reader.came + self.actor.came]
+        return len(came) - len(set(came))
+
+    def has_sorted_commands(self) -> bool:
+        """Whether mosquitto sent commands to the bridge in their order over each connection."""
+        return all(is_rising([int(body) for _, body in way.published]) for way in self.scene.relay.downs)
+
+    def order(self) -> str:
+        return "all in order" if self.has_sorted_commands() else "readings in order; mosquitto broke that of commands"
+
+    def check(self) -> None:
+        """Nothing is lost. The bridge publishes readings in their order, repeats apart, and answers for commands as they came over a connection."""
+        self.look()
+        self.scene.bridge.alive()
+        faults = sorted(self.lost()[0])
+        expect(not faults, f"{len(faults)} acknowledged messages are lost, among them {faults[:5]}")
+        for name in self.scene.names:
+            numbers = first_of([int(body) for topic, body in self.scene.relay.up if topic == UP + name])
+            expect(is_rising(numbers), f"the bridge publishes readings of {name!r} out of order")
+        for way in self.scene.relay.downs:
+            expect(way.done == way.published[:len(way.done)], "the bridge answers for commands out of order")
+        expect(is_rising(first_of(count_of(self.actor.came, LAMP))) or not self.has_sorted_commands(), "commands come to the actor out of order")
+
+    def write_story(self) -> None:
+        """What is known of each message, for who looks for one that is lost."""
+        self.stop_senders()
+        relay, (faults, losses) = self.scene.relay, self.lost()
+        lines = [(began, f"the {which} is killed") for which, began, _ in self.killed] + [(ended, f"the {which} is started") for which, _, ended in self.killed]
+        lines += [(moment, f"{name.decode()} {at} acknowledged") for (name, at), moment in self.sent.items()]
+        lines += [(moment, f"{name.decode()} {body.decode()} came") for name, body, moment in self.reader.came + self.actor.came]
+        for who, found in (("mosquitto", relay.acked), ("the bridge", relay.answered)):
+            lines += [(moment, f"{name.decode()} {body.decode()} acknowledged by {who}") for (name, body), moments in list(found.items()) for moment in moments]
+        with open(os.path.join(self.scene.folder, "story"), "w", encoding="utf-8") as it:
+            it.write(f"lost {sorted(faults)}\nlost by mosquitto {sorted(losses)}\n")
+            it.writelines(f"{moment:.3f} {line}\n" for moment, line in sorted(lines))
+            it.write("published by the bridge, in this order:\n")
+            it.writelines(f"{name.decode()} {body.decode()}\n" for name, body in relay.up)
 
 
 PARTS = {"settings": settings, "names": names, "through": through, "retained": retained, "predefined": predefined, "away": away, "spool": spool, "full": full,
