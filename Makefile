@@ -12,7 +12,7 @@
 #   make trial  builds all programs without a proof, for a first look, into out/trial
 #   make client proves and builds sn_client, a client for a person at a terminal
 #   make look   proves and builds jr_look, which shows what is in a journal
-#   make bridge proves and builds sn_bridge, a bridge to an MQTT broker, and tries it with mosquitto
+#   make bridge proves and builds sn_bridge, a bridge to an MQTT broker, and tries it with mosquitto; KILLS=100 for many kills
 #   make mend   proves and builds jr_mend, which cuts zeros from the end of a journal
 #   make install PREFIX=/usr/local
 #               installs the programs that are built, man pages, a systemd unit and examples; DESTDIR is honoured; make uninstall
@@ -24,6 +24,7 @@
 
 PREFIX ?= /usr/local
 DESTDIR ?=
+KILLS ?= 20
 PROGRAMS = sngw sn_client gw_sim jr_look jr_mend sn_bridge
 UNITS = $(DESTDIR)$(PREFIX)/lib/systemd/system
 SHARE = $(DESTDIR)$(PREFIX)/share
@@ -117,7 +118,7 @@ crates/sn_bridge/out/sn_bridge: $(SOURCES)
 	$(call build,sn_bridge,some twenty minutes)
 
 bridge: crates/sn_bridge/out/sn_bridge crates/sngw/out/sngw
-	@python3 trials/bridge.py crates/sn_bridge/out/sn_bridge crates/sngw/out/sngw
+	@python3 trials/bridge.py crates/sn_bridge/out/sn_bridge crates/sngw/out/sngw --kills $(KILLS)
 
 install:
 	@sh tools/install.sh "$(DESTDIR)" "$(PREFIX)"
