@@ -20,6 +20,8 @@ import tempfile
 import threading
 import time
 
+import edits
+
 KIT = "/opt/rattle"
 LANES = int(os.environ.get("LANES", "4"))
 CLONES = [os.path.abspath(it) for it in os.environ.get("OVER", "").split(":") if it]
@@ -179,17 +181,18 @@ def check(root, name, flags):
 def edited(folder, path):
     """Makes an edit in a copy of a crate, and says why where that cannot be done."""
     with open(path) as it:
-        lines = [line.partition(": ")[::2] for line in it.read().splitlines() if line.strip()]
-    at = os.path.join(folder, dict(lines)["file"])
-    with open(at) as it:
-        text = it.read()
-    pairs = [value for key, value in lines if key in ("old", "new")]
-    for old, new in zip(pairs[::2], pairs[1::2]):
+        try:
+            pairs = edits.read_pairs(it.read())
+        except ValueError as fault:
+            return str(fault)
+    for name, old, new in pairs:
+        at = os.path.join(folder, name)
+        with open(at) as it:
+            text = it.read()
         if text.count(old) != 1:
             return f"stands {text.count(old)} times: {old}"
-        text = text.replace(old, new)
-    with open(at, "w") as it:
-        it.write(text)
+        with open(at, "w") as it:
+            it.write(text.replace(old, new))
     return None
 
 
