@@ -39,3 +39,7 @@ found = refl
 
 next : next_in ((put_of first ∷ []) ∷ (ack_of 8194 ∷ []) ∷ []) ≡ 8195
 next = refl
+
+-- a range that goes on after the last place counts up to this place
+far : next_in ((ops.Ack (codes "q00") 255 1 288230376151703553 ∷ []) ∷ []) ≡ 18446744073708511232
+far = refl

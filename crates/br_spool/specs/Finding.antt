@@ -1,5 +1,5 @@
 -- The readings of a journal.
-use Rattle.std.specs.Prelude.{ℕ, ◌+◌, ◌==◌, max, if◌then◌else◌, List, [], ◌∷◌, fold, Option, Some, None}
+use Rattle.std.specs.Prelude.{◌≡◌, ℕ, ◌+◌, ◌≤◌, ◌==◌, max, min, if◌then◌else◌, List, [], ◌∷◌, fold, Option, Some, None}
 use Rattle.std.specs.List.{flat_map}
 use Rattle.mq_packet.specs.declared.packet.Qos.TheVariants as levels
 use Rattle.rep_op.specs.declared.op.Op.{Op}
@@ -7,7 +7,7 @@ use Rattle.rep_op.specs.declared.op.Op.TheVariants as ops
 use Rattle.rep_op.specs.declared.op.Put.{Put}
 use Rattle.rep_ops.specs.Splitting.{all_of}
 use Rattle.br_core.specs.declared.item.Item.{Item}
-use Rattle.br_spool.specs.declared.place.TheConstants.{SPOOL}
+use Rattle.br_spool.specs.declared.place.TheConstants.{LAST_SEQ, SPOOL}
 use Rattle.br_spool.specs.Places.{number_of, queue_in}
 
 -- the number of a place of a queue of this origin
@@ -39,10 +39,20 @@ one_if (Some item) = item ∷ []
 abbrev pub read : Op → List Item
 read op = one_if (item_of op)
 
--- the number of the reading that an operation is about
+-- An operation speaks of a number if it puts the reading of this number, or acknowledges its place.
+abbrev pub SpeaksOf : Op → ℕ → Type 0
+SpeaksOf (ops.Put client put) number =
+    number_at (queue_in client) put.origin put.seq ≡ Some number
+SpeaksOf (ops.Ack client origin first last) number =
+    (seq : ℕ) × (first ≤ seq) × (seq ≤ last)
+    × (number_at (queue_in client) origin seq ≡ Some number)
+SpeaksOf op number = ⊥
+
+-- the greatest number that an operation can speak of; places after the last one have none
 abbrev pub number_in : Op → Option ℕ
 number_in (ops.Put client put) = number_at (queue_in client) put.origin put.seq
-number_in (ops.Ack client origin first last) = number_at (queue_in client) origin last
+number_in (ops.Ack client origin first last) =
+    number_at (queue_in client) origin (min last LAST_SEQ)
 number_in op = None
 
 -- a number above that one, and above another

@@ -1,6 +1,6 @@
 //! What holds of every spool.
 
-ghost use Rattle.std.specs.Prelude.{◌≡◌, ◌<◌, ◌*◌, ℕ, List, false, Some};
+ghost use Rattle.std.specs.Prelude.{◌≡◌, ◌<◌, ◌*◌, ℕ, List, false, Some, Contains};
 ghost use Rattle.mq_packet.specs.declared.packet.Qos.TheVariants as levels;
 ghost use Rattle.rep_op.specs.declared.op.Op.{Op};
 ghost use Rattle.rep_op.specs.declared.op.Put.{Put};
@@ -10,7 +10,7 @@ ghost use Rattle.rep_model.specs.Held.{IsHeld};
 ghost use Rattle.rep_model.specs.Keep.{CountsAs};
 ghost use Rattle.br_core.specs.declared.item.Item.{Item};
 ghost use Rattle.br_spool.specs.declared.place.TheConstants.{LAST_SEQ, QUEUES};
-ghost use Rattle.br_spool.specs.Finding.{item_of};
+ghost use Rattle.br_spool.specs.Finding.{item_of, next_in, SpeaksOf};
 ghost use Rattle.br_spool.specs.Messages.{put_of};
 ghost use Rattle.br_spool.specs.Places.{number_of, queue_of, seq_of};
 
@@ -37,4 +37,20 @@ pub fn found_again()
         → put_at client taken (seq, origin) ≡ Some put
         → is_acknowledged client taken (seq, origin) ≡ false
         → put_at client (all_of deltas) (seq, origin) ≡ Some put }
+{}
+
+/// The next number is above all that the operations of deltas put or acknowledge. The function does
+/// nothing; its contract is the law.
+pub fn counts_above()
+    ensures { (deltas : List (List Op)) (op : Op) (number : ℕ)
+        → Contains (all_of deltas) op → SpeaksOf op number → number < next_in deltas }
+{}
+
+/// The next number is above all that a gateway ever put or acknowledged, however its set was kept:
+/// so a new reading gets a number that the spool never had. The function does nothing; its contract
+/// is the law.
+pub fn never_again()
+    ensures { (taken kept : List Op) (deltas : List (List Op)) → CountsAs taken kept
+        → IsHeld kept deltas → (op : Op) (number : ℕ)
+        → Contains taken op → SpeaksOf op number → number < next_in deltas }
 {}

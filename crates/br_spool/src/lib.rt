@@ -9,7 +9,7 @@
 //! - `writing`: readings as a delta (`delta_of`).
 //! - `reading`: the readings of deltas (`held_in`).
 //! - `fault`: why readings make no delta (`SpoolFault`).
-//! - `laws`: what was taken and not acknowledged is found again.
+//! - `laws`: what was taken and not acknowledged is found again, and no number comes again.
 //!
 //! The definitions are in `specs/`.
 #![tactic(auto)]
@@ -21,7 +21,7 @@ mod reading;
 mod writing;
 
 pub use fault::SpoolFault;
-pub use laws::{found_again, one_place, one_reading};
+pub use laws::{counts_above, found_again, never_again, one_place, one_reading};
 pub use place::{LAST_SEQ, MAX_ROOM, QUEUES, SPOOL, TURN, number_of, queue_of, seq_of};
 pub use reading::{Held, held_in};
 pub use writing::delta_of;

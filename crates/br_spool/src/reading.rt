@@ -7,7 +7,7 @@ ghost use Rattle.std.specs.Ordering.{is_lt, nat_cmp};
 ghost use Rattle.br_spool.specs.Finding as spec;
 ghost use Rattle.br_spool.specs.Places as places;
 
-use crate::place::{SPOOL, number_of, queue_in};
+use crate::place::{LAST_SEQ, SPOOL, number_of, queue_in};
 use br_core::Item;
 use mq_packet::Qos;
 use octets::{NoMemory, Octets};
@@ -38,7 +38,7 @@ fn number_at(client: &ClientId, origin: u8, seq: u64) -> Option<u64>
     }
 }
 
-/// The number of the reading that an operation is about.
+/// The greatest number that an operation can speak of.
 fn number_in(op: &Op) -> Option<u64>
     ensures { result ≡ spec.number_in op.now }
 {
@@ -49,7 +49,7 @@ fn number_in(op: &Op) -> Option<u64>
             origin,
             last,
             ..
-        } => number_at(client, *origin, *last),
+        } => number_at(client, *origin, (*last).min(LAST_SEQ)),
         Op::Session { .. } | Op::Retain { .. } => None,
     }
 }
@@ -104,7 +104,7 @@ fn read_into(alloc: Global, ops: &[Op], items: &mut Vec<Item>) -> Result<(), NoM
     Ok(())
 }
 
-/// A number above that of an operation's reading, and above another one.
+/// A number above all that an operation speaks of, and above another one.
 fn above(next: u64, op: &Op) -> u64
     ensures { result ≡ spec.above next op.now }
 {
