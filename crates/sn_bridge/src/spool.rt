@@ -5,7 +5,8 @@
 //! the end of a turn: then as many as a delta takes become one, with one sync. If that fails, they
 //! wait on, and nothing was answered for.
 
-ghost use Rattle.std.specs.Prelude.{◌<◌, ◌≤◌, IfSome, length};
+ghost use Rattle.std.specs.Prelude.{◌≡◌, ◌≢◌, ◌<◌, ◌≤◌, All, IfSome, MatchOption, length, slice_get};
+ghost use Rattle.std.specs.List.{AllWithin};
 
 use crate::stop::Stop;
 use br_core::Item;
@@ -196,7 +197,10 @@ fn held_by(alloc: Global, node: &Node<Folded, FileDisk>) -> Result<Held, Stop> {
 
 /// Where the reading of a number is among these.
 fn place_of(number: u64, items: &[Item]) -> Option<usize>
-    ensures { IfSome result (λ at. at < length items.now) }
+    ensures place { MatchOption result (All (λ item. item.number ≢ number) items.now)
+        (λ at. at < length items.now) }
+    ensures number { IfSome result
+        (λ at. IfSome (slice_get items.now at) (λ item. item.number ≡ number)) }
 {
     for at in 0..items.len() {
         if items[at].number == number {
@@ -208,7 +212,9 @@ fn place_of(number: u64, items: &[Item]) -> Option<usize>
 
 /// How many of these readings, in the order of their numbers, have smaller ones than this.
 fn count_below(number: u64, items: &[Item]) -> usize
-    ensures { result ≤ length items.now }
+    ensures within { result ≤ length items.now }
+    ensures before { AllWithin (λ item. item.number < number) items.now 0 result }
+    ensures next { IfSome (slice_get items.now result) (λ item. number ≤ item.number) }
 {
     for at in 0..items.len() {
         if items[at].number >= number {
