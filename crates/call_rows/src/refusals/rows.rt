@@ -139,6 +139,8 @@ pub(crate) const NO_GROWTH: &str = "
     rep_op::ClientId::copy
     rep_plain::empty
     rep_state::empty
+    br_core::Item::copied
+    br_core::Command::copied
 ";
 
 /// Plays a row.
