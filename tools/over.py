@@ -180,16 +180,19 @@ def edited(folder, path):
     """Makes an edit in a copy of a crate, and says why where that cannot be done."""
     with open(path) as it:
         lines = [line.partition(": ")[::2] for line in it.read().splitlines() if line.strip()]
-    at = os.path.join(folder, dict(lines)["file"])
-    with open(at) as it:
-        text = it.read()
-    pairs = [value for key, value in lines if key in ("old", "new")]
-    for old, new in zip(pairs[::2], pairs[1::2]):
-        if text.count(old) != 1:
-            return f"stands {text.count(old)} times: {old}"
-        text = text.replace(old, new)
-    with open(at, "w") as it:
-        it.write(text)
+    at = old = None
+    for key, value in lines:
+        if key == "file":
+            at = os.path.join(folder, value)
+        elif key == "old":
+            old = value
+        else:
+            with open(at) as it:
+                text = it.read()
+            if text.count(old) != 1:
+                return f"stands {text.count(old)} times: {old}"
+            with open(at, "w") as it:
+                it.write(text.replace(old, value))
     return None
 
 

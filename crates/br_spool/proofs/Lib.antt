@@ -1,0 +1,5 @@
+pub mod Placed
+pub mod Written
+pub mod Found
+pub mod Counted
+pub mod Worked
