@@ -12,18 +12,19 @@
 #   make trial  builds all programs without a proof, for a first look, into out/trial
 #   make client proves and builds sn_client, a client for a person at a terminal
 #   make look   proves and builds jr_look, which shows what is in a journal
+#   make bridge proves and builds sn_bridge, a bridge to an MQTT broker, and tries it with mosquitto
 #   make mend   proves and builds jr_mend, which cuts zeros from the end of a journal
 #   make install PREFIX=/usr/local
 #               installs the programs that are built, man pages, a systemd unit and examples; DESTDIR is honoured; make uninstall
 #   make deb    packs the programs that are proved and built, man pages, the unit and examples as a Debian package, into out
 #   make bench  times the simulator, single steps beside their goals, digests and answers, the lock, and the two codecs beside plain C,
-#               and tells what a gateway keeps in memory
+#               and tells what a gateway keeps in memory; bench/bridge.py times a bridge
 #
 # All but make install, deb and trust need the Rattle kit's command `rt`; make test, trust, daemon, field, bench, install and deb need python3, make bench gcc too.
 
 PREFIX ?= /usr/local
 DESTDIR ?=
-PROGRAMS = sngw sn_client gw_sim jr_look jr_mend
+PROGRAMS = sngw sn_client gw_sim jr_look jr_mend sn_bridge
 UNITS = $(DESTDIR)$(PREFIX)/lib/systemd/system
 SHARE = $(DESTDIR)$(PREFIX)/share
 
@@ -32,7 +33,7 @@ SOURCES := $(shell find crates.txt crates -path '*/out' -prune -o \( -name '*.rt
 
 TRIALS = $(PROGRAMS:%=out/trial/%)
 
-.PHONY: run prove test refusals edits bench trust daemon field trial client look mend install deb uninstall clean
+.PHONY: run prove test refusals edits bench trust daemon field trial client look mend bridge install deb uninstall clean
 
 run:
 	@sh examples/show.sh
@@ -111,6 +112,12 @@ crates/jr_mend/out/jr_mend: $(SOURCES)
 mend: crates/jr_mend/out/jr_mend
 	@echo "crates/jr_mend/out/jr_mend is built"
 
+crates/sn_bridge/out/sn_bridge: $(SOURCES)
+	$(call build,sn_bridge,some twenty minutes)
+
+bridge: crates/sn_bridge/out/sn_bridge crates/sngw/out/sngw
+	@python3 trials/bridge.py crates/sn_bridge/out/sn_bridge crates/sngw/out/sngw
+
 install:
 	@sh tools/install.sh "$(DESTDIR)" "$(PREFIX)"
 
@@ -119,8 +126,9 @@ deb:
 
 uninstall:
 	for name in $(PROGRAMS); do rm -f "$(DESTDIR)$(PREFIX)/bin/$$name"; done
-	for page in man8/sngw.8 man8/jr_look.8 man8/jr_mend.8 man1/sn_client.1 man1/gw_sim.1; do rm -f "$(SHARE)/man/$$page"; done
-	rm -f "$(UNITS)/nimhazel@.service"
+	for page in man8/sngw.8 man8/jr_look.8 man8/jr_mend.8 man8/sn_bridge.8 man1/sn_client.1 man1/gw_sim.1; do rm -f "$(SHARE)/man/$$page"; done
+	rm -f "$(UNITS)/nimhazel@.service" "$(UNITS)/nimhazel-bridge@.service"
+	for name in b1.toml mosquitto.conf; do rm -f "$(SHARE)/doc/nimhazel/bridge/$$name"; done
 	for name in one two three; do rm -f "$(SHARE)/doc/nimhazel/field/$$name.toml"; done
 
 bench:

@@ -21,7 +21,7 @@ clean() {
 # Ends the script if a program is not there as it was proved, with all of them in one line.
 need_programs() {
     lacks=
-    for name in sngw sn_client gw_sim jr_look jr_mend; do
+    for name in sngw sn_client gw_sim jr_look jr_mend sn_bridge; do
         if [ ! -x "crates/$name/out/$name" ]; then
             lacks="$lacks; $name is missing ('make $(target "$name")' proves and builds it)"
         elif ! is_current "crates/$name/out/$name"; then
@@ -53,7 +53,7 @@ commit() {
 # The packages of the libraries that the programs load, with the oldest version of the C library
 # that has every symbol that they use.
 depends() {
-    for name in sngw sn_client gw_sim jr_look jr_mend; do ldd -v "$root/usr/bin/$name"; done >"$work/libraries"
+    for name in sngw sn_client gw_sim jr_look jr_mend sn_bridge; do ldd -v "$root/usr/bin/$name"; done >"$work/libraries"
     libc=$(sed -n 's/.*(GLIBC_\([0-9.]*\)).*/\1/p' "$work/libraries" | sort -V | tail -n 1)
     list="libc6 (>= $libc)"
     if grep -q 'libgcc_s\.so' "$work/libraries"; then list="$list, libgcc-s1"; fi
@@ -72,6 +72,7 @@ fill() {
     doc=$root/usr/share/doc/nimhazel
     mkdir "$doc/examples"
     mv "$doc/field" "$doc/examples/field"
+    mv "$doc/bridge" "$doc/examples/bridge"
     cp tools/deb/copyright CHANGELOG.md "$doc"
     mv "$doc/CHANGELOG.md" "$doc/changelog"
     write_changes >"$doc/changelog.Debian"
@@ -113,7 +114,8 @@ Description: field of MQTT-SN 1.2 gateways for sensors that sleep and move
  and its waiting messages are there. The programs are built from a source
  whose promises about waiting messages are proved.
  .
- sngw is the gateway, sn_client a client for a terminal. jr_look shows the
+ sngw is the gateway, sn_client a client for a terminal, sn_bridge a bridge
+ to an MQTT broker. jr_look shows the
  journal of a gateway, and jr_mend cuts zeros that a power cut left there.
  gw_sim plays scripts at simulated gateways.
 END

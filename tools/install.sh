@@ -1,5 +1,5 @@
 #!/bin/sh
-# Installs the programs that are built, their man pages, the systemd unit and example settings.
+# Installs the programs that are built, their man pages, the systemd units and example settings.
 #
 # Usage: install.sh DESTDIR PREFIX        from the top of the repository; DESTDIR may be empty
 #
@@ -12,7 +12,7 @@ prefix=$2
 
 installed=0
 old=0
-for name in sngw sn_client gw_sim jr_look jr_mend; do
+for name in sngw sn_client gw_sim jr_look jr_mend sn_bridge; do
     program=crates/$name/out/$name
     if is_current "$program"; then
         install -D -m 755 "$program" "$root/bin/$name"
@@ -28,12 +28,17 @@ done
 python3 tools/man.py "$root/share/man"
 echo "installed $root/share/man"
 mkdir -p "$root/lib/systemd/system"
-sed "s|/usr/local/bin/|$prefix/bin/|g" examples/nimhazel@.service >"$root/lib/systemd/system/nimhazel@.service"
-chmod 644 "$root/lib/systemd/system/nimhazel@.service"
-echo "installed $root/lib/systemd/system/nimhazel@.service"
+for unit in nimhazel@.service nimhazel-bridge@.service; do
+    sed "s|/usr/local/bin/|$prefix/bin/|g" "examples/$unit" >"$root/lib/systemd/system/$unit"
+    chmod 644 "$root/lib/systemd/system/$unit"
+    echo "installed $root/lib/systemd/system/$unit"
+done
 for name in one two three; do
     install -D -m 644 "examples/field/$name.toml" "$root/share/doc/nimhazel/field/$name.toml"
 done
+for name in b1.toml mosquitto.conf; do
+    install -D -m 644 "examples/bridge/$name" "$root/share/doc/nimhazel/bridge/$name"
+done
 echo "installed $root/share/doc/nimhazel: settings to begin with"
-echo "$installed programs of 5 are installed"
+echo "$installed programs of 6 are installed"
 [ "$old" -eq 0 ] && [ "$installed" -gt 0 ]

@@ -23,6 +23,7 @@ MAY_USE = {
     "base": [],
     "words of MQTT-SN": ["base"],
     "sets": WORDS,
+    "bridge": [*WORDS, "sets"],
     "journal": ["base", "sets"],
     "replicas": [*WORDS, "sets"],
     "step table": [*WORDS, "sets"],
@@ -31,8 +32,8 @@ MAY_USE = {
     "laws of fields": [*STEPS, "journal", "laws", "gateway"],
     "daemon": [*STEPS, "journal", "gateway"],
     "simulator": [*STEPS, "replicas", "gateway"],
-    "programs": [*STEPS, "replicas", "journal", "gateway", "daemon", "simulator"],
-    "tests and benchmarks": [*STEPS, "replicas", "journal", "gateway", "daemon", "simulator"],
+    "programs": [*STEPS, "bridge", "replicas", "journal", "gateway", "daemon", "simulator"],
+    "tests and benchmarks": [*STEPS, "bridge", "replicas", "journal", "gateway", "daemon", "simulator"],
 }
 
 # Crates that may use a further group: the clauses of gw_world about a run are proved from the laws.

@@ -22,6 +22,7 @@ PAGES = {
     "gw_sim": (1, "plays scripts at simulated MQTT-SN gateways", [("SIMULATOR.md", None)]),
     "jr_look": (8, "shows what a start would read of a gateway's journal", [
         ("OPERATE.md", ["Reading a journal"])]),
+    "sn_bridge": (8, "a bridge between a field of MQTT-SN gateways and an MQTT broker", [("BRIDGE.md", None)]),
     "jr_mend": (8, "cuts zeros from the end of a gateway's journal", [("OPERATE.md", ["Mending a journal"])]),
 }
 

@@ -19,6 +19,7 @@ target() {
     gw_sim) echo prove ;;
     jr_look) echo look ;;
     jr_mend) echo mend ;;
+    sn_bridge) echo bridge ;;
     esac
 }
 

@@ -117,6 +117,19 @@ FAULTS = {
     "gw_main::begin": "2 | status | reads",
     "file_disk::FileDisk::at": "Files, InUse, Lost, Memory | none | none",
     "gw_serve::serve": "Wire, Memory, Behind | wire | back",
+    "mq_packet::decode": "UnknownType, QosTwo, Flags, Short, TooLong, Length, Body, Memory | fault, only | reads",
+    "mq_packet::encode": "Body, TooLong, Memory | body, too_long, refused | err",
+    "mq_stream::PacketIn::feed": "Memory | type | waiting, over",
+    "br_map::apart_below": ROW,
+    "br_map::Prefix::new": "TooLong, Text, Wildcard, Dollar, Memory | err | reads",
+    "br_map::Prefix::topic_of": ROW,
+    "br_core::Queue::push": "Memory | type | none",
+    "br_core::Item::copied": ROW,
+    "br_core::Command::copied": ROW,
+    "br_core::begun": ROW,
+    "br_core::step": "Memory | type | none",
+    "br_spool::held_in": ROW,
+    "br_spool::delta_of": "Reading, Delta, Memory | none | reads",
 }
 
 

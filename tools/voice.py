@@ -18,7 +18,7 @@ FILES = [
     "README.md", "CONTRIBUTING.md", "docs/OPERATE.md", "docs/PROVED.md", "docs/LIMITS.md", "docs/TESTING.md",
     "docs/MEASURED.md", "docs/DECISIONS.md", "docs/ARCHITECTURE.md", "docs/VOICE.md", "docs/TRY.md", "docs/JOIN.md",
     "docs/STEPS.md", "docs/JOURNAL.md", "docs/SIMULATOR.md", "docs/GLOSSARY.md", "docs/RATTLE-NOTES.md", "CHANGELOG.md",
-    "SECURITY.md", "docs/REFUSALS.md",
+    "SECURITY.md", "docs/REFUSALS.md", "docs/BRIDGE.md",
 ]
 # Documents that may name a day or a commit.
 DATED = ["CHANGELOG.md", "docs/MEASURED.md"]

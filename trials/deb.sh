@@ -48,7 +48,7 @@ fi
 mkdir -p "$root/var/lib/dpkg/info" "$root/var/lib/dpkg/updates" "$root/var/lib/dpkg/triggers"
 : >"$root/var/lib/dpkg/status"
 in_root --install "$package"
-for name in sngw sn_client gw_sim jr_look jr_mend; do
+for name in sngw sn_client gw_sim jr_look jr_mend sn_bridge; do
     cmp -s "crates/$name/out/$name" "$root/usr/bin/$name" || stop "FAILED: $name is not the proved program"
 done
 (cd "$root" && md5sum --quiet -c var/lib/dpkg/info/nimhazel.md5sums) || stop "FAILED: the sums differ"
@@ -59,6 +59,8 @@ echo "ok: installed $(left | wc -l) files and folders; the programs are the prov
 "$root/usr/bin/sn_client" --help >"$work/said" || stop "FAILED: sn_client"
 "$root/usr/bin/sngw" --help >"$work/said" 2>&1 || true
 [ "$(cat "$work/said")" = "sngw: arguments" ] || stop "FAILED: sngw --help: $(cat "$work/said")"
+"$root/usr/bin/sn_bridge" --help >"$work/said" 2>&1 || true
+[ "$(cat "$work/said")" = "sn_bridge: arguments" ] || stop "FAILED: sn_bridge --help: $(cat "$work/said")"
 settings=$root/usr/share/doc/nimhazel/examples/field/one.toml
 (cd "$work" && "$root/usr/bin/sngw" --config "$settings" --shifts 0 >"$work/said" 2>/dev/null) ||
     stop "FAILED: sngw"
@@ -68,7 +70,7 @@ settings=$root/usr/share/doc/nimhazel/examples/field/one.toml
 [ ! -s "$work/said" ] || stop "FAILED: jr_mend: $(cat "$work/said")"
 grep -q '^ExecStartPre=-/usr/bin/jr_mend ' "$root/usr/lib/systemd/system/nimhazel@.service" ||
     stop "FAILED: the unit does not run jr_mend"
-echo "ok: all five programs run from there"
+echo "ok: all six programs run from there"
 
 in_root --purge nimhazel
 [ -z "$(left)" ] || stop "FAILED: the package left $(left | head -n 1)"

@@ -148,7 +148,7 @@ signal.pause()' >"$work/held" &
 
 # Puts a program that proves nothing where each proved program would be.
 pretend() {
-    for name in sngw sn_client gw_sim jr_look jr_mend; do
+    for name in sngw sn_client gw_sim jr_look jr_mend sn_bridge; do
         mkdir -p "$copy/crates/$name/out"
         cp "$(command -v env)" "$copy/crates/$name/out/$name"
         touch -d "$1" "$copy/crates/$name/out/$name"

@@ -2,12 +2,14 @@
 //!
 //! Standard input holds lines. Those in front of the first line that begins with `=== ` name calls,
 //! each to be played with a growth of memory refused (`refusals`): what a call prints is printed at
-//! once. From that line on stand rows of datagrams, sets and streams (`sets`): they are played on
-//! both replicas after the last line is read.
+//! once. From that line on stand rows of datagrams, sets and streams (`sets`), which are played on
+//! both replicas after the last line is read; and after a line `=== bridges` rows of what a bridge
+//! to MQTT is made of (`bridge`), which are played once.
 //!
-//! The heads of `refusals.rt` and `sets.rt` have the words.
+//! The heads of `refusals.rt`, `sets.rt` and `bridge.rt` have the words.
 #![tactic(auto)]
 
+mod bridge;
 mod refusals;
 mod sets;
 
@@ -19,6 +21,9 @@ use std::thread::Threads;
 
 /// What a heading begins with.
 const HEADING: &str = "=== ";
+
+/// The heading of rows of bridges.
+const BRIDGES: &str = "=== bridges";
 
 fn main(rt: HostRuntime) -> ExitCode {
     match play_input(&rt) {
@@ -42,17 +47,43 @@ where
     played
 }
 
-/// Plays the rows, if there are any and all lines were read.
+/// Plays the rows, if all lines were read.
 fn play_rows<T>(rt: &T, read: io::Result<()>, rows: &[String]) -> io::Result<()>
 where
     T: Print + AllocGlobal,
 {
-    if read.is_err() || rows.is_empty() {
+    if read.is_err() {
         read
     } else {
         drop(read);
-        sets::play_rows(rt, rows)
+        play_parts(rt, rows)
     }
+}
+
+/// Plays the rows in front of the heading of bridges on both replicas, and those after it once.
+fn play_parts<T>(rt: &T, rows: &[String]) -> io::Result<()>
+where
+    T: Print + AllocGlobal,
+{
+    let (sets, bridges) = rows.split_at(front(rows).min(rows.len()));
+    if !sets.is_empty() {
+        sets::play_rows(rt, sets)?;
+    }
+    if bridges.is_empty() {
+        Ok(())
+    } else {
+        bridge::play_rows(rt, bridges)
+    }
+}
+
+/// How many lines stand in front of the heading of bridges.
+fn front(rows: &[String]) -> usize {
+    for (at, line) in rows.iter().enumerate() {
+        if line.as_str() == BRIDGES {
+            return at;
+        }
+    }
+    rows.len()
 }
 
 /// Reads all lines, plays those in front of the first heading, and keeps the others.

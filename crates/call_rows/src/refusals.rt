@@ -17,6 +17,7 @@
 //! Who refuses a growth is whoever starts the program: `tools/refusals.py`. The writers and wires
 //! of the rows take no memory.
 
+mod bridges;
 mod calls;
 mod daemon;
 mod deltas;
@@ -26,6 +27,7 @@ mod gateways;
 mod journals;
 mod links;
 mod locals;
+mod packets;
 mod page;
 mod replicas;
 mod reports;

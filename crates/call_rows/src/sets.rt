@@ -138,27 +138,27 @@
 //! - `stop`: why a line is not played.
 
 mod attempts;
-mod calls;
+pub(crate) mod calls;
 mod changes;
-mod datagrams;
+pub(crate) mod datagrams;
 mod deltas;
 mod journals;
 mod made_up;
 mod names;
 mod operations;
-mod page;
+pub(crate) mod page;
 mod pairs;
 mod printing;
 mod replicas;
 mod retries;
 mod row;
-mod runs;
+pub(crate) mod runs;
 mod sessions;
-mod stop;
+pub(crate) mod stop;
 mod streams;
 mod topics;
 mod values;
-mod words;
+pub(crate) mod words;
 
 use crate::sets::names::Names;
 use crate::sets::page::Page;
@@ -211,7 +211,7 @@ pub(crate) fn play_rows<T: Print + AllocGlobal>(rt: &T, lines: &[String]) -> io:
 }
 
 /// Writes a page, if memory did not run out.
-fn write<T: Print>(rt: &T, page: &Page) -> io::Result<()> {
+pub(crate) fn write<T: Print>(rt: &T, page: &Page) -> io::Result<()> {
     if page.is_short() {
         return Err(io::Error::from(ErrorKind::OutOfMemory));
     }

@@ -1,5 +1,6 @@
 //! The rows.
 
+use crate::refusals::bridges::{Bridges, Maps, Spools};
 use crate::refusals::calls::{is_one_of, is_word, play};
 use crate::refusals::daemon::{self, Starts};
 use crate::refusals::deltas::{Clients, Deltas};
@@ -9,6 +10,7 @@ use crate::refusals::gateways::{Gateways, Openings};
 use crate::refusals::journals::{Disks, Journals};
 use crate::refusals::links::Links;
 use crate::refusals::locals::Locals;
+use crate::refusals::packets::Packets;
 use crate::refusals::replicas::Replicas;
 use crate::refusals::reports::Reports;
 use crate::refusals::said::{Said, Stop};
@@ -111,6 +113,19 @@ pub(crate) const ROWS: &str = "
     gw_main::begin
     file_disk::FileDisk::at
     gw_serve::serve
+    mq_packet::decode
+    mq_packet::encode
+    mq_stream::PacketIn::feed
+    br_map::apart_below
+    br_map::Prefix::new
+    br_map::Prefix::topic_of
+    br_core::Queue::push
+    br_core::Item::copied
+    br_core::Command::copied
+    br_core::begun
+    br_core::step
+    br_spool::held_in
+    br_spool::delta_of
 ";
 
 /// The homes of the rows that are played on the replica that folds alone.
@@ -182,6 +197,17 @@ fn play_part(said: &mut Said, home: &str, call: &str) {
         "gw_page" => play::<Reports>(said, call),
         "gw_main" => play::<Starts>(said, call),
         "gw_world" | "gw_play" => play::<Worlds>(said, call),
+        home => play_bridge(said, home, call),
+    }
+}
+
+/// Rows of a bridge to MQTT.
+fn play_bridge(said: &mut Said, home: &str, call: &str) {
+    match home {
+        "mq_packet" | "mq_stream" => play::<Packets>(said, call),
+        "br_map" => play::<Maps>(said, call),
+        "br_core" => play::<Bridges>(said, call),
+        "br_spool" => play::<Spools>(said, call),
         home => play_state(said, home, call),
     }
 }

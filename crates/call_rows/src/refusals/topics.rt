@@ -114,7 +114,7 @@ impl Shown for Predefined {
 }
 
 /// A topic name.
-fn topic(said: &mut Said) -> Option<TopicName> {
+pub(crate) fn topic(said: &mut Said) -> Option<TopicName> {
     let made = TopicName::new(said.alloc, b"t/a");
     beside(said, made)
 }

@@ -33,10 +33,10 @@
 //! - `frames`, `topics`: lines that are played.
 //! - `words`, `shown`, `refusals`: what is printed.
 
-mod fields;
+pub(crate) mod fields;
 mod frames;
 mod refusals;
-mod shown;
+pub(crate) mod shown;
 mod topics;
 mod words;
 

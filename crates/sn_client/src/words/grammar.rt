@@ -272,39 +272,109 @@ fn add_args<'a>(
 /// A word as an argument.
 fn arg<'a>(alloc: Global, word: Word) -> Arg<'a> {
     let Word(name, form, value, help) = word;
-    let arg = told(alloc, name, help);
-    match form {
-        Form::Flag => flag(long(arg, name)),
-        _ => valued(of_value(arg, value), name, form),
+    let arg = spelled(told(alloc, name, help), name, form);
+    let arg = taking(arg, value, form);
+    or_default(may_be(arg, form), form)
+}
+
+/// How a word is known: an option by its name, and by its letter if it has one.
+fn spelled<'a>(arg: Arg<'a>, name: &'a str, form: Form) -> Arg<'a> {
+    if is_option(form) {
+        lettered(long(arg, name), form)
+    } else {
+        arg
     }
 }
 
-/// A word with a value.
-fn valued<'a>(arg: Arg<'a>, name: &'a str, form: Form) -> Arg<'a> {
+/// An option with a letter, if it has one.
+fn lettered<'a>(arg: Arg<'a>, form: Form) -> Arg<'a> {
     match form {
-        Form::Needed => needed(arg),
-        Form::NeededText => negative(needed(arg)),
-        Form::NeededNumber => number(needed(arg)),
-        Form::LastNumber(default) => or_else(number(arg), default),
-        _ => option(long(arg, name), form),
-    }
-}
-
-/// An option with a value.
-fn option<'a>(arg: Arg<'a>, form: Form) -> Arg<'a> {
-    match form {
-        Form::Lettered(letter) => arg.short(letter),
-        Form::Number => number(arg),
-        Form::NumberOr(default) => or_else(number(arg), default),
-        Form::Level => level(arg, OF_OTHERS.as_slice()),
-        Form::AnyLevel => level(arg, OF_PUBLISH.as_slice()),
+        Form::Lettered(letter) => short(arg, letter),
         _ => arg,
     }
 }
 
-/// A quality of service.
-fn level<'a>(arg: Arg<'a>, levels: &'static [&'static str]) -> Arg<'a> {
-    or_else(negative(one_of(arg, levels)), "0")
+/// What a word takes: an option without a value takes nothing.
+fn taking<'a>(arg: Arg<'a>, value: &'a str, form: Form) -> Arg<'a> {
+    match form {
+        Form::Flag => flag(arg),
+        _ => read_as(of_value(arg, value), form),
+    }
+}
+
+/// How a value is read: as a number, as one of some words, or as it stands.
+fn read_as<'a>(arg: Arg<'a>, form: Form) -> Arg<'a> {
+    if is_number(form) {
+        number(arg)
+    } else {
+        among(arg, levels_of(form))
+    }
+}
+
+/// One of some words, or any word where there are none.
+fn among<'a>(arg: Arg<'a>, words: &'static [&'static str]) -> Arg<'a> {
+    if words.is_empty() {
+        arg
+    } else {
+        one_of(arg, words)
+    }
+}
+
+/// What a word may be: whether it must be there, and may be a negative number.
+fn may_be<'a>(arg: Arg<'a>, form: Form) -> Arg<'a> {
+    negative(needed(arg, is_needed(form)), is_negative(form))
+}
+
+/// What a word is if it is left out, if that is said.
+fn or_default<'a>(arg: Arg<'a>, form: Form) -> Arg<'a> {
+    match default_of(form) {
+        Some(default) => or_else(arg, default),
+        None => arg,
+    }
+}
+
+/// Whether a word has two hyphens in front.
+fn is_option(form: Form) -> bool {
+    !matches!(
+        form,
+        Form::Needed | Form::NeededText | Form::NeededNumber | Form::LastNumber(_)
+    )
+}
+
+/// Whether a word must be there.
+fn is_needed(form: Form) -> bool {
+    matches!(form, Form::Needed | Form::NeededText | Form::NeededNumber)
+}
+
+/// Whether a word may begin with a hyphen and a digit.
+fn is_negative(form: Form) -> bool {
+    matches!(form, Form::NeededText | Form::Level | Form::AnyLevel)
+}
+
+/// Whether a word is a number.
+fn is_number(form: Form) -> bool {
+    matches!(
+        form,
+        Form::Number | Form::NumberOr(_) | Form::NeededNumber | Form::LastNumber(_)
+    )
+}
+
+/// The words of which one may stand there; none where any may.
+fn levels_of(form: Form) -> &'static [&'static str] {
+    match form {
+        Form::Level => OF_OTHERS.as_slice(),
+        Form::AnyLevel => OF_PUBLISH.as_slice(),
+        _ => &[],
+    }
+}
+
+/// What a word is if it is left out.
+fn default_of(form: Form) -> Option<&'static str> {
+    match form {
+        Form::NumberOr(default) | Form::LastNumber(default) => Some(default),
+        Form::Level | Form::AnyLevel => Some("0"),
+        _ => None,
+    }
 }
 
 // The calls of clap that the words above are made of, each by itself. They say nothing of their
@@ -320,6 +390,11 @@ fn long<'a>(arg: Arg<'a>, name: &'a str) -> Arg<'a> {
     arg.long(name)
 }
 
+/// A word with a hyphen and this letter too.
+fn short<'a>(arg: Arg<'a>, letter: char) -> Arg<'a> {
+    arg.short(letter)
+}
+
 /// A word that is there or not.
 fn flag<'a>(arg: Arg<'a>) -> Arg<'a> {
     arg.action(ArgAction::SetTrue)
@@ -330,14 +405,14 @@ fn of_value<'a>(arg: Arg<'a>, value: &'a str) -> Arg<'a> {
     arg.value_name(value)
 }
 
-/// A word that must be there.
-fn needed<'a>(arg: Arg<'a>) -> Arg<'a> {
-    arg.required(true)
+/// A word that must be there, or may be left out.
+fn needed<'a>(arg: Arg<'a>, is_needed: bool) -> Arg<'a> {
+    arg.required(is_needed)
 }
 
-/// A word that may be a negative number.
-fn negative<'a>(arg: Arg<'a>) -> Arg<'a> {
-    arg.allow_negative_numbers(true)
+/// A word that may be a negative number, or may not.
+fn negative<'a>(arg: Arg<'a>, may_be: bool) -> Arg<'a> {
+    arg.allow_negative_numbers(may_be)
 }
 
 /// A word that is this if it is left out.

@@ -18,10 +18,36 @@ pub(crate) fn field(words: &mut Words<'_>) -> Vec<u8> {
     octets
 }
 
-/// Adds the octets that the next word writes: `-` none, a text after an apostrophe, or hexadecimal
-/// digits.
+/// The octets that the words write up to this one, which is read too.
+pub(crate) fn octets_to(words: &mut Words<'_>, mark: &str) -> Vec<u8> {
+    let mut octets = Vec::new(words.alloc);
+    let mut is_over = false;
+    for _ in 0..words.left() {
+        if !is_over {
+            is_over = add_or_end(words, &mut octets, mark);
+        }
+    }
+    octets
+}
+
+/// Adds the octets that the next word writes, unless it is this one. Whether it is.
+fn add_or_end(words: &mut Words<'_>, octets: &mut Vec<u8>, mark: &str) -> bool {
+    let word = words.word();
+    let is_over = word == mark;
+    if !is_over {
+        add_word(words, octets, word);
+    }
+    is_over
+}
+
+/// Adds the octets that the next word writes.
 fn add_field(words: &mut Words<'_>, octets: &mut Vec<u8>) {
     let word = words.word();
+    add_word(words, octets, word);
+}
+
+/// Adds the octets that a word writes: `-` none, a text after an apostrophe, or hexadecimal digits.
+fn add_word(words: &mut Words<'_>, octets: &mut Vec<u8>, word: &str) {
     if word == "-" {
         return;
     }

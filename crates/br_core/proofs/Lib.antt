@@ -1,0 +1,14 @@
+pub mod Lists
+pub mod Walk
+pub mod Anything
+pub mod Just
+pub mod Running
+pub mod Keeps
+pub mod Order
+pub mod Taking
+pub mod Queues
+pub mod Sending
+pub mod Worked
+pub mod Places
+pub mod Seats
+pub mod Ticking

@@ -1,0 +1,7 @@
+pub mod Begins
+pub mod Sides
+pub mod Lanes
+pub mod Commands
+pub mod Steps
+pub mod Runs
+pub mod inner

@@ -1,0 +1,955 @@
+//! What a lane does: a client of the field that brings readings (MQTT-SN 1.2 sections 6.2 to 6.14).
+//! `place` is its place among the lanes, `own` are its settings, and `lane` a copy of it, which
+//! goes back into its place.
+
+ghost use Rattle.std.specs.Prelude.{◌≡◌, ◌<◌, ◌∷◌, length, IfOk, OnOk};
+ghost use Rattle.br_core.specs.declared.state.TheConstants.{LAST_NUMBER};
+ghost use Rattle.br_core.specs.Lanes as spec;
+ghost use Rattle.br_core.specs.inner.Parts as inner;
+
+use crate::action::Action;
+use crate::item::Item;
+use crate::settings::{LaneSettings, Settings, UpName};
+use crate::sides::{does, is_up, next_id, once_more, takes};
+use crate::state::{
+    Bridge, KEEP_ALIVE, LAST_NUMBER, Lane, MAX_BODY, MAX_IDS, Moment, Named, Open, Phase, SLEEP,
+    TRIES,
+};
+use mq_packet::Qos;
+use octets::{NoMemory, Octets, Sequence};
+use sn_frame::{Flags, Frame, Qos as FieldQos, TopicIdType};
+use std::alloc::Global;
+
+/// A lane in its place.
+fn seated(place: usize, lane: Lane, bridge: &mut Bridge)
+    requires { place < length bridge.old.lanes }
+    ensures { bridge.new ≡ spec.seated place lane bridge.old }
+{
+    bridge.lanes.replace(place, lane);
+}
+
+/// A lane in its place, and a frame to its gateway.
+fn says(place: usize, frame: Frame, lane: Lane, bridge: &mut Bridge) -> Result<(), NoMemory>
+    requires { place < length bridge.old.lanes }
+    ensures { OnOk result (bridge.new ≡ spec.says place frame lane bridge.old) }
+{
+    seated(place, lane, bridge);
+    does(bridge, Action::ToField { lane: place, frame })
+}
+
+/// CONNECT (section 6.2). The session is kept; ids of the last connection are not.
+fn connecting(
+    alloc: Global,
+    own: &LaneSettings,
+    place: usize,
+    m: Moment,
+    lane: Lane,
+    bridge: &mut Bridge,
+) -> Result<(), NoMemory>
+    requires { place < length bridge.old.lanes }
+    ensures { OnOk result (bridge.new ≡ spec.connecting own.now place m lane bridge.old) }
+{
+    let frame = Frame::Connect {
+        flags: Flags { bits: 0 },
+        protocol: 1,
+        duration: KEEP_ALIVE,
+        client: own.client.copied(alloc)?,
+    };
+    let begun = Lane {
+        phase: Phase::Connecting,
+        tries: once_more(lane.tries),
+        due: m.retry,
+        msg_id: lane.msg_id,
+        ids: Sequence::empty(alloc),
+        last: None,
+    };
+    says(place, frame, begun, bridge)
+}
+
+/// The flags of a SUBSCRIBE (section 5.3.4).
+fn subscribe_flags(up: &UpName) -> Flags
+    ensures { result ≡ spec.subscribe_flags up.now }
+{
+    let qos = match up.qos {
+        Qos::Zero => 0,
+        Qos::One => 0x20,
+    };
+    let kind = if up.name.len() == 2 { 2 } else { 0 };
+    Flags { bits: qos + kind }
+}
+
+/// SUBSCRIBE of the name of this number (section 6.9); after the last one the lane listens.
+fn subscribing(
+    alloc: Global,
+    own: &LaneSettings,
+    place: usize,
+    next: usize,
+    m: Moment,
+    mut lane: Lane,
+    bridge: &mut Bridge,
+) -> Result<(), NoMemory>
+    requires { place < length bridge.old.lanes }
+    ensures { OnOk result (bridge.new ≡ spec.subscribing own.now place next m lane bridge.old) }
+{
+    let Some(up) = own.names.as_slice().get(next) else {
+        lane.phase = Phase::Listening;
+        lane.tries = 0;
+        lane.due = m.ping;
+        seated(place, lane, bridge);
+        return Ok(());
+    };
+    let frame = Frame::Subscribe {
+        flags: subscribe_flags(up),
+        msg_id: lane.msg_id,
+        topic: up.name.copied(alloc)?,
+    };
+    lane.phase = Phase::Subscribing { next };
+    lane.tries = once_more(lane.tries);
+    lane.due = m.retry;
+    lane.msg_id = next_id(lane.msg_id);
+    says(place, frame, lane, bridge)
+}
+
+/// Which of the names a topic id is.
+fn name_at(id: u16, ids: &[Named]) -> Option<usize>
+    ensures { result ≡ spec.name_at id ids.now }
+{
+    for entry in ids {
+        if entry.id == id {
+            return Some(entry.name);
+        }
+    }
+    None
+}
+
+/// Where a name is among those of the lane.
+fn place_of(name: &[u8], names: &[UpName]) -> Option<usize>
+    ensures { result ≡ spec.place_of name.now names.now }
+{
+    for at in 0..names.len() {
+        if names[at].name.as_slice() == name {
+            return Some(at);
+        }
+    }
+    None
+}
+
+/// Which of the names a topic field of PUBLISH means (section 5.3.11).
+fn name_of(kind: TopicIdType, topic: u16, names: &[UpName], ids: &[Named]) -> Option<usize>
+    ensures { result ≡ spec.name_of kind topic names.now ids.now }
+{
+    match kind {
+        TopicIdType::Normal => name_at(topic, ids),
+        TopicIdType::Short => place_of(&[(topic / 256) as u8, (topic % 256) as u8], names),
+        TopicIdType::Predefined | TopicIdType::Reserved => None,
+    }
+}
+
+/// A reading of a lane.
+fn item_of(
+    alloc: Global,
+    number: u64,
+    lane: usize,
+    qos: Qos,
+    up: &UpName,
+    body: &Octets,
+) -> Result<Item, NoMemory>
+    ensures { IfOk result (λ item. item ≡ spec.item_of number lane qos up.now body.now) }
+{
+    Ok(Item {
+        number,
+        lane,
+        topic: up.topic.copied(alloc)?,
+        qos,
+        retain: up.retain,
+        body: body.copied(alloc)?,
+    })
+}
+
+/// Whether the spool can keep these octets, if there is one. No gateway has more.
+fn fits(settings: &Settings, body: &Octets) -> bool
+    ensures { result ≡ spec.fits settings.now body.now }
+{
+    !settings.spools || body.len() <= MAX_BODY
+}
+
+/// Whether one more reading is taken, which has these octets.
+fn has_room(settings: &Settings, body: &Octets, bridge: &Bridge) -> bool
+    ensures { result ≡ spec.has_room settings.now body.now bridge.now }
+{
+    fits(settings, body) && bridge.waiting.len() < settings.room && bridge.number < LAST_NUMBER
+}
+
+/// A reading of this quality of service gets the next number.
+fn counted(
+    alloc: Global,
+    settings: &Settings,
+    place: usize,
+    qos: Qos,
+    up: &UpName,
+    body: &Octets,
+    bridge: &mut Bridge,
+) -> Result<(), NoMemory>
+    requires { bridge.old.number < LAST_NUMBER }
+    ensures { OnOk result (bridge.new ≡ spec.counted settings.now place qos up.now body.now
+        bridge.old) }
+{
+    let item = item_of(alloc, bridge.number, place, qos, up, body)?;
+    bridge.number += 1;
+    takes(alloc, settings, item, bridge)
+}
+
+/// A reading goes into the spool, if there is one.
+fn stored(
+    alloc: Global,
+    settings: &Settings,
+    number: u64,
+    place: usize,
+    qos: Qos,
+    up: &UpName,
+    body: &Octets,
+    bridge: &mut Bridge,
+) -> Result<(), NoMemory>
+    ensures { OnOk result (bridge.new ≡ spec.stored settings.now
+        (spec.item_of number place qos up.now body.now) bridge.old) }
+{
+    if !settings.spools {
+        return Ok(());
+    }
+    let item = item_of(alloc, number, place, qos, up, body)?;
+    does(bridge, Action::Store { item })
+}
+
+/// What a lane has brought and may not acknowledge yet.
+fn open_of(
+    alloc: Global,
+    number: u64,
+    name: usize,
+    topic_id: u16,
+    msg_id: u16,
+    body: &Octets,
+) -> Result<Open, NoMemory>
+    ensures { IfOk result (λ held. held ≡ spec.open_of number name topic_id msg_id body.now) }
+{
+    Ok(Open {
+        number,
+        name,
+        topic_id,
+        msg_id,
+        body: body.copied(alloc)?,
+        is_answered: false,
+    })
+}
+
+/// Whether it is the same message again: the same name, message id and octets.
+fn is_same(name: usize, msg_id: u16, body: &Octets, held: &Open) -> bool
+    ensures { result ≡ spec.is_same name msg_id body.now held.now }
+{
+    held.name == name && held.msg_id == msg_id && held.body.as_slice() == body.as_slice()
+}
+
+/// A message of quality of service 1 is brought, and waits for its acknowledgement. Without room it
+/// is as if it had not come, and the lane falls asleep: its gateway keeps it.
+fn brings(
+    alloc: Global,
+    settings: &Settings,
+    place: usize,
+    name: usize,
+    up: &UpName,
+    topic_id: u16,
+    msg_id: u16,
+    body: &Octets,
+    mut lane: Lane,
+    bridge: &mut Bridge,
+) -> Result<(), NoMemory>
+    requires { place < length bridge.old.lanes }
+    ensures { OnOk result (bridge.new ≡ spec.brings settings.now place name up.now topic_id msg_id
+        body.now lane bridge.old) }
+{
+    if !has_room(settings, body, bridge) {
+        return falls_asleep(place, lane, bridge);
+    }
+    let number = bridge.number;
+    lane.last = Some(open_of(alloc, number, name, topic_id, msg_id, body)?);
+    seated(place, lane, bridge);
+    counted(alloc, settings, place, Qos::One, up, body, bridge)?;
+    stored(alloc, settings, number, place, Qos::One, up, body, bridge)
+}
+
+/// The same message again: one that was answered is acknowledged again, one that waits is not
+/// brought twice.
+fn again_at(
+    place: usize,
+    topic_id: u16,
+    msg_id: u16,
+    mut held: Open,
+    mut lane: Lane,
+    bridge: &mut Bridge,
+) -> Result<(), NoMemory>
+    requires { place < length bridge.old.lanes }
+    ensures { OnOk result (bridge.new ≡ spec.again_at held.is_answered place topic_id msg_id held
+        lane bridge.old) }
+{
+    let is_answered = held.is_answered;
+    held.topic_id = topic_id;
+    lane.last = Some(held);
+    if is_answered {
+        let code = 0;
+        let frame = Frame::PubAck {
+            topic_id,
+            msg_id,
+            code,
+        };
+        says(place, frame, lane, bridge)
+    } else {
+        seated(place, lane, bridge);
+        Ok(())
+    }
+}
+
+/// The lane's open message, if this is the same again.
+fn same_open(
+    alloc: Global,
+    last: &Option<Open>,
+    name: usize,
+    msg_id: u16,
+    body: &Octets,
+) -> Result<Option<Open>, NoMemory>
+    ensures { IfOk result (λ same. same ≡ inner.same_open last.now name msg_id body.now) }
+{
+    match last {
+        None => Ok(None),
+        Some(held) => {
+            if is_same(name, msg_id, body, held) {
+                Ok(Some(held.copied(alloc)?))
+            } else {
+                Ok(None)
+            }
+        }
+    }
+}
+
+/// A message of quality of service 1 comes, for the first time or again.
+fn brings_if(
+    alloc: Global,
+    settings: &Settings,
+    place: usize,
+    name: usize,
+    up: &UpName,
+    topic_id: u16,
+    msg_id: u16,
+    body: &Octets,
+    lane: Lane,
+    bridge: &mut Bridge,
+) -> Result<(), NoMemory>
+    requires { place < length bridge.old.lanes }
+    ensures { OnOk result (bridge.new ≡ spec.brings_if lane.last settings.now place name up.now
+        topic_id msg_id body.now lane bridge.old) }
+{
+    match same_open(alloc, &lane.last, name, msg_id, body)? {
+        Some(held) => again_at(place, topic_id, msg_id, held, lane, bridge),
+        None => brings(
+            alloc, settings, place, name, up, topic_id, msg_id, body, lane, bridge,
+        ),
+    }
+}
+
+/// Whether a reading of quality of service 0 goes on: the broker is there, and there is room. Else
+/// it takes no number, which the spool would have to count.
+fn goes_on(settings: &Settings, body: &Octets, bridge: &Bridge) -> bool
+    ensures { result ≡ spec.goes_on settings.now body.now bridge.now }
+{
+    is_up(bridge.side) && has_room(settings, body, bridge)
+}
+
+/// A reading of quality of service 0 goes on, if it may.
+fn passes(
+    alloc: Global,
+    settings: &Settings,
+    place: usize,
+    up: &UpName,
+    body: &Octets,
+    lane: Lane,
+    bridge: &mut Bridge,
+) -> Result<(), NoMemory>
+    requires { place < length bridge.old.lanes }
+    ensures { OnOk result (bridge.new ≡ spec.passes settings.now place up.now body.now lane
+        bridge.old) }
+{
+    let passes_now = goes_on(settings, body, bridge);
+    seated(place, lane, bridge);
+    if passes_now {
+        counted(alloc, settings, place, Qos::Zero, up, body, bridge)
+    } else {
+        Ok(())
+    }
+}
+
+/// The code that refuses a topic which is no id: congestion while names are subscribed to, since
+/// the gateway then publishes it by its id, and code 2 would drop it.
+fn refusal_at(phase: Phase) -> u8
+    ensures { result ≡ spec.refusal_at phase }
+{
+    match phase {
+        Phase::Subscribing { .. } => 1,
+        Phase::Away | Phase::Connecting | Phase::Listening | Phase::Asleep => 2,
+    }
+}
+
+/// The code that refuses a topic: after code 2 the gateway registers an id again.
+fn refusal(kind: TopicIdType, phase: Phase) -> u8
+    ensures { result ≡ spec.refusal kind phase }
+{
+    match kind {
+        TopicIdType::Normal => 2,
+        TopicIdType::Predefined | TopicIdType::Short | TopicIdType::Reserved => refusal_at(phase),
+    }
+}
+
+/// A PUBLISH under a topic that is none of the lane's is refused.
+fn unknown(
+    qos: FieldQos,
+    kind: TopicIdType,
+    place: usize,
+    topic_id: u16,
+    msg_id: u16,
+    lane: Lane,
+    bridge: &mut Bridge,
+) -> Result<(), NoMemory>
+    requires { place < length bridge.old.lanes }
+    ensures { OnOk result (bridge.new ≡ spec.unknown_at qos kind place topic_id msg_id lane
+        bridge.old) }
+{
+    match qos {
+        FieldQos::One => {
+            let code = refusal(kind, lane.phase);
+            let frame = Frame::PubAck {
+                topic_id,
+                msg_id,
+                code,
+            };
+            says(place, frame, lane, bridge)
+        }
+        FieldQos::Zero | FieldQos::Two | FieldQos::MinusOne => {
+            seated(place, lane, bridge);
+            Ok(())
+        }
+    }
+}
+
+/// A PUBLISH under a name of the lane, by its quality of service: 2 was never asked for.
+fn published(
+    alloc: Global,
+    qos: FieldQos,
+    settings: &Settings,
+    place: usize,
+    name: usize,
+    up: &UpName,
+    topic_id: u16,
+    msg_id: u16,
+    body: &Octets,
+    lane: Lane,
+    bridge: &mut Bridge,
+) -> Result<(), NoMemory>
+    requires { place < length bridge.old.lanes }
+    ensures { OnOk result (bridge.new ≡ spec.publication_at qos settings.now place name up.now
+        topic_id msg_id body.now lane bridge.old) }
+{
+    match qos {
+        FieldQos::Zero => passes(alloc, settings, place, up, body, lane, bridge),
+        FieldQos::One => brings_if(
+            alloc, settings, place, name, up, topic_id, msg_id, body, lane, bridge,
+        ),
+        FieldQos::Two | FieldQos::MinusOne => {
+            seated(place, lane, bridge);
+            Ok(())
+        }
+    }
+}
+
+/// PUBLISH (section 6.6).
+fn publication(
+    alloc: Global,
+    settings: &Settings,
+    own: &LaneSettings,
+    place: usize,
+    flags: Flags,
+    topic_id: u16,
+    msg_id: u16,
+    body: &Octets,
+    lane: Lane,
+    bridge: &mut Bridge,
+) -> Result<(), NoMemory>
+    requires { place < length bridge.old.lanes }
+    ensures { OnOk result (bridge.new ≡ spec.publication settings.now own.now place flags topic_id
+        msg_id body.now lane bridge.old) }
+{
+    let names = own.names.as_slice();
+    let Some(name) = name_of(flags.kind(), topic_id, names, lane.ids.as_slice()) else {
+        return unknown(
+            flags.qos(),
+            flags.kind(),
+            place,
+            topic_id,
+            msg_id,
+            lane,
+            bridge,
+        );
+    };
+    let Some(up) = names.get(name) else {
+        return unknown(
+            flags.qos(),
+            flags.kind(),
+            place,
+            topic_id,
+            msg_id,
+            lane,
+            bridge,
+        );
+    };
+    published(
+        alloc,
+        flags.qos(),
+        settings,
+        place,
+        name,
+        up,
+        topic_id,
+        msg_id,
+        body,
+        lane,
+        bridge,
+    )
+}
+
+/// The list with another one in front.
+fn in_front(alloc: Global, id: u16, name: usize, ids: &[Named]) -> Result<Sequence<Named>, NoMemory>
+    ensures { IfOk result (λ more. more ≡ record { id = id; name = name } ∷ ids.now) }
+{
+    let mut more = Vec::from_slice(alloc, &[Named { id, name }])?;
+    more.extend_from_slice(ids)?;
+    Ok(Sequence::new(more))
+}
+
+/// The connection is over, and another one is due.
+fn goes_away(place: usize, m: Moment, mut lane: Lane, bridge: &mut Bridge)
+    requires { place < length bridge.old.lanes }
+    ensures { bridge.new ≡ spec.goes_away place m lane bridge.old }
+{
+    lane.phase = Phase::Away;
+    lane.tries = 0;
+    lane.due = m.at;
+    seated(place, lane, bridge);
+}
+
+/// REGISTER of one of the names gives its topic id (section 6.10); another name is none of the
+/// lane's. A lane that has as many ids as it holds connects anew.
+fn registered(
+    alloc: Global,
+    own: &LaneSettings,
+    place: usize,
+    m: Moment,
+    topic_id: u16,
+    msg_id: u16,
+    name: &Octets,
+    mut lane: Lane,
+    bridge: &mut Bridge,
+) -> Result<(), NoMemory>
+    requires { place < length bridge.old.lanes }
+    ensures { OnOk result (bridge.new ≡ spec.registered (spec.place_of name.now own.now.names) place
+        m topic_id msg_id lane bridge.old) }
+{
+    let Some(at) = place_of(name.as_slice(), own.names.as_slice()) else {
+        let code = 3;
+        let frame = Frame::RegAck {
+            topic_id,
+            msg_id,
+            code,
+        };
+        return says(place, frame, lane, bridge);
+    };
+    if MAX_IDS <= lane.ids.len() {
+        goes_away(place, m, lane, bridge);
+        return Ok(());
+    }
+    lane.ids = in_front(alloc, topic_id, at, lane.ids.as_slice())?;
+    let code = 0;
+    let frame = Frame::RegAck {
+        topic_id,
+        msg_id,
+        code,
+    };
+    says(place, frame, lane, bridge)
+}
+
+/// A frame that comes while the lane is connected.
+fn awake_frame(
+    alloc: Global,
+    settings: &Settings,
+    own: &LaneSettings,
+    place: usize,
+    m: Moment,
+    frame: &Frame,
+    lane: Lane,
+    bridge: &mut Bridge,
+) -> Result<(), NoMemory>
+    requires { place < length bridge.old.lanes }
+    ensures { OnOk result (bridge.new ≡ spec.awake_frame settings.now own.now place m frame.now lane
+        bridge.old) }
+{
+    match frame {
+        Frame::Publish {
+            flags,
+            topic,
+            msg_id,
+            body,
+        } => publication(
+            alloc, settings, own, place, *flags, *topic, *msg_id, body, lane, bridge,
+        ),
+        Frame::Register {
+            topic_id,
+            msg_id,
+            name,
+        } => registered(alloc, own, place, m, *topic_id, *msg_id, name, lane, bridge),
+        Frame::Disconnect { .. } => {
+            goes_away(place, m, lane, bridge);
+            Ok(())
+        }
+        _ => {
+            seated(place, lane, bridge);
+            Ok(())
+        }
+    }
+}
+
+/// CONNACK 0 begins the subscriptions.
+fn connected(
+    alloc: Global,
+    own: &LaneSettings,
+    place: usize,
+    m: Moment,
+    frame: &Frame,
+    mut lane: Lane,
+    bridge: &mut Bridge,
+) -> Result<(), NoMemory>
+    requires { place < length bridge.old.lanes }
+    ensures { OnOk result (bridge.new ≡ spec.connected own.now place m frame.now lane bridge.old) }
+{
+    let Frame::ConnAck { code } = frame else {
+        return Ok(());
+    };
+    if *code != 0 {
+        return Ok(());
+    }
+    lane.tries = 0;
+    subscribing(alloc, own, place, 0, m, lane, bridge)
+}
+
+/// SUBACK 0 of the name gives its topic id, unless the name is short, and goes on to the next.
+fn subscribed(
+    alloc: Global,
+    own: &LaneSettings,
+    place: usize,
+    next: usize,
+    m: Moment,
+    topic_id: u16,
+    code: u8,
+    mut lane: Lane,
+    bridge: &mut Bridge,
+) -> Result<(), NoMemory>
+    requires seat { place < length bridge.old.lanes }
+    requires fits { next < LAST_NUMBER }
+    ensures { OnOk result (bridge.new ≡ spec.subscribed own.now place next m topic_id code lane
+        bridge.old) }
+{
+    if code != 0 {
+        return Ok(());
+    }
+    lane.tries = 0;
+    if topic_id != 0 {
+        lane.ids = in_front(alloc, topic_id, next, lane.ids.as_slice())?;
+    }
+    subscribing(alloc, own, place, next + 1, m, lane, bridge)
+}
+
+/// Whether a SUBACK answers the SUBSCRIBE that was sent last.
+fn is_its(next: usize, msg_id: u16, lane: &Lane) -> bool
+    ensures { result ≡ spec.is_its next msg_id lane.now }
+{
+    next_id(msg_id) == lane.msg_id && next < usize::MAX
+}
+
+/// A frame that comes while a name is subscribed to.
+fn naming_frame(
+    alloc: Global,
+    settings: &Settings,
+    own: &LaneSettings,
+    place: usize,
+    next: usize,
+    m: Moment,
+    frame: &Frame,
+    lane: Lane,
+    bridge: &mut Bridge,
+) -> Result<(), NoMemory>
+    requires { place < length bridge.old.lanes }
+    ensures { OnOk result (bridge.new ≡ spec.naming_frame settings.now own.now place next m
+        frame.now lane bridge.old) }
+{
+    match frame {
+        Frame::SubAck {
+            topic_id,
+            msg_id,
+            code,
+            ..
+        } => {
+            if is_its(next, *msg_id, &lane) {
+                subscribed(alloc, own, place, next, m, *topic_id, *code, lane, bridge)
+            } else {
+                Ok(())
+            }
+        }
+        _ => awake_frame(alloc, settings, own, place, m, frame, lane, bridge),
+    }
+}
+
+/// What comes shows that the gateway is there: the next sign of life is due later, if one was asked
+/// for.
+fn heard(m: Moment, mut lane: Lane) -> Lane
+    ensures { result ≡ spec.heard m lane }
+{
+    if lane.tries != 0 {
+        lane.tries = 0;
+        lane.due = m.ping;
+    }
+    lane
+}
+
+/// A frame of the gateway, by the phase.
+pub(crate) fn lane_frame(
+    alloc: Global,
+    settings: &Settings,
+    place: usize,
+    m: Moment,
+    frame: &Frame,
+    own: &LaneSettings,
+    lane: Lane,
+    bridge: &mut Bridge,
+) -> Result<(), NoMemory>
+    requires { place < length bridge.old.lanes }
+    ensures { OnOk result (bridge.new ≡ spec.lane_frame settings.now place m frame.now own.now lane
+        bridge.old) }
+{
+    let phase = lane.phase;
+    match phase {
+        Phase::Away | Phase::Asleep => Ok(()),
+        Phase::Connecting => connected(alloc, own, place, m, frame, lane, bridge),
+        Phase::Subscribing { next } => {
+            naming_frame(alloc, settings, own, place, next, m, frame, lane, bridge)
+        }
+        Phase::Listening => {
+            awake_frame(
+                alloc,
+                settings,
+                own,
+                place,
+                m,
+                frame,
+                heard(m, lane),
+                bridge,
+            )
+        }
+    }
+}
+
+/// A sign of life (section 6.11).
+fn pings(
+    place: usize,
+    m: Moment,
+    mut lane: Lane,
+    client: Octets,
+    bridge: &mut Bridge,
+) -> Result<(), NoMemory>
+    requires { place < length bridge.old.lanes }
+    ensures { OnOk result (bridge.new ≡ spec.pings place m lane client bridge.old) }
+{
+    lane.tries = once_more(lane.tries);
+    lane.due = m.retry;
+    says(place, Frame::PingReq { client }, lane, bridge)
+}
+
+/// What is due is sent again.
+fn again(
+    alloc: Global,
+    own: &LaneSettings,
+    place: usize,
+    m: Moment,
+    lane: Lane,
+    bridge: &mut Bridge,
+) -> Result<(), NoMemory>
+    requires { place < length bridge.old.lanes }
+    ensures { OnOk result (bridge.new ≡ spec.again lane.phase own.now place m lane bridge.old) }
+{
+    let phase = lane.phase;
+    match phase {
+        Phase::Away | Phase::Connecting => connecting(alloc, own, place, m, lane, bridge),
+        Phase::Subscribing { next } => subscribing(alloc, own, place, next, m, lane, bridge),
+        Phase::Listening => {
+            let client = Octets::from_slice(alloc, &[])?;
+            pings(place, m, lane, client, bridge)
+        }
+        Phase::Asleep => Ok(()),
+    }
+}
+
+/// The gateway does not answer: the next one is tried at once.
+fn gives_up(place: usize, m: Moment, lane: Lane, bridge: &mut Bridge) -> Result<(), NoMemory>
+    requires { place < length bridge.old.lanes }
+    ensures { OnOk result (bridge.new ≡ spec.gives_up place m lane bridge.old) }
+{
+    goes_away(place, m, lane, bridge);
+    does(bridge, Action::NextGateway { lane: place })
+}
+
+/// Time goes by.
+pub(crate) fn lane_tick(
+    alloc: Global,
+    place: usize,
+    m: Moment,
+    own: &LaneSettings,
+    lane: Lane,
+    bridge: &mut Bridge,
+) -> Result<(), NoMemory>
+    requires { place < length bridge.old.lanes }
+    ensures { OnOk result (bridge.new ≡ spec.lane_tick place m own.now lane bridge.old) }
+{
+    if m.at < lane.due {
+        return Ok(());
+    }
+    if TRIES <= lane.tries {
+        return gives_up(place, m, lane, bridge);
+    }
+    again(alloc, own, place, m, lane, bridge)
+}
+
+/// A lane that may not acknowledge falls asleep (section 6.14).
+pub(crate) fn falls_asleep(
+    place: usize,
+    mut lane: Lane,
+    bridge: &mut Bridge,
+) -> Result<(), NoMemory>
+    requires { place < length bridge.old.lanes }
+    ensures { OnOk result (bridge.new ≡ spec.asleep_in lane.phase place lane bridge.old) }
+{
+    let phase = lane.phase;
+    if phase == Phase::Asleep {
+        return Ok(());
+    }
+    lane.phase = Phase::Asleep;
+    lane.tries = 0;
+    if phase == Phase::Away {
+        seated(place, lane, bridge);
+        return Ok(());
+    }
+    let duration = Some(SLEEP);
+    says(place, Frame::Disconnect { duration }, lane, bridge)
+}
+
+/// A lane that sleeps wakes: it connects.
+pub(crate) fn wakes(
+    alloc: Global,
+    place: usize,
+    m: Moment,
+    own: &LaneSettings,
+    lane: Lane,
+    bridge: &mut Bridge,
+) -> Result<(), NoMemory>
+    requires { place < length bridge.old.lanes }
+    ensures { OnOk result (bridge.new ≡ spec.wakes place m own.now lane bridge.old) }
+{
+    let phase = lane.phase;
+    match phase {
+        Phase::Asleep => connecting(alloc, own, place, m, lane, bridge),
+        Phase::Away | Phase::Connecting | Phase::Subscribing { .. } | Phase::Listening => Ok(()),
+    }
+}
+
+/// Whether the gateway takes an acknowledgement now.
+fn is_awake(phase: Phase) -> bool
+    ensures { result ≡ spec.is_awake phase }
+{
+    match phase {
+        Phase::Subscribing { .. } | Phase::Listening => true,
+        Phase::Away | Phase::Connecting | Phase::Asleep => false,
+    }
+}
+
+/// The lane's open message may be acknowledged.
+fn answered(
+    place: usize,
+    mut held: Open,
+    mut lane: Lane,
+    bridge: &mut Bridge,
+) -> Result<(), NoMemory>
+    requires { place < length bridge.old.lanes }
+    ensures { OnOk result (bridge.new ≡ spec.answered_at (spec.is_awake lane.phase) place held lane
+        bridge.old) }
+{
+    let frame = Frame::PubAck {
+        topic_id: held.topic_id,
+        msg_id: held.msg_id,
+        code: 0,
+    };
+    held.is_answered = true;
+    lane.last = Some(held);
+    if is_awake(lane.phase) {
+        says(place, frame, lane, bridge)
+    } else {
+        seated(place, lane, bridge);
+        Ok(())
+    }
+}
+
+/// The broker has acknowledged a reading: if it is the lane's open one, so may the lane.
+pub(crate) fn answers(
+    alloc: Global,
+    number: u64,
+    place: usize,
+    lane: Lane,
+    bridge: &mut Bridge,
+) -> Result<(), NoMemory>
+    requires { place < length bridge.old.lanes }
+    ensures { OnOk result (bridge.new ≡ spec.answers_open lane.last number place lane bridge.old) }
+{
+    let held = match &lane.last {
+        None => return Ok(()),
+        Some(held) => held.copied(alloc)?,
+    };
+    if held.number == number && !held.is_answered {
+        answered(place, held, lane, bridge)
+    } else {
+        Ok(())
+    }
+}
+
+/// The spool has all readings of smaller numbers than this one: if the lane's open one is among
+/// them, it may be acknowledged.
+pub(crate) fn keeps(
+    alloc: Global,
+    below: u64,
+    place: usize,
+    lane: Lane,
+    bridge: &mut Bridge,
+) -> Result<(), NoMemory>
+    requires { place < length bridge.old.lanes }
+    ensures { OnOk result (bridge.new ≡ spec.keeps_open lane.last below place lane bridge.old) }
+{
+    let held = match &lane.last {
+        None => return Ok(()),
+        Some(held) => held.copied(alloc)?,
+    };
+    if held.number < below && !held.is_answered {
+        answered(place, held, lane, bridge)
+    } else {
+        Ok(())
+    }
+}

@@ -1,0 +1,11 @@
+pub mod Fields
+pub mod Framing
+pub mod Lengths
+pub mod Numbers
+pub mod OneFault
+pub mod ReadBodies
+pub mod ReadConnect
+pub mod Refusals
+pub mod Standing
+pub mod Texts
+pub mod Worked

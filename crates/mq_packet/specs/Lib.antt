@@ -1,0 +1,6 @@
+pub mod Bodies
+pub mod Faults
+pub mod Grammar
+pub mod Headers
+pub mod Text
+pub mod inner
