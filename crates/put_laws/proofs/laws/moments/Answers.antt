@@ -1,5 +1,5 @@
 use Rattle.std.proofs.Common.{refl}
-use Rattle.put_laws.proofs.Moments.{step-moments, tick-moments, later-moment, late-moment}
+use Rattle.put_laws.proofs.Lasting.{step-moments, tick-moments, later-moment, late-moment}
 use Rattle.put_laws.proofs.laws.moments.Goals as goal
 
 pub returns : goal.returns
