@@ -3,8 +3,8 @@
 
 Usage: bench/steps.py PROGRAM [--clients N] [--waiting N] [--past N] [--sleepers N] [--records N] [--topics N] [--seconds S] [--only WORD]
                       [--instructions]
-       (gw_sim; 1024, 1024, 100000, 1000, 100000, 1024 and 0.3 where nothing is said; WORD is one of idle, waits, past, tick, spread,
-       retained, opening; something is retained of 1,024 topics at most)
+       (gw_sim; 1024, 1024, 100000, 1000, 100000, 1024 and 0.3 where nothing is said; WORD is one of idle, waits, past, tick, lifetimes,
+       spread, retained, opening; something is retained of 1,024 topics at most)
 
 A script that builds up is played without and with the events that are measured, in turn, five times, or seven or nine where building up takes far longer than
 what is measured; the best times count, and what building up takes is taken off. As many events are played as take S seconds, and as long as building up takes, where they change nothing
@@ -332,6 +332,17 @@ def bench_tick(bench: Bench, asked: argparse.Namespace) -> None:
     told(bench, "a tick behind each PINGREQ, which forgets what was remembered", "at 10 clients", f"at {asked.clients:,}", pairs, 0)
 
 
+def bench_lifetimes(bench: Bench, asked: argparse.Namespace) -> None:
+    count, waiting, turns, pairs = asked.clients, min(asked.waiting, 1000), 20000, []
+    crowd = [line for client in range(count) for line in sleeper(client, b"ab")] + publisher(count)
+    for first in ([], ["lifetime 1 4294967295"]):
+        setup = first + crowd + [publish(PUBLISHER, b"ab", 1, message) for message in range(waiting)]
+        without = bench.fixed([Case(setup, [at(PUBLISHER, 2, PING)] * turns, ponged(PUBLISHER))], 3)[0]
+        pairs.append(bench.fixed([Case(setup, [at(PUBLISHER, 2, PING), "tick 1 2"] * turns, "quiet")], 3)[0] * 2 - without)
+    what = f"a tick after each PINGREQ, while {waiting:,} messages wait for each of {count:,} clients"
+    told(bench, what, "without a lifetime", "with one", pairs, 1.1)
+
+
 def bench_spread(bench: Bench, asked: argparse.Namespace) -> None:
     count = asked.sleepers
     setup = [line for client in range(count) for line in sleeper(client, b"ab")] + publisher(count)
@@ -411,6 +422,7 @@ PARTS = [
     ("waits", "a step with many messages that wait for a client", bench_waits),
     ("past", "a step behind messages that a client was handed and acknowledged", bench_past),
     ("tick", "time goes by", bench_tick),
+    ("lifetimes", "time goes by, and messages have a moment", bench_lifetimes),
     ("spread", "a publication to many", bench_spread),
     ("retained", "what is retained of topics", bench_retained),
     ("opening", "a gateway is opened again", bench_opening),

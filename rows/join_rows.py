@@ -54,7 +54,7 @@ import sys
 
 FOLDER = os.path.dirname(os.path.abspath(__file__))
 JOINED = os.path.join(os.path.dirname(FOLDER), "crates", "gw_sim")
-HEADS = (b"gateway ", b"predefine ")
+HEADS = (b"gateway ", b"predefine ", b"lifetime ")
 LONG = "\\long"
 # A line of a head that names rows of these files: those of other programs begin with the program's name.
 NAMES = re.compile(r"#     (?! |\w+_rows: )")

@@ -20,7 +20,7 @@ from trust_levels import ENDING, HEAD, LEVELS, NAMED, READING, SENTENCES
 
 PAGE = TOP / "docs" / "TRUST.md"
 # The page is for one evening. Crates of a level share a block if it has no more lines than this.
-MOST_LINES, BLOCK_LINES = 1500, 110
+MOST_LINES, BLOCK_LINES = 1500, 230
 
 NOTES = []
 

@@ -65,7 +65,7 @@ SENTENCES = [
      "Each acknowledgement that is anywhere in a field was written by a step of the run. A step for a frame acknowledges only messages "
      "that wait for the client that the frame is from, and each for one of four causes. The client begins a clean session and is accepted. It accepts or refuses, by message id, "
      "the message that is being handed over to it. The step sends the message at quality of service 0. No topic id is left for the "
-     "message. A tick acknowledges only for the last two.",
+     "message. A tick acknowledges only for the last two, or a message whose moment is there, if the client is not in the middle of it.",
      ["promise_laws::acknowledged_in_a_run.written"],
      "A *step* is what the step table plans for a frame: a `Plan`, [level 3]. `IsForCause` and `IsTimely` list the causes, and "
      "`IsWrittenBy` is the step in its run: [level 4].",
@@ -156,7 +156,8 @@ NAMED = set("""
     gw_answer/refusal/Refusal gw_answer/step/Step sn_plan/Drafts/session_after sn_exchange/Delivery/id_to_tell
     sn_exchange/Exchanges/open_exchange sn_exchange/Following/peer_at sn_exchange/Forms/form_of sn_exchange/Forms/publication
     sn_exchange/form/Form sn_exchange/peer/Peer sn_publish/Publishing/publication_meant sn_publish/Recipients/qos_for sn_publish/meaning/Meant
-    sn_deliver/Steps/row_for sn_deliver/Steps/step sn_tick/Ticking/tick put_laws/Causes/gives_message
+    sn_deliver/Steps/row_for sn_deliver/Steps/step sn_tick/Expiry/is_under_way sn_tick/Expiry/under_way
+    sn_tick/Ticking/tick put_laws/Causes/gives_message
     put_laws/Causes/gives_topic gw_event/Drives/has_more gw_event/Drives/left_by gw_event/Drives/opened
     gw_event/Drives/torn gw_event/Drives/with_record gw_event/Event/CompactStep gw_event/Event/DigestStep
     gw_event/Event/HasNoDelta gw_event/Event/IsWritable gw_event/Event/ReplyStep

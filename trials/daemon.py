@@ -124,6 +124,7 @@ BAD = {
     "workers": ["0", "9", "-1", '"2"', "1.5"],
     "steps": ["0", "4097", "-1", '"16"'],
     "advertise": ["-1", "65536", '"1"'],
+    "lifetime": ["-1", "31536001", '"5"', "1.5"],
     "field": ['"127.0.0.1:1"', '["127.0.0.1"]', "[1]", '["127.0.0.1:1", ""]', "1"],
     "peers": ['"127.0.0.1:1"', '["127.0.0.1"]', "[1]", '["127.0.0.1:1", "::1"]', "1"],
     "predefined": ["1", "[1]", '["a"]', "[{ id = 1 }]", '[{ topic = "a" }]', '[{ id = 0, topic = "a" }]', '[{ id = 65535, topic = "a" }]',
@@ -173,8 +174,8 @@ def try_good_settings(account: Account, texts: Texts) -> None:
     """What may stand in a settings file; each opens a journal of its own."""
     good = {
         "no more than there must be": {},
-        "the least": {"workers": "1", "steps": "1", "advertise": "0", "field": "[]", "peers": "[]", "predefined": "[]"},
-        "the most": {"workers": "8", "steps": "4096", "advertise": "65535"},
+        "the least": {"workers": "1", "steps": "1", "advertise": "0", "lifetime": "0", "field": "[]", "peers": "[]", "predefined": "[]"},
+        "the most": {"workers": "8", "steps": "4096", "advertise": "65535", "lifetime": "31536000"},
         "lists": {"field": '["127.0.0.1:1", "127.0.0.1:2"]', "peers": '["127.0.0.1:3"]',
                   "predefined": f'[{{ id = 1, topic = "a/b" }}, {{ id = 65534, topic = "{"a" * 256}" }}]'},
     }

@@ -17,6 +17,9 @@ The parts, all where none is named, with about the seconds that each takes. An u
   unread    30  nobody reads what the program prints: it serves on, tells later how many lines were left out, and ends when it is to end, also by a fault
   threads   20  no thread is made for eight seconds: afterwards clients are served within 15
   slow      15  a shift does not wait for what the network has not taken yet; it needs root, tc, and net.core.wmem_max of 376832
+  dates     75  30 clients with a keep-alive of ten seconds ping each two; the date goes a day ahead, a day back, and both again: no client is lost, no will is told,
+                no message expires, and each step is told in a line; eight days ahead what has a lifetime of seven expires
+  undated   10  a start before 2026 says that messages get no lifetime; once the date is set they do
   listens   40  20 sleepers whose messages came to a peer wake right after a start: none is told that nothing waits; where the peer tells what it made in its shift,
                 where it answers a digest eleven seconds after its last answer, and where each sync of the gateway takes half a second
   alone      7  a gateway whose peer is away answers nobody after a start, and everybody within six seconds
@@ -41,7 +44,7 @@ The parts, all where none is named, with about the seconds that each takes. An u
   unit       1  the unit says nothing that systemd does not know, asserts the journal, and starts again after every status but 1; it is left out if there is no
                 systemd-analyze
 
-All goes on at 127.0.0.1, at ports that the system gives, in a folder that is gone afterwards. Parts that slow syncs or cut the network compile a library of trials/.
+All goes on at 127.0.0.1, at ports that the system gives, in a folder that is gone afterwards. Parts that slow syncs, cut the network or set the date compile a library of trials/.
 Status 0 only where nothing failed.
 """
 import argparse
@@ -106,6 +109,12 @@ class Alone(Loaded):
     """Lets no thread be made while it is told a number other than 0."""
 
     name = "no_thread"
+
+
+class Dated(Loaded):
+    """Sets the date of the programs ahead by as many seconds as it is told, or back."""
+
+    name = "set_date"
 
 
 def sleeps_at(gateway: Gateway, name: bytes, topic: bytes = b"ow") -> None:
@@ -631,6 +640,82 @@ def slow(program: str, folder: str) -> str:
     said = f"a shift of which some 50 calls were left was over {took:.2f} seconds after a client woke for which 900 messages of 100 octets waited, at 1 Mbit/s"
     expect(took < 0.3, said)
     return said
+
+
+# ---- dates
+
+
+def opened_again(gateway: Gateway, count: int) -> None:
+    """Closes shifts until the journal was opened so often."""
+    end = time.monotonic() + 60
+    while len(gateway.openings()) < count:
+        expect(time.monotonic() < end, f"the journal was opened {len(gateway.openings())} times, not {count}")
+        turn(gateway)
+
+
+def come_back(clients: list, seconds: float, is_done=lambda: False) -> None:
+    """All ping each two seconds, and connect again whenever they are turned away, so long or until something is done."""
+    end = time.monotonic() + seconds
+    while time.monotonic() < end and not is_done():
+        for client in clients:
+            is_gone = False
+            while (octets := client.receive(0.001)) is not None:
+                is_gone = is_gone or octets == GONE
+            client.send(connect(client.name, 10) if is_gone else ping())
+        time.sleep(2)
+
+
+def dates(program: str, folder: str) -> str:
+    day = 86_400
+    with Dated(folder) as date, Gateway(program, folder, 7, steps="64", lifetime=str(7 * day)) as gateway:
+        gateway.start()
+        sleeps_at(gateway, b"s-soon")
+        sleeps_at(gateway, b"s-late")
+        say(gateway, b"teller", b"<waits>")
+        wills, clients = Wills(gateway), [Client(b"k-%d" % one, gateway) for one in range(30)]
+        for client in clients:
+            with_will(client, 10)
+        come_back(clients, 3)
+        for count, ahead in enumerate((day, 0, -day, 0), 2):
+            date.say(ahead)
+            come_back(clients, 40, lambda: len(gateway.openings()) >= count)
+            come_back(clients, 8)
+            expect(len(gateway.openings()) == count, f"the journal was opened {len(gateway.openings())} times, not {count}")
+        lines = gateway.told().count("date: ")
+        expect(lines == 4, f"{lines} lines told of the date, not 4")
+        wills.client.connect()
+        stays([], wills, 5, {})
+        expect(not wills.seen, f"{len(wills.seen)} wills of 30 that lived")
+        with Client(b"s-soon", gateway) as soon:
+            found = soon.wake()
+        expect(found == [b"<waits>"], f"a message that had time got {found}")
+        date.say(8 * day)
+        opened_again(gateway, 6)
+        time.sleep(3)
+        with Client(b"s-late", gateway) as late:
+            found = late.wake()
+        expect(found == [], f"a message that was eight days old came: {found}")
+    return "no will of 30, four lines, and nothing expired early"
+
+
+def undated(program: str, folder: str) -> str:
+    with Dated(folder) as date, Gateway(program, folder, 7, steps="64", lifetime="604800") as gateway:
+        date.say(1_000 - int(time.time()))
+        gateway.start()
+        expect("date: before 2026" in gateway.told(), f"no line told that the machine has no date: {gateway.told()!r}")
+        sleeps_at(gateway, b"s-one")
+        say(gateway, b"teller", b"<undated>")
+        date.say(0)
+        opened_again(gateway, 2)
+        sleeps_at(gateway, b"s-two")
+        say(gateway, b"teller", b"<dated>")
+        date.say(8 * 86_400)
+        opened_again(gateway, 3)
+        time.sleep(3)
+        with Client(b"s-one", gateway) as one, Client(b"s-two", gateway) as two:
+            first, second = one.wake(), two.wake()
+    expect(first == [b"<undated>"] and second == [], f"{first} and {second} waited")
+    return "without a date no lifetime, and with it one"
 
 
 # ---- starts
@@ -1240,7 +1325,7 @@ def unit(_program: str, folder: str) -> str:
     return "it asserts that the journal is there, and starts again after every status but 1"
 
 
-PARTS = {"herd": herd, "stall": stall, "hang": hang, "backlog": backlog, "radio": radio, "reopens": reopens, "nobody": nobody,
+PARTS = {"herd": herd, "stall": stall, "hang": hang, "backlog": backlog, "radio": radio, "reopens": reopens, "nobody": nobody, "dates": dates, "undated": undated,
          "idle": idle, "unread": unread, "threads": threads, "slow": slow, "listens": listens, "alone": alone, "wear": wear, "first": first, "waits": waits,
          "short": short, "hole": hole, "blocks": blocks, "room": room, "garbage": garbage, "bound": bound, "handed": handed, "fence": fence, "ids": ids, "learned": learned,
          "full": full, "zeros": zeros, "begun": begun, "unit": unit}

@@ -36,7 +36,8 @@
 //! - `op CLIENT EPOCH.GATEWAY COUNTER CHANGE`: a change of a client's session.
 //! - `ops CLIENT EPOCH.GATEWAY FIRST LAST CHANGE`: the same change under each counter from the
 //!   first to the last.
-//! - `put CLIENT ORIGIN.NUMBER TOPIC QOS BODY`, or with `retained` after: a message for a client.
+//! - `put CLIENT ORIGIN.NUMBER TOPIC QOS BODY`, or with `retained`, `expires SECOND` or both after:
+//!   a message for a client.
 //! - `puts CLIENT ORIGIN FIRST LAST TOPIC QOS SIZE`: messages of so many octets, all the letter
 //!   `a`.
 //! - `ack CLIENT ORIGIN FIRST LAST`: a client has these messages.

@@ -48,9 +48,9 @@ set-up i gs next all one j gateway e = elim (set-cases i j gs next gateway e) [
 plan-up : (gateway : Gateway) → AreFlush gateway.config.gateway gateway.taken → GatewayUp gateway → (occasion : Occasion) (now : ℕ) (plan : Plan) → IsPlan gateway occasion now (Some plan)
     → (delta : List Op) → Same delta plan.ops → IsUp gateway.config.gateway (gateway.taken ++ delta) (after_all gateway.local plan.local)
 plan-up gateway flush up (Datagram from bytes) now plan h delta same =
-    step-up gateway.config.gateway gateway.taken flush gateway.local up plan delta same gateway.config.predefined from h.0 now h.3
+    step-up gateway.config.gateway gateway.taken flush gateway.local up plan delta same gateway.config.lifetime gateway.config.predefined from h.0 now h.3
 plan-up gateway flush up Clock now plan h delta same =
-    tick-up gateway.config.gateway gateway.taken flush gateway.local up plan delta same gateway.config.predefined gateway.config.advertise gateway.config.field now h
+    tick-up gateway.config.gateway gateway.taken flush gateway.local up plan delta same gateway.config.lifetime gateway.config.predefined gateway.config.advertise gateway.config.field now h
 
 -- ---- what one event does
 

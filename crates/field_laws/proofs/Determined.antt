@@ -95,7 +95,7 @@ made-full (op ∷ ops) old plan (Some d) new made room apart h (inr k) = made-re
 plan-one : (old : Gateway) (occasion : Occasion) (now : ℕ) (p q : Option Plan) → IsPlan old occasion now p → IsPlan old occasion now q → p ≡ q
 plan-one old (Datagram from bytes) now p q h k =
     let same : h.0 ≡ k.0 = one_frame bytes h.0 k.0 h.1 k.1 h.2 k.2 in
-    sym h.3 ∙ ap (λ frame. step old.config.gateway old.config.predefined (seen_of old.taken) old.local from frame now) same ∙ k.3
+    sym h.3 ∙ ap (λ frame. step old.config.gateway old.config.lifetime old.config.predefined (seen_of old.taken) old.local from frame now) same ∙ k.3
 plan-one old Clock now p q h k = sym h ∙ k
 
 fault-one : (occasion : Occasion) (d e : FrameFault) → IsNoFrame occasion d → IsNoFrame occasion e → d ≡ e

@@ -59,8 +59,8 @@ set-well i gs next all one j gateway e = elim (set-cases i j gs next gateway e) 
 ]
 
 plan-makes : (gateway : Gateway) → KeepsWell gateway.config.gateway gateway.taken gateway.local → (occasion : Occasion) (now : ℕ) (plan : Plan) → IsPlan gateway occasion now (Some plan) → Makes plan
-plan-makes gateway k (Datagram from bytes) now plan h = step-makes gateway.config.gateway gateway.taken gateway.local k gateway.config.predefined plan from h.0 now h.3
-plan-makes gateway k Clock now plan h = tick-makes gateway.config.gateway gateway.taken gateway.local k gateway.config.predefined plan gateway.config.advertise gateway.config.field now h
+plan-makes gateway k (Datagram from bytes) now plan h = step-makes gateway.config.gateway gateway.taken gateway.local k gateway.config.predefined plan gateway.config.lifetime from h.0 now h.3
+plan-makes gateway k Clock now plan h = tick-makes gateway.config.gateway gateway.taken gateway.local k gateway.config.predefined plan gateway.config.lifetime gateway.config.advertise gateway.config.field now h
 
 -- ---- what one event does
 

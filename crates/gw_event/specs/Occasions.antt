@@ -24,9 +24,10 @@ pub data Occasion : Type 0 where
 abbrev pub IsPlanOf : Config → Seen → Local → Occasion → ℕ → Option Plan → Type 0
 IsPlanOf config seen local (Datagram from bytes) now plan =
     (frame : Frame) × IsValue frame × Spells bytes frame
-    × (step config.gateway config.predefined seen local from frame now ≡ plan)
+    × (step config.gateway config.lifetime config.predefined seen local from frame now ≡ plan)
 IsPlanOf config seen local Clock now plan =
-    tick config.gateway config.advertise config.field config.predefined seen local now ≡ plan
+    tick config.gateway config.lifetime config.advertise config.field config.predefined seen local
+    now ≡ plan
 
 -- the bytes of a datagram are no frame, and this is their first fault; that memory ran out is no
 -- such fault

@@ -6,12 +6,13 @@ use Rattle.gw_answer.specs.declared.refusal.Refusal.{Refusal}
 use Rattle.gw_answer.specs.declared.refusal.Refusal.TheVariants as refusals
 use Rattle.gw_main.specs.declared.options.Settings.{Settings}
 
--- number, interval, field and predefined topic ids of the settings
+-- number, interval, lifetime, field and predefined topic ids of the settings
 abbrev pub config_of : Settings → Config
 config_of settings =
     record {
       gateway = settings.gateway;
       advertise = settings.advertise;
+      lifetime = settings.lifetime;
       field = settings.field.items;
       predefined = settings.predefined;
     }

@@ -130,6 +130,11 @@ steps_in members = number_in 1 MAX_STEPS (Some MAX_STEPS) (at keys.Steps members
 abbrev pub advertise_in : Members → Option ℕ
 advertise_in members = number_in 0 65535 (Some 0) (at keys.Advertise members)
 
+-- for how many seconds a message waits at most, up to a year; 0, for no such time, if it is not
+-- said
+abbrev pub lifetime_in : Members → Option ℕ
+lifetime_in members = number_in 0 31536000 (Some 0) (at keys.Lifetime members)
+
 -- the addresses to which ADVERTISE goes; none if it is not said
 abbrev pub field_in : Members → Option (List Addr)
 field_in members = list_in address_item (at keys.Field members)
@@ -173,6 +178,7 @@ pub record Says (members : Members) (settings : Settings) : Type 0 where
   pub workers : workers_in members ≡ Some settings.workers
   pub steps : steps_in members ≡ Some settings.steps
   pub advertise : advertise_in members ≡ Some settings.advertise
+  pub lifetime : lifetime_in members ≡ Some settings.lifetime
   pub field : field_in members ≡ Some settings.field.items
   pub peers : peers_in members ≡ Some settings.peers.items
   pub predefined : predefined_in members ≡ Some settings.predefined
@@ -198,6 +204,7 @@ first_bad members =
     (or_else (workers_in members) keys.Workers
     (or_else (steps_in members) keys.Steps
     (or_else (advertise_in members) keys.Advertise
+    (or_else (lifetime_in members) keys.Lifetime
     (or_else (field_in members) keys.Field
     (or_else (peers_in members) keys.Peers
     (or_else (predefined_in members) keys.Predefined
@@ -205,7 +212,7 @@ first_bad members =
     (or_else (clients_in members) keys.Clients
     (or_else (newcomers_in members) keys.Newcomers
     (or_else (status_in members) keys.Status
-    (or_else (log_in members) keys.Log None))))))))))))))
+    (or_else (log_in members) keys.Log None)))))))))))))))
 
 -- the text is a document that says these settings
 abbrev pub IsRead : List ℕ → Settings → Type 0

@@ -157,6 +157,7 @@ fn config_of(alloc: Global, settings: &Settings) -> Result<Config, NoMemory>
     Ok(Config {
         gateway: settings.gateway,
         advertise: settings.advertise,
+        lifetime: settings.lifetime,
         field: Sequence::new(field),
         predefined,
     })

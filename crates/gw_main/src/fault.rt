@@ -27,6 +27,9 @@ pub enum Key {
     /// How many seconds pass between two ADVERTISE (MQTT-SN 1.2 section 5.4.1): 0 to 65,535; 0, or
     /// else, for none.
     Advertise,
+    /// For how many seconds a message waits at most: 1 to 31,536,000, which is a year; 0, or else,
+    /// for no such time.
+    Lifetime,
     /// The addresses that ADVERTISE goes to, or else none.
     Field,
     /// The addresses of the gateways to be dialled, or else none.
@@ -62,6 +65,7 @@ impl Key {
             Key::Workers => "workers",
             Key::Steps => "steps",
             Key::Advertise => "advertise",
+            Key::Lifetime => "lifetime",
             Key::Field => "field",
             Key::Peers => "peers",
             Key::Predefined => "predefined",

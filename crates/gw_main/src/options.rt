@@ -21,6 +21,8 @@ pub struct Settings {
     pub steps: u16,
     /// How many seconds pass between two ADVERTISE; 0 for none.
     pub advertise: u16,
+    /// For how many seconds a message waits at most: 0 to 31,536,000; 0 for no such time.
+    pub lifetime: u32,
     /// The addresses that ADVERTISE goes to.
     pub field: Vec<Addr>,
     /// The addresses of the gateways to be dialled.

@@ -48,6 +48,7 @@ pub(crate) struct Plain {
     workers: u8,
     steps: u16,
     advertise: u16,
+    lifetime: u32,
 }
 
 /// What it says in the lists, and in the key after them.
@@ -124,6 +125,7 @@ fn joined(plain: Plain, lists: Lists, shown: Shown) -> Settings
         workers: plain.workers,
         steps: plain.steps,
         advertise: plain.advertise,
+        lifetime: plain.lifetime,
         field: lists.field,
         peers: lists.peers,
         predefined: lists.predefined,
@@ -147,6 +149,7 @@ fn plain_of(alloc: Global, table: &Table) -> Result<Plain, SettingsFault>
     let workers = number_at(table, Key::Workers, 1, 8, Some(2))?;
     let steps = number_at(table, Key::Steps, 1, MAX_STEPS, Some(MAX_STEPS))?;
     let advertise = number_at(table, Key::Advertise, 0, 65_535, Some(0))?;
+    let lifetime = number_at(table, Key::Lifetime, 0, 31_536_000, Some(0))?;
     Ok(Plain {
         gateway: gateway as u8,
         listen,
@@ -155,6 +158,7 @@ fn plain_of(alloc: Global, table: &Table) -> Result<Plain, SettingsFault>
         workers: workers as u8,
         steps: steps as u16,
         advertise: advertise as u16,
+        lifetime: lifetime as u32,
     })
 }
 

@@ -48,7 +48,7 @@ module _ {D : Type 0} {G : Ghosts D} where
   pub rested : (state : State G) (now : ℕ) (out : Out) → is_halted state ≡ false → IsIdleAt state now → out ≡ only_sends []
       → OwnCall state Clock now (Ok out) state
   rested state now out runs idle is =
-      (runs, (plan_without nothing, idle_tick state.config.gateway state.config.advertise state.config.field state.config.predefined (seen_of state.kept) state.local now idle, done state out is))
+      (runs, (plan_without nothing, idle_tick state.config.gateway state.config.lifetime state.config.advertise state.config.field state.config.predefined (seen_of state.kept) state.local now idle, done state out is))
 
   -- or memory ran out
   pub wanting : (state : State G) (now : ℕ) → OwnCall state Clock now (Err refusals.Memory) state

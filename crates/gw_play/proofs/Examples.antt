@@ -41,6 +41,11 @@ waiting : put_line (record { origin = 2; seq = 1; topic = codes "ab"; qos = 0; r
 unfolding digits encode_with
 waiting = refl
 
+-- a message that need not wait from second 33 on
+lasting : put_line (record { origin = 1; seq = 2; topic = codes "ab"; qos = 1; retain = false; expires = 33; body = codes "y" }) ≡ codes "  put 2.1 1 6162 79 expires 33" ++ line_end
+unfolding digits encode_with
+lasting = refl
+
 -- a client of which no Take came
 unknown : client_text (codes "s1", record { stamp = None; prefix = 0; session = None; pending = [] }) ≡ codes "client 7331 stamp none" ++ line_end
 unfolding digits encode_with

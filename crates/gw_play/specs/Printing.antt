@@ -1,5 +1,5 @@
 -- What answers are printed as. Each line ends with a line feed.
-use Rattle.std.specs.Prelude.{ℕ, ◌+◌, ◌∷◌, ◌++◌, List, [], Option, Some, Result, Ok, Err, Bool, true, false, codes, flat_map, length}
+use Rattle.std.specs.Prelude.{ℕ, ◌+◌, ◌==◌, ◌∷◌, ◌++◌, if◌then◌else◌, List, [], Option, Some, Result, Ok, Err, Bool, true, false, codes, flat_map, length}
 use Rattle.std.specs.Option.{option_to_list}
 use Rattle.std.specs.Fmt.{decimal}
 use Rattle.sn_frame.specs.Faults.{fault_number}
@@ -96,12 +96,16 @@ client_line client view =
     codes "client " ▹ hex_text client ▹ codes " stamp "
     ▹ known_text view.stamp view.prefix view.session
 
+-- the moment from which on a message need not wait, if it has one
+abbrev pub moment_text : ℕ → List ℕ
+moment_text expires = if expires == 0 then [] else codes " expires " ▹ decimal expires
+
 -- a message that waits
 abbrev pub put_line : Put → List ℕ
 put_line put =
     codes "  put " ▹ decimal put.seq ▹ codes "." ▹ decimal put.origin ▹ codes " " ▹ decimal put.qos
     ▹ codes " " ▹ hex_text put.topic
-    ▹ codes " " ▹ hex_text put.body ▹ line_end
+    ▹ codes " " ▹ hex_text put.body ▹ moment_text put.expires ▹ line_end
 
 -- the tables of the client's session, if it has one
 abbrev pub session_lines : Option Stamp → Option Session → List ℕ

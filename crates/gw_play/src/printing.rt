@@ -4,7 +4,7 @@
 
 ghost use Rattle.std.specs.Prelude.{◌≡◌, ◌+◌, ◌++◌, IfOk, OnOk, flat_map, length, string_bytes};
 ghost use Rattle.std.specs.Option.{option_to_list};
-ghost use Rattle.gw_play.specs.Printing.{answers_text, answer_text, deltas_after, out_text, joined, delta_line, delta_lines, send_line, refusal_text, records_line, views_text, client_text, client_line, stamp_text, session_text, session_lines, put_line, retained_line};
+ghost use Rattle.gw_play.specs.Printing.{answers_text, answer_text, deltas_after, out_text, joined, delta_line, delta_lines, send_line, refusal_text, records_line, views_text, client_text, client_line, stamp_text, session_text, session_lines, moment_text, put_line, retained_line};
 ghost use Rattle.gw_play.specs.Printing as spec;
 ghost use Rattle.gw_play.specs.inner.Printing.{world_fault_line, bad_line_text};
 ghost use Rattle.gw_answer.specs.Answers.{told};
@@ -344,7 +344,19 @@ fn print_put(alloc: Global, text: &mut String, put: &Put) -> Result<(), AllocErr
     let qos = put.qos.number();
     let topic = hexadecimal(alloc, put.topic.bytes())?;
     let body = hexadecimal(alloc, put.body.as_slice())?;
-    writeln!(text, "  put {seq}.{origin} {qos} {topic} {body}")
+    let moment = moment_of(alloc, put.expires)?;
+    writeln!(text, "  put {seq}.{origin} {qos} {topic} {body}{moment}")
+}
+
+/// How the moment is written from which on a message need not wait, if it has one.
+fn moment_of(alloc: Global, expires: u64) -> Result<String, AllocError>
+    ensures { IfOk result (λ text. string_bytes text ≡ moment_text expires) }
+{
+    if expires == 0 {
+        Ok(String::new(alloc))
+    } else {
+        format!(in alloc; " expires {expires}")
+    }
 }
 
 /// The line of a run that has no result.

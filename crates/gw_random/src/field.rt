@@ -1,6 +1,6 @@
 //! The gateways of a script, and what they answer.
 
-use super::writing::{PREDEFINED, PREDEFINED_ID};
+use super::writing::{PREDEFINED, PREDEFINED_ID, lifetime_of};
 use gw_world::{Answer, Event, World, WorldFault, run};
 use octets::{NoMemory, Sequence};
 use rep_model::Replica;
@@ -69,6 +69,7 @@ fn config(alloc: Global, gateway: u8) -> Result<Config, NoMemory> {
     Ok(Config {
         gateway,
         advertise: 0,
+        lifetime: lifetime_of(gateway),
         field: Sequence::empty(alloc),
         predefined,
     })

@@ -2,6 +2,7 @@
 
 use super::disk::{follow_fault, follow_restart, is_written, may_go_on};
 use super::field::{Field, Played, added_at};
+use super::moments::{is_late, moments_differ};
 use super::seat::{Seat, are_same, has_vanished};
 use gw_world::{Answer, Event, Out};
 use octets::{NoMemory, Sequence};
@@ -30,6 +31,12 @@ pub(crate) enum What {
     Records,
     /// A message that waited waits no more, and was not acknowledged.
     Vanished,
+    /// A message has another moment than its step gives.
+    Moment,
+    /// A message is acknowledged before its moment.
+    Early,
+    /// A message waits on after its moment.
+    Late,
     /// Gateways that exchanged what they have do not have the same.
     Sets,
     /// Gateways that have the same do not show the same.
@@ -59,6 +66,9 @@ impl What {
             What::Halted => "a gateway goes on after a failed write, or stops before one",
             What::Records => "a journal has not the records that it must have",
             What::Vanished => "a message waits no more that was not acknowledged",
+            What::Moment => "a message has not the moment of its step",
+            What::Early => "a message expires before its moment",
+            What::Late => "a message waits on after its moment",
             What::Sets => "gateways have exchanged all and have not the same",
             What::Apart => "gateways have the same and do not show the same",
         }
@@ -93,7 +103,7 @@ pub(crate) fn delta_at(played: &Played, number: u64) -> Option<&Delta> {
 }
 
 /// The views of an answer.
-fn views_at(played: &Played, at: usize) -> Option<&Sequence<(ClientId, ClientView)>> {
+pub(crate) fn views_at(played: &Played, at: usize) -> Option<&Sequence<(ClientId, ClientView)>> {
     match played.answers.as_slice().get(at)? {
         Answer::Views(views, _) => Some(views),
         Answer::Node(_) | Answer::Records(_) | Answer::Nothing => None,
@@ -239,7 +249,8 @@ fn follow_at<R: Replica>(
             follow_fault::<R>(alloc, field, events, played, seat, at, event, fault)
         }
         Answer::Views(views, topics) => {
-            Ok(follow_shown(seat, played, at, views.as_slice(), topics.as_slice()))
+            let (views, topics) = (views.as_slice(), topics.as_slice());
+            Ok(follow_shown(events, seat, played, at, views, topics))
         }
         Answer::Records(told) => follow_restart(alloc, seat, event, *told),
         Answer::Nothing => Ok(arranged(seat, at, event)),
@@ -274,7 +285,10 @@ fn follow_out(
         return Ok(Some(What::Halted));
     }
     match seat.latest {
-        Some(number) => follow_delta(alloc, seat, event, delta_at(played, number)),
+        Some(number) => {
+            let delta = delta_at(played, number);
+            follow_delta(alloc, seat, played, event, out, delta)
+        }
         None => is_written(alloc, seat, event, None),
     }
 }
@@ -283,12 +297,17 @@ fn follow_out(
 fn follow_delta(
     alloc: Global,
     seat: &mut Seat,
+    played: &Played,
     event: &Event,
+    out: &Out,
     delta: Option<&Delta>,
 ) -> Result<Option<What>, NoMemory> {
     let Some(delta) = delta else {
         return Ok(Some(What::Stopped));
     };
+    if let Some(what) = moments_differ(seat, played, event, out, delta) {
+        return Ok(Some(what));
+    }
     if seat.take(alloc, delta)? {
         is_written(alloc, seat, event, Some(delta))
     } else {
@@ -323,17 +342,20 @@ fn vanished(seat: &Seat, played: &Played, views: &[(ClientId, ClientView)]) -> b
 
 /// A gateway is shown, with what it retains of topics.
 fn follow_shown(
+    events: &[Event],
     seat: &mut Seat,
     played: &Played,
     at: usize,
     views: &[(ClientId, ClientView)],
     topics: &[(TopicName, Retained)],
 ) -> Option<What> {
-    if seat.retains(topics) {
-        follow_views(seat, played, at, views)
-    } else {
-        Some(What::Retained)
+    if !seat.retains(topics) {
+        return Some(What::Retained);
     }
+    if is_late(events, played, at, views) {
+        return Some(What::Late);
+    }
+    follow_views(seat, played, at, views)
 }
 
 /// A gateway is shown.

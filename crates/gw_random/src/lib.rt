@@ -3,6 +3,7 @@
 //! `random_run` makes scripts from a seed, plays each through the real thing (`gw_world::run`), and
 //! checks at each step what the definitions say: a gateway shows the views of the set that it made
 //! and took, and what that retains, and a message that waits goes away only by its acknowledgement.
+//! Two gateways of three have a lifetime, so that messages expire: never early, and never late.
 //! A script that shows something else is made short and is part of the report.
 //!
 //! - `draw`: numbers that look random.
@@ -15,6 +16,7 @@
 //! - `copying`: equal events, and events with what each leaves shown.
 //! - `seat`: what a gateway must show by the definitions (`Seat`).
 //! - `disk`: events at a gateway whose disk may fail.
+//! - `moments`: when messages expire.
 //! - `judge`: a run compared with the definitions (`Difference`).
 //! - `exchange`: at the end gateways exchange what they have.
 //! - `shorten`: a script that differs, made short.
@@ -33,6 +35,7 @@ mod frames;
 mod invent;
 mod judge;
 mod listed;
+mod moments;
 mod report;
 mod seat;
 mod shorten;

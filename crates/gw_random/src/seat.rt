@@ -142,7 +142,7 @@ fn waits(views: &[(ClientId, ClientView)], client: &ClientId, put: &Put) -> bool
 }
 
 /// Whether a delta acknowledges a client's message.
-fn acknowledges(delta: Option<&Delta>, client: &ClientId, put: &Put) -> bool {
+pub(crate) fn acknowledges(delta: Option<&Delta>, client: &ClientId, put: &Put) -> bool {
     match delta {
         Some(delta) => delta
             .ops()

@@ -9,6 +9,15 @@ pub(crate) const PREDEFINED: &[u8] = b"far/off";
 /// Its id.
 pub(crate) const PREDEFINED_ID: u16 = 700;
 
+/// For how many seconds messages wait that a gateway of this number makes; 0 for no such time.
+pub(crate) fn lifetime_of(gateway: u8) -> u32 {
+    match gateway % 3 {
+        1 => 30,
+        2 => 4,
+        _ => 0,
+    }
+}
+
 /// The lines of a script: so many gateways, and then these events.
 pub(crate) fn script(alloc: Global, gateways: u8, events: &[Event]) -> Result<String, AllocError> {
     let mut text = String::new(alloc);
@@ -21,10 +30,12 @@ pub(crate) fn script(alloc: Global, gateways: u8, events: &[Event]) -> Result<St
     Ok(text)
 }
 
-/// The lines of a gateway and of its predefined topic id.
+/// The lines of a gateway, of its lifetime and of its predefined topic id.
 fn gateway_lines(alloc: Global, text: &mut String, number: u8) -> Result<(), AllocError> {
     let id = PREDEFINED_ID;
+    let lifetime = lifetime_of(number);
     plain_line(text, "gateway", number)?;
+    writeln!(text, "lifetime {number} {lifetime}")?;
     write!(text, "predefine {number} {id} ")?;
     digits_line(alloc, text, PREDEFINED)
 }

@@ -334,7 +334,7 @@ pub enum Count {
     Calls,
     /// Compactions, by result.
     Compactions,
-    /// Openings after a failure, by place.
+    /// Openings while the program runs, by place.
     Reopenings,
     /// Clients, by presence.
     Clients,
@@ -375,7 +375,7 @@ impl Count {
             Count::DatagramsSent => "Datagrams that went out, by message type.",
             Count::Calls => "Calls of closed shifts, by kind and answer.",
             Count::Compactions => "Compactions of the journal, by result.",
-            Count::Reopenings => "Openings after a failure. Each disconnects every client.",
+            Count::Reopenings => "Openings while the program runs. Each disconnects every client.",
             Count::Clients => "Clients that the gateway knows, by presence.",
             Count::JournalOctets => "Octets of each file of the journal.",
             Count::MessagesKnown => "Messages of each origin that are known here.",

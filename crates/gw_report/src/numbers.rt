@@ -231,7 +231,7 @@ pub struct Numbers {
     pub calls: Sequence<Sample>,
     /// Compactions, by result.
     pub compactions: Sequence<Sample>,
-    /// Openings after a failure, by place.
+    /// Openings while the program runs, by place.
     pub reopenings: Sequence<Sample>,
     /// Clients, by presence.
     pub clients: Sequence<Sample>,

@@ -81,7 +81,7 @@ fn tick_in_turn<T: Wait + Clock, R: Replica, D: Disk + Drop, P: Post, S: Drop>(
     let _ = pool.rounds.fetch_add(1, Ordering::SeqCst);
     if pool.outage.lasts(rt, post) {
         stage.wait(rt, Phase::Serving, TIME_TO_READ);
-        return tick_still(rt, alloc, shift, pass, stage, post, pool.clock.second());
+        return tick_still(rt, alloc, shift, pass, stage, post, pool.clock.moment());
     }
     let Some(second) = pool.clock.look(rt) else {
         stage.wait(rt, Phase::Serving, TIME_TO_READ);
@@ -97,7 +97,7 @@ fn tick_in_turn<T: Wait + Clock, R: Replica, D: Disk + Drop, P: Post, S: Drop>(
     (pass, end)
 }
 
-/// Ticks once in the second that the clock found last, while it stands still: nothing more is due,
+/// Ticks once at the moment that the clock found last, while it stands still: nothing more is due,
 /// but a gateway that is halted is opened anew.
 #[tactic(auto, using(crate::proofs::Clock::clock_none))]
 fn tick_still<T: Wait, R: Replica, D: Disk + Drop, P: Post>(
@@ -107,11 +107,11 @@ fn tick_still<T: Wait, R: Replica, D: Disk + Drop, P: Post>(
     pass: Pass,
     stage: &Stage,
     post: &P,
-    second: u64,
+    moment: u64,
 ) -> (Pass, Option<End>)
     ensures { AddsOfClock pass result.1 result.0 }
 {
-    let (pass, ticked) = tick_once(rt, alloc, shift, pass, stage, post, second);
+    let (pass, ticked) = tick_once(rt, alloc, shift, pass, stage, post, moment);
     match ticked {
         Ok(_) => (pass, None),
         Err(end) => (pass, Some(end)),
@@ -137,7 +137,8 @@ fn tick_out<T: Wait + Clock, R: Replica, D: Disk + Drop, P: Post>(
         let Some(second) = clock.look(rt) else {
             return (pass, None);
         };
-        let (after, ticked) = tick_once(rt, alloc, shift, pass, stage, post, second);
+        let moment = clock.moment_of(second);
+        let (after, ticked) = tick_once(rt, alloc, shift, pass, stage, post, moment);
         pass = after;
         match ticked {
             Ok(true) => {}
@@ -148,7 +149,7 @@ fn tick_out<T: Wait + Clock, R: Replica, D: Disk + Drop, P: Post>(
     (pass, None)
 }
 
-/// Ticks once, in this second, and sends what that gave. Says whether it gave anything. Where the
+/// Ticks once, at this moment, and sends what that gave. Says whether it gave anything. Where the
 /// gateway is halted, the next call opens it anew.
 fn tick_once<T: Wait, R: Replica, D: Disk + Drop, P: Post>(
     rt: &T,
@@ -157,12 +158,12 @@ fn tick_once<T: Wait, R: Replica, D: Disk + Drop, P: Post>(
     pass: Pass,
     stage: &Stage,
     post: &P,
-    second: u64,
+    moment: u64,
 ) -> (Pass, Result<bool, End>)
     ensures { MatchResult result.1 (λ gave. AddsOfClock pass None result.0)
         (λ end. AddsOfClock pass (Some end) result.0) }
 {
-    let Ok(step) = Arc::new(alloc, Step::Tick { now: second }) else {
+    let Ok(step) = Arc::new(alloc, Step::Tick { now: moment }) else {
         return (pass, Err(End::Memory));
     };
     let (pass, answered) = call(rt, alloc, shift, pass, step, stage);

@@ -85,6 +85,14 @@ pub tells : (before : Script) (number id : ℕ) (name : List ℕ) (place : ℕ) 
 tells before number id name place config made configs quiet at there table is changed =
     (quiet, place, config, at, there, table, λ i. record { configs = (changed ∙ ap (λ (m : Config). set before.configs place m) is) i; events = quiet i })
 
+-- the script gives a gateway a lifetime
+pub lasts : (before : Script) (number seconds place : ℕ) (config made : Config) (configs : List Config) → before.events ≡ []
+    → position (λ (c : Config). c.gateway == number) before.configs ≡ Some place → slice_get before.configs place ≡ Some config
+    → made ≡ record config { lifetime = seconds }
+    → configs ≡ set before.configs place made → Adds before (commands.Lifetime number seconds) (record { configs = configs; events = before.events })
+lasts before number seconds place config made configs quiet at there is changed =
+    (quiet, place, config, at, there, λ i. record { configs = (changed ∙ ap (λ (m : Config). set before.configs place m) is) i; events = quiet i })
+
 -- where a list is not said to have an item, it has none
 pub has_none : {X : Type 0} (xs : List X) (r : Bool) → r ≡ (length xs == 0) → r ≡ true → xs ≡ []
 has_none [] r e f = refl
@@ -122,5 +130,8 @@ gateways lines script (more earlier line before after read (inr (commands.Gatewa
 gateways lines script (more earlier line before after read (inr (commands.Predefine number id name, spells, adds))) =
     let P : Script → Type 0 = λ s. AreGateways s.configs in
     subst P (sym adds.6) (told_more before.configs adds.1 adds.2 (record adds.2 { predefined = adds.2.predefined ++ (id, name) ∷ [] }) adds.4 refl (gateways earlier before read))
+gateways lines script (more earlier line before after read (inr (commands.Lifetime number seconds, spells, adds))) =
+    let P : Script → Type 0 = λ s. AreGateways s.configs in
+    subst P (sym adds.5) (told_more before.configs adds.1 adds.2 (record adds.2 { lifetime = seconds }) adds.4 refl (gateways earlier before read))
 gateways lines script (more earlier line before after read (inr (commands.Happens event, spells, adds))) =
     let P : Script → Type 0 = λ s. AreGateways s.configs in subst P (sym adds) (gateways earlier before read)

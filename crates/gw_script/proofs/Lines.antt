@@ -27,15 +27,17 @@ word_at text =
     cond (bytes_eq text (codes "tick")) (Some words.Tick) (
     cond (bytes_eq text (codes "take")) (Some words.Take) (
     cond (bytes_eq text (codes "predefine")) (Some words.Predefine) (
+    cond (bytes_eq text (codes "lifetime")) (Some words.Lifetime) (
     cond (bytes_eq text (codes "answer")) (Some words.Answer) (
     cond (bytes_eq text (codes "fail")) (Some words.Fail) (
     cond (bytes_eq text (codes "compact")) (Some words.Compact) (
     cond (bytes_eq text (codes "restart")) (Some words.Restart) (
-    cond (bytes_eq text (codes "show")) (Some words.Show) None)))))))))
+    cond (bytes_eq text (codes "show")) (Some words.Show) None))))))))))
 
 word_at-text : (word : Word) → word_at (text_of word) ≡ Some word
 word_at-text words.Gateway = refl
 word_at-text words.Predefine = refl
+word_at-text words.Lifetime = refl
 word_at-text words.Frame = refl
 word_at-text words.Tick = refl
 word_at-text words.Take = refl
@@ -205,6 +207,11 @@ predefine_says : (fields : List (List ℕ)) (c : Command) → Says words.Predefi
 predefine_says (a ∷ b ∷ o ∷ []) (commands.Predefine g i name) said = (a, b, o, g, i, name, refl, refl, said.0, said.1, said.2, said.3)
 predefine_says fields c said = absurd said
 
+lifetime_says : (fields : List (List ℕ)) (c : Command) → Says words.Lifetime fields c
+    → (a b : List ℕ) × (g s : ℕ) × (fields ≡ a ∷ b ∷ []) × (c ≡ commands.Lifetime g s) × IsNumber 8 a g × IsNumber 32 b s
+lifetime_says (a ∷ b ∷ []) (commands.Lifetime g s) said = (a, b, g, s, refl, refl, said.0, said.1)
+lifetime_says fields c said = absurd said
+
 -- after a word, fields say one command
 one_saying : (word : Word) (fields : List (List ℕ)) (c d : Command) → Says word fields c → Says word fields d → c ≡ d
 one_saying words.Gateway fields c d p q =
@@ -227,6 +234,12 @@ one_saying words.Predefine fields c d p q =
     let g : x.3 ≡ y.3 = one_number 8 x.0 y.0 x.3 y.3 (cc) x.8 y.8 in
     let i : x.4 ≡ y.4 = one_number 16 x.1 y.1 x.4 y.4 (cc) x.9 y.9 in
     let name : x.5 ≡ y.5 = one_hex x.2 y.2 x.5 y.5 (cc) x.10 y.10 in cc
+one_saying words.Lifetime fields c d p q =
+    let x = lifetime_says fields c p in
+    let y = lifetime_says fields d q in
+    let e = x.4 in let f = y.4 in let h = x.5 in let k = y.5 in
+    let g : x.2 ≡ y.2 = one_number 8 x.0 y.0 x.2 y.2 (cc) x.6 y.6 in
+    let seconds : x.3 ≡ y.3 = one_number 32 x.1 y.1 x.3 y.3 (cc) x.7 y.7 in cc
 one_saying words.Tick fields c d p q =
     let x = tick_says fields c p in
     let y = tick_says fields d q in

@@ -23,6 +23,7 @@ lines_of text = slice_split (λ b. b == 10) text
 abbrev pub text_of : Word → List ℕ
 text_of words.Gateway = codes "gateway"
 text_of words.Predefine = codes "predefine"
+text_of words.Lifetime = codes "lifetime"
 text_of words.Frame = codes "frame"
 text_of words.Tick = codes "tick"
 text_of words.Take = codes "take"
@@ -50,6 +51,8 @@ abbrev pub Says : Word → List (List ℕ) → Command → Type 0
 Says words.Gateway (number ∷ []) (commands.Gateway g) = IsNumber 8 number g
 Says words.Predefine (number ∷ id ∷ octets ∷ []) (commands.Predefine g i name) =
     IsNumber 8 number g × IsNumber 16 id i × IsHex octets name × IsName name
+Says words.Lifetime (number ∷ seconds ∷ []) (commands.Lifetime g s) =
+    IsNumber 8 number g × IsNumber 32 seconds s
 Says words.Frame (gateway ∷ address ∷ moment ∷ octets ∷ [])
     (commands.Happens (events.Frame g from bytes now)) =
     IsNumber 8 gateway g × IsAddress address from × IsNumber 64 moment now × IsHex octets bytes

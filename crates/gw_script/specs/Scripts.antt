@@ -10,7 +10,8 @@ use Rattle.gw_script.specs.Commands.{Spells}
 
 -- a gateway whose settings are its number alone
 abbrev pub config_of : ℕ → Config
-config_of number = record { gateway = number; advertise = 0; field = []; predefined = [] }
+config_of number =
+    record { gateway = number; advertise = 0; lifetime = 0; field = []; predefined = [] }
 
 -- whether a gateway has the number
 abbrev pub has_gateway : List Config → ℕ → Bool
@@ -22,7 +23,8 @@ empty_script = record { configs = []; events = [] }
 
 -- The second script says what the first says, and then the command. A gateway comes before all
 -- events, its number is not 0, and no other has it. A predefined topic id comes before all events
--- too, for a gateway that is there, and is not 0000, FFFF or an id that the gateway has already.
+-- too, for a gateway that is there, and is not 0000, FFFF or an id that the gateway has already. A
+-- lifetime comes before all events, for a gateway that is there; the last one counts.
 abbrev pub Adds : Script → Command → Script → Type 0
 Adds before (commands.Gateway number) after =
     (before.events ≡ []) × (number ≢ 0) × (has_gateway before.configs number ≡ false)
@@ -35,6 +37,14 @@ Adds before (commands.Predefine number id name) after =
     × (after ≡ record {
       configs = slice_set before.configs place
           (record config { predefined = config.predefined ++ (id, name) ∷ [] });
+      events = [];
+    })
+Adds before (commands.Lifetime number seconds) after =
+    (before.events ≡ []) × (place : ℕ) × (config : Config)
+    × (position (λ (c : Config). c.gateway == number) before.configs ≡ Some place)
+    × (slice_get before.configs place ≡ Some config)
+    × (after ≡ record {
+      configs = slice_set before.configs place (record config { lifetime = seconds });
       events = [];
     })
 Adds before (commands.Happens event) after =

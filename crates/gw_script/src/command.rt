@@ -9,7 +9,7 @@ ghost use Rattle.sn_topic.specs.Topics.{IsName};
 
 use super::bytes::bytes;
 use super::fault::LineFault;
-use super::number::{number, number_u8, number_u16};
+use super::number::{number, number_u8, number_u16, number_u32};
 use gw_world::Event;
 use sn_local::Addr;
 use sn_topic::{TopicFault, TopicName};
@@ -28,6 +28,11 @@ pub enum Command {
         id: u16,
         name: TopicName,
     },
+    /// Messages of the gateway of this number wait for so many seconds at most; 0 for no such time.
+    Lifetime {
+        number: u8,
+        seconds: u32,
+    },
     /// Something happens.
     Happens(Event),
 }
@@ -39,6 +44,8 @@ pub enum Word {
     Gateway,
     /// A predefined topic id.
     Predefine,
+    /// For how long messages wait.
+    Lifetime,
     /// A datagram comes.
     Frame,
     /// Time goes by.
@@ -70,6 +77,8 @@ impl Word {
             Some(Word::Gateway)
         } else if text == b"predefine".as_slice() {
             Some(Word::Predefine)
+        } else if text == b"lifetime".as_slice() {
+            Some(Word::Lifetime)
         } else if text == b"frame".as_slice() {
             Some(Word::Frame)
         } else if text == b"tick".as_slice() {
@@ -124,6 +133,7 @@ fn say(alloc: Global, word: Word, fields: &[&[u8]]) -> Result<Command, LineFault
     match word {
         Word::Gateway => gateway(fields),
         Word::Predefine => predefine(alloc, fields),
+        Word::Lifetime => lifetime(fields),
         Word::Frame => frame(alloc, fields),
         Word::Tick => tick(fields),
         Word::Take => take(fields),
@@ -176,6 +186,19 @@ fn predefine(alloc: Global, fields: &[&[u8]]) -> Result<Command, LineFault>
             Ok(Command::Predefine { number, id, name })
         }
         None => Err(LineFault::NotACommand),
+    }
+}
+
+/// What the fields after `lifetime` say.
+fn lifetime(fields: &[&[u8]]) -> Result<Command, LineFault>
+    ensures { Reads (Says words.Lifetime (map (λ field. field.now) fields.now)) result }
+{
+    let [number, seconds] = fields else {
+        return Err(LineFault::NotACommand);
+    };
+    match (number_u8(number), number_u32(seconds)) {
+        (Some(number), Some(seconds)) => Ok(Command::Lifetime { number, seconds }),
+        _ => Err(LineFault::NotACommand),
     }
 }
 

@@ -17,6 +17,13 @@ pub fn number(text: &[u8]) -> Option<u64>
     digits.parse::<u64>().ok()
 }
 
+/// The same, if a `u32` holds it.
+pub fn number_u32(text: &[u8]) -> Option<u32>
+    ensures { MatchOption result ((n : ℕ) → ¬ (IsNumber 32 text.now n)) (IsNumber 32 text.now) }
+{
+    u32::try_from(number(text)?).ok()
+}
+
 /// The same, where a `u16` holds it.
 pub fn number_u16(text: &[u8]) -> Option<u16>
     ensures { MatchOption result ((n : ℕ) → ¬ (IsNumber 16 text.now n)) (IsNumber 16 text.now) }

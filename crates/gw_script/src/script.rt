@@ -25,7 +25,7 @@ pub struct Script {
 impl Script {
     ghost use Rattle.std.specs.Prelude.{◌≡◌, OnOk, OnErr};
     ghost use Rattle.gw_script.specs.declared.script.Script.{Script};
-    ghost use Rattle.gw_script.specs.declared.command.Command.TheVariants.{Gateway, Predefine};
+    ghost use Rattle.gw_script.specs.declared.command.Command.TheVariants.{Gateway, Lifetime, Predefine};
     ghost use Rattle.gw_script.specs.Scripts.{empty_script, Adds, Extends};
     ghost use Rattle.gw_script.specs.Scripts as spec;
 
@@ -65,6 +65,7 @@ impl Script {
             Command::Predefine { number, id, name } => {
                 self.add_predefined(alloc, number, id, name)
             }
+            Command::Lifetime { number, seconds } => self.add_lifetime(alloc, number, seconds),
             Command::Happens(event) => {
                 self.events.push(event)?;
                 Ok(())
@@ -86,6 +87,7 @@ impl Script {
         self.configs.push(Config {
             gateway: number,
             advertise: 0,
+            lifetime: 0,
             field: Sequence::empty(alloc),
             predefined,
         })?;
@@ -112,6 +114,24 @@ impl Script {
             return Err(LineFault::NotACommand);
         };
         let config = with_entry(alloc, &self.configs.as_slice()[place], id, name)?;
+        self.configs.replace(place, config);
+        Ok(())
+    }
+
+    /// Gives a gateway a lifetime, in seconds.
+    fn add_lifetime(&mut self, alloc: Global, number: u8, seconds: u32) -> Result<(), LineFault>
+        ensures ok { OnOk result (Adds self.old (Lifetime number seconds) self.new) }
+        ensures refused { result ≡ Err LineFault.NotACommand → (after : Script)
+            → Adds self.old (Lifetime number seconds) after → ⊥ }
+        ensures err { OnErr result (self.new ≡ self.old) }
+    {
+        if !self.events.is_empty() {
+            return Err(LineFault::NotACommand);
+        }
+        let Some(place) = place_of(self.configs.as_slice(), number) else {
+            return Err(LineFault::NotACommand);
+        };
+        let config = with_lifetime(alloc, &self.configs.as_slice()[place], seconds)?;
         self.configs.replace(place, config);
         Ok(())
     }
@@ -148,12 +168,22 @@ fn with_entry(alloc: Global, config: &Config, id: u16, name: TopicName) -> Resul
         Ok(predefined) => Ok(Config {
             gateway: config.gateway,
             advertise: config.advertise,
+            lifetime: config.lifetime,
             field: Sequence::new(Vec::from_slice(alloc, config.field.as_slice())?),
             predefined,
         }),
         Err(TopicFault::Memory) => Err(LineFault::Memory),
         Err(_) => Err(LineFault::NotACommand),
     }
+}
+
+/// The config with this lifetime, in seconds.
+fn with_lifetime(alloc: Global, config: &Config, seconds: u32) -> Result<Config, NoMemory>
+    ensures { IfOk result (λ made. made ≡ record config.now { lifetime = seconds }) }
+{
+    let mut made = config.copied(alloc)?;
+    made.lifetime = seconds;
+    Ok(made)
 }
 
 /// Equal entries.

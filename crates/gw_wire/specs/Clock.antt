@@ -1,6 +1,7 @@
--- The clock of a field, which stands still while its gateway does. All times are milliseconds.
-use Rattle.std.specs.Prelude.{ℕ, ◌+◌, ◌-◌, Bool, if◌then◌else◌, nat_le, nat_lt}
-use Rattle.gw_wire.specs.declared.clock.TheConstants.{LONGEST_BREATH}
+-- The clock of a field, which stands still while its gateway does. Its times are milliseconds;
+-- moments and dates are seconds since 1970.
+use Rattle.std.specs.Prelude.{ℕ, ◌+◌, ◌-◌, Bool, ◌||◌, if◌then◌else◌, nat_le, nat_lt}
+use Rattle.gw_wire.specs.declared.clock.TheConstants.{FIRST_DATE, LARGEST_DRIFT, LONGEST_BREATH}
 use Rattle.gw_wire.specs.declared.clock.Look.{Look}
 
 -- whether the gateway stood still between a look and a moment of the machine's clock
@@ -15,3 +16,11 @@ lost_by last at = if stood_still last at then last.lost + (at - last.at) else la
 abbrev pub look_after : Look → ℕ → Look
 look_after last at =
     if nat_le at last.at then last else record { at = at; lost = lost_by last at }
+
+-- whether the moment and the date are too far apart
+abbrev pub is_astray : ℕ → ℕ → Bool
+is_astray moment date = nat_lt LARGEST_DRIFT (moment - date) || nat_lt LARGEST_DRIFT (date - moment)
+
+-- whether a date was set: it is none before the year 2026
+abbrev pub is_date : ℕ → Bool
+is_date date = nat_le FIRST_DATE date

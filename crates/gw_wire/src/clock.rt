@@ -1,4 +1,4 @@
-//! The clock of a field, which stands still while its gateway does.
+//! The clock of a field, which stands still while its gateway does, and the moments of the field.
 
 ghost use Rattle.std.specs.Prelude.{◌≡◌, ◌≤◌, ◌+◌, ◌-◌};
 ghost use Rattle.gw_wire.specs.declared.clock.TheConstants.{LONGEST_BREATH};
@@ -9,6 +9,14 @@ use std::time::Clock;
 
 /// How many milliseconds lie between two looks at most, if nothing stood still.
 pub const LONGEST_BREATH: u64 = 2_000;
+
+/// How many seconds lie between the moment and the date at most. If there are more the date was
+/// set, or the gateway stood still.
+pub const LARGEST_DRIFT: u64 = 60;
+
+/// The first second of the year 2026, since 1970. A machine that tells an earlier date has no date
+/// yet: nobody set its clock since it was switched on.
+pub const FIRST_DATE: u64 = 1_767_225_600;
 
 /// What a look at the machine's clock found, in milliseconds.
 #[derive(Clone, Copy, PartialEq, Eq)]
@@ -51,6 +59,37 @@ pub fn stood_still(last: Look, at: u64) -> bool
     at.saturating_sub(last.at) > LONGEST_BREATH
 }
 
+/// Whether the moment and the date are too far apart, both in seconds since 1970.
+pub fn is_astray(moment: u64, date: u64) -> bool
+    ensures { result ≡ spec.is_astray moment date }
+{
+    moment.saturating_sub(date) > LARGEST_DRIFT || date.saturating_sub(moment) > LARGEST_DRIFT
+}
+
+/// Whether a date was set, in seconds since 1970.
+pub fn is_date(date: u64) -> bool
+    ensures { result ≡ spec.is_date date }
+{
+    date >= FIRST_DATE
+}
+
+/// The date of the machine, in seconds since 1970; 0 if it cannot be read. Whoever administers the
+/// machine sets it, so that it may go back.
+pub fn date<C: Clock>(clock: &C) -> u64 {
+    match clock.since_1970() {
+        Ok(since) => since.as_secs(),
+        Err(_) => 0,
+    }
+}
+
+/// The second of the machine's clock that nobody sets, from any beginning; 0 if it cannot be read.
+pub fn second<C: Clock>(clock: &C) -> u64 {
+    match clock.monotonic() {
+        Ok(since) => since.as_secs(),
+        Err(_) => 0,
+    }
+}
+
 /// The millisecond of the machine's clock that nobody sets; 0 where it cannot be read.
 pub fn millisecond<C: Clock>(clock: &C) -> u64 {
     match clock.monotonic() {
@@ -65,6 +104,10 @@ pub fn millisecond<C: Clock>(clock: &C) -> u64 {
 /// The clock of a field: seconds in which its gateway did not stand still, from any beginning. One
 /// thread looks at the machine's clock, several times a second. All others read what it saw: while
 /// that thread cannot go on, no time passes for any client.
+///
+/// Its moments are what goes into messages and comes from other gateways: seconds since 1970, by
+/// the date as it was when `set` was called, and by the seconds of this clock from then on. So no
+/// step of the date moves a timer, and no standing still; both part moments from the date.
 #[derive(Drop)]
 pub struct FieldClock {
     at: AtomicU64,
@@ -72,6 +115,9 @@ pub struct FieldClock {
     /// The field's time in milliseconds: one number, so that whoever reads beside a look finds the
     /// time before it or after it.
     time: AtomicU64,
+    /// How many seconds since 1970 had passed when the field's time began, by the date that was
+    /// set; modulo 2^64, since that may be before 1970.
+    began: AtomicU64,
 }
 
 impl FieldClock {
@@ -81,6 +127,7 @@ impl FieldClock {
             at: AtomicU64::new(0),
             lost: AtomicU64::new(0),
             time: AtomicU64::new(0),
+            began: AtomicU64::new(0),
         }
     }
 
@@ -103,6 +150,23 @@ impl FieldClock {
     /// The second that the last look found.
     pub fn second(&self) -> u64 {
         self.time.load(Ordering::SeqCst) / 1_000
+    }
+
+    /// The moment of that second.
+    pub fn moment(&self) -> u64 {
+        self.moment_of(self.second())
+    }
+
+    /// The moment of a second of this clock.
+    pub fn moment_of(&self, second: u64) -> u64 {
+        second.wrapping_add(self.began.load(Ordering::SeqCst))
+    }
+
+    /// From now on moments go by this date, in seconds since 1970. A gateway whose moments leap so
+    /// is to be opened anew: its timers are of the moments before.
+    pub fn set(&self, date: u64) {
+        self.began
+            .store(date.wrapping_sub(self.second()), Ordering::SeqCst);
     }
 
     /// What the last look found, for the thread that looks.

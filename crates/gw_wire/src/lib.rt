@@ -2,7 +2,8 @@
 //!
 //! - `ends`: what a gateway asks of the outside (`Wire`, `Post`, `Gate`).
 //! - `udp`: a wire and a post over one UDP socket (`Socket`, with `Ears` and `Mouth`).
-//! - `clock`: the clock of a field, which stands still while its gateway does (`FieldClock`).
+//! - `clock`: the clock of a field, which stands still while its gateway does, with its moments
+//!   (`FieldClock`), and the date of the machine.
 //! - `outage`: while nothing can be sent, no time passes either (`Outage`).
 //!
 //! The definitions are in `specs/`: `Addresses` (addresses as the system has them), `Arrivals`
@@ -20,7 +21,10 @@ mod ends;
 mod outage;
 mod udp;
 
-pub use clock::{FieldClock, LONGEST_BREATH, Look, look_after, millisecond, stood_still};
+pub use clock::{
+    FIRST_DATE, FieldClock, LARGEST_DRIFT, LONGEST_BREATH, Look, date, is_astray, is_date,
+    look_after, millisecond, second, stood_still,
+};
 pub use ends::{Arrival, Gate, OpenGate, Post, Tally, Unsent, Wire, WireFault};
 pub use outage::{LONGEST_OUTAGE, OUTAGE_LINE_PAUSE, Outage, is_long, is_outage};
-pub use udp::{Ears, Mouth, Socket, address, moment};
+pub use udp::{Ears, Mouth, Socket, address};

@@ -16,7 +16,7 @@ use std::io::ErrorKind;
 use std::net::{Ipv4Addr, Net, SocketAddr, SocketAddrV4};
 use std::os::fd::AsRawFd;
 use std::sync::atomic::{AtomicBool, Ordering};
-use std::time::{Clock, Duration};
+use std::time::Duration;
 use std::{io, thread};
 
 /// How many milliseconds a receive waits for a datagram. As long a shift that has had all its calls
@@ -116,7 +116,7 @@ impl Socket {
         })
     }
 
-    /// The two sides, of which one gives each datagram the second of this clock. Those who read
+    /// The two sides, of which one gives each datagram the moment of this clock. Those who read
     /// count from here on.
     pub fn sides<'a>(&'a mut self, clock: &'a FieldClock) -> (Ears<'a>, Mouth<'a>)
         ensures failures { result.0.failures.count ≡ 0 }
@@ -207,18 +207,8 @@ impl<'a> Ears<'a> {
         if size > room {
             return None;
         }
-        let moment = self.clock.second();
+        let moment = self.clock.moment();
         Some(Arrival { from, size, moment })
-    }
-}
-
-/// The seconds of the clock that nobody sets, from any beginning. By the date of the machine
-/// whoever sets it ahead would have clients taken for lost, and whoever sets it back would have
-/// nothing sent again until it has caught up.
-pub fn moment<C: Clock>(clock: &C) -> u64 {
-    match clock.monotonic() {
-        Ok(since) => since.as_secs(),
-        Err(_) => 0,
     }
 }
 

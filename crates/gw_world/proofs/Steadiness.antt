@@ -107,8 +107,8 @@ made-moves old plan (op ∷ ops) (Some delta) new made p e h = inr (record {
 })
 
 pub plan-drafted : (old : Gateway) (occasion : Occasion) (now : ℕ) (plan : Plan) → IsPlan old occasion now (Some plan) → IsOfDraft old.config.gateway (seen_of old.taken) plan
-plan-drafted old (Datagram from bytes) now plan h = step-drafted old.config.gateway old.config.predefined old.taken old.local from h.0 now plan h.3
-plan-drafted old Clock now plan h = tick-drafted old.config.gateway old.config.advertise old.config.field old.config.predefined old.taken old.local now plan h
+plan-drafted old (Datagram from bytes) now plan h = step-drafted old.config.gateway old.config.lifetime old.config.predefined old.taken old.local from h.0 now plan h.3
+plan-drafted old Clock now plan h = tick-drafted old.config.gateway old.config.lifetime old.config.advertise old.config.field old.config.predefined old.taken old.local now plan h
 
 pub own-moves : (old : Gateway) (occasion : Occasion) (now : ℕ) (answer : Result Out Refusal) (new : Gateway) (made : List (List Op)) → OwnStep old occasion now answer new made → Still old new made ⊎ Stepped old new made
 own-moves old occasion now (Ok out) new made h = made-moves old h.0 h.0.ops out.made new made (plan-drafted old occasion now h.0 h.1) refl h.2.1

@@ -73,7 +73,11 @@ pub(crate) fn waiting(page: &mut Page, put: &Put) {
     page.name(": ", put.topic.bytes());
     page.value(" qos ", put.qos.number());
     page.body(", ", put.body.as_slice());
-    page.text(if put.retain { ", retained\n" } else { "\n" });
+    page.text(if put.retain { ", retained" } else { "" });
+    if put.expires > 0 {
+        page.value(", expires ", put.expires);
+    }
+    page.text("\n");
 }
 
 /// The rest of the line of a session's change.

@@ -81,6 +81,9 @@ pub(crate) fn waiting(page: &mut Page, put: &Put) {
     if put.retain {
         page.text(",\"retain\":true");
     }
+    if put.expires > 0 {
+        page.value(",\"expires\":", put.expires);
+    }
 }
 
 /// A session's change, and its members.

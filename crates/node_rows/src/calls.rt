@@ -77,6 +77,7 @@ pub(crate) fn told(
             let config = Config {
                 gateway,
                 advertise,
+                lifetime: 0,
                 field,
                 predefined,
             };

@@ -1,4 +1,4 @@
--- Behind each step, each tick and each delta of another the bound clients are the gateway's, and up.
+-- After each step, each tick and each delta of another the bound clients are the gateway's, and up.
 use Rattle.std.proofs.Common.{◌≡◌, ◌⊎◌, ℕ, Bool, true, false, not, nat_le, if◌then◌else◌, cond, List, [], ◌∷◌, ◌++◌, map, filter, fold, Option, Some, None, IfSome, is_some, unwrap_or, refl, sym, ap, ◌∙◌, subst, inl, inr, true≢false, eq-eqb, eqb-true}
 use Rattle.std.specs.List.{AllByRecursion}
 use Rattle.std.proofs.lemmas.List.Sums.{fold-append}
@@ -11,7 +11,7 @@ use Rattle.sn_session.specs.Session.{empty_session, is_full, changed as session_
 use Rattle.sn_frame.specs.declared.frame.Frame.{Frame}
 use Rattle.rep_op.specs.declared.op.Stamp.{Stamp}
 use Rattle.rep_op.specs.declared.op.Op.{Op}
-use Rattle.rep_op.specs.Orders.{stamp_cmp}
+use Rattle.rep_op.specs.Orders.{name_of, stamp_cmp}
 use Rattle.rep_op.specs.Sets.{Same, same_client, operation_at}
 use Rattle.rep_model.specs.Views.{view, visible, gapless, session_of as session_made}
 use Rattle.rep_model.proofs.Lookup.{or_else}
@@ -28,17 +28,18 @@ use Rattle.sn_plan.specs.declared.plan.Plan.{Plan}
 use Rattle.sn_plan.specs.declared.row.Row.{Row}
 use Rattle.sn_plan.specs.declared.row.Follow.{Follow}
 use Rattle.sn_plan.specs.declared.row.Follow.TheVariants as follows
-use Rattle.sn_local.specs.Bindings.{same_address, binding_cmp, is_apart, bound, is_of_other, unbound, binding_change, bindings_after, client_at, is_stamp_of, is_owned, has_owned, owned_bindings}
+use Rattle.sn_local.specs.Bindings.{same_address, binding_cmp, is_apart, bound, is_of_other, unbound, binding_change, bindings_after, client_at, address_of, is_stamp_of, is_owned, has_owned, owned_bindings}
 use Rattle.sn_plan.specs.Bound.{session_of}
-use Rattle.sn_plan.specs.Drafts.{Drafted, nothing, moved}
+use Rattle.sn_plan.specs.Drafts.{Drafted, nothing, acked, lasting, moved}
 use Rattle.sn_plan.specs.Flush.{stamp_of, IsFlush, AreFlush, session_with}
+use Rattle.sn_local.specs.Lifetimes.{expires_at}
 use Rattle.sn_local.specs.Locals.{Local, after_all, owned}
 use Rattle.sn_plan.specs.Numbering.{planned, plan_with, rest_of, numbered, written, start_of, ack_of}
 use Rattle.sn_plan.specs.Others.{is_up, can_wake}
 use Rattle.sn_plan.specs.Own.{AddsNone}
 use Rattle.sn_local.specs.Seen.{Seen, seen_of}
 use Rattle.sn_plan.specs.Plans.{plan_of, plan_of_puts, plan_without}
-use Rattle.sn_plan.specs.Rows.{row_of, plan_for}
+use Rattle.sn_plan.specs.Rows.{row_of, row_lasting, plan_for}
 use Rattle.sn_local.proofs.Entries.{same_client-itself, visible-there}
 use Rattle.row_laws.proofs.Known.{same-behind}
 use Rattle.sn_plan.proofs.Lists.{and_then-some, map-some, all-append, all-weaken}
@@ -48,6 +49,7 @@ use Rattle.row_laws.proofs.Reached.{history-own}
 use Rattle.sn_tick.specs.declared.due.Due.{Due}
 use Rattle.sn_tick.specs.declared.due.Due.TheVariants as dues
 use Rattle.sn_tick.specs.Due.{elapsed, first_due}
+use Rattle.sn_tick.specs.Expiry.{under_way, is_expired, expiry_acked, expire_all}
 use Rattle.sn_exchange.specs.Following.{peer_at, followed_for, followed, deliver_next}
 use Rattle.sn_deliver.specs.Steps.{row_for, step}
 use Rattle.sn_tick.specs.Ticking.{dialog_ended, dialogs_ended, needs_timer, timer_begun, cleaned, may_advertise, advertised_to, advertised, lost, plan_due, plan_if_due, tick}
@@ -245,7 +247,7 @@ module _ (g : ℕ) (S : List Op) (flush : AreFlush g S) (local : Local) (up : Is
   without-up : (d : Drafted) → AllByRecursion IsNoBind d.local → Some (plan_without d) ≡ Some plan → IsUpBehind
   unfolding planned
   without-up d none e =
-      draft-up g [] S (record { changes = []; acks = []; handed = []; retain = None; puts = []; sends = d.sends; local = d.local }) plan e (flush []) delta same local up
+      draft-up g [] S (record { changes = []; acks = []; handed = []; retain = None; puts = []; expires = d.expires; sends = d.sends; local = d.local }) plan e (flush []) delta same local up
       (record { is = inl (tt, none) })
 
   for-up : (d : Drafted) (client : Option (List ℕ)) → FitsFor g S client d → plan_for g (seen_of S) d client ≡ Some plan → IsUpBehind
@@ -258,14 +260,21 @@ module _ (g : ℕ) (S : List Op) (flush : AreFlush g S) (local : Local) (up : Is
     following-fits d follow (Some c) h =
         followed-fits g c (view c S) predefined (peer_at a c now) (session_of (seen_of S) c) (view c S).pending d follow h
 
+    -- a moment changes no session and binds nobody
+    lasting-fits : (moment : ℕ) (d : Drafted) (client : Option (List ℕ)) → FitsFor g S client d → FitsFor g S client (lasting moment d)
+    lasting-fits moment d None h = h
+    lasting-fits moment d (Some c) h = record { is = h.is }
+
     next-up : (row : Row) → FitsRow g S row → deliver_next g predefined (seen_of S) a now row ≡ Some plan → IsUpBehind
     next-up row h e =
         for-up (followed predefined (seen_of S) a now row).draft row.client (following-fits row.draft row.follow row.client h) e
 
-  pub step-up : (predefined : Entries) (a : Addr) (frame : Frame) (now : ℕ) → step g predefined (seen_of S) local a frame now ≡ Some plan → IsUpBehind
+  pub step-up : (lifetime : ℕ) (predefined : Entries) (a : Addr) (frame : Frame) (now : ℕ) → step g lifetime predefined (seen_of S) local a frame now ≡ Some plan → IsUpBehind
   unfolding step
-  step-up predefined a frame now e =
-      next-up predefined a now (row_for g predefined (seen_of S) local a frame now) (row-fits g S predefined local a frame now) e
+  step-up lifetime predefined a frame now e =
+      let row : Row = row_for g predefined (seen_of S) local a frame now in
+      next-up predefined a now (row_lasting (expires_at lifetime now) row)
+      (lasting-fits predefined a now (expires_at lifetime now) row.draft row.client (row-fits g S predefined local a frame now)) e
 
   -- ---- a tick
 
@@ -297,17 +306,23 @@ module _ (g : ℕ) (S : List Op) (flush : AreFlush g S) (local : Local) (up : Is
   advertised-stays advertise field now d h =
       moved-stays (Advertised now) (fold (advertised_to g advertise) d field) tt (fold-stays (advertised_to g advertise) (λ e a k. k) field d h)
 
+  expired-stays : (now : ℕ) (c : List ℕ) (d : Drafted) → Stays d → Stays (expire_all (seen_of S) local now c d)
+  expired-stays now c d h =
+      let name : Option (ℕ × ℕ) = under_way (view c S).pending (address_of c local.bindings) (view c S).session in
+      fold-stays (expiry_acked now name) (λ e put k. choose-stays (is_expired now name put) (acked (name_of put) e) e k k) (view c S).pending d h
+
   module _ (predefined : Entries) (now : ℕ) (d : Drafted) (h : Stays d) where
     lost-fits : (c : List ℕ) (s : Session) → Fits g c (view c S) (lost (seen_of S) c s d)
     lost-fits c s = record { is = inr (inr (all-append IsNoBind d.local (Unbind c ∷ []) h.1 (tt, tt), (d.local, [], refl))) }
 
-    due-up : (c : List ℕ) (due : Due) → plan_due g predefined (seen_of S) now d c due ≡ Some plan → IsUpBehind
+    due-up : (c : List ℕ) (due : Due) → plan_due g predefined (seen_of S) local now d c due ≡ Some plan → IsUpBehind
+    due-up c dues.Expiry e = for-up (expire_all (seen_of S) local now c d) (Some c) (record { is = inl (expired-stays now c d h) }) e
     due-up c dues.Loss e = for-up (lost (seen_of S) c (session_of (seen_of S) c) d) (Some c) (lost-fits c (session_of (seen_of S) c)) e
     due-up c (dues.Retry a) e =
         next-up predefined a now (row_of follows.Resend c (moved (Retried c now) d)) (record { is = inl (moved-stays (Retried c now) d tt h) }) e
     due-up c (dues.Delivery a) e = next-up predefined a now (row_of follows.Delivery c d) (record { is = inl h }) e
 
-    if_due-up : (found : Option (List ℕ × Due)) → plan_if_due g predefined (seen_of S) now d found ≡ Some plan → IsUpBehind
+    if_due-up : (found : Option (List ℕ × Due)) → plan_if_due g predefined (seen_of S) local now d found ≡ Some plan → IsUpBehind
     if_due-up None e = without-up d h.1 e
     if_due-up (Some found) e = due-up found.0 found.1 e
 
@@ -315,12 +330,12 @@ module _ (g : ℕ) (S : List Op) (flush : AreFlush g S) (local : Local) (up : Is
   either-way true x y h m e = h e
   either-way false x y h m e = m e
 
-  pub tick-up : (predefined : Entries) (advertise : ℕ) (field : List Addr) (now : ℕ) → tick g advertise field predefined (seen_of S) local now ≡ Some plan → IsUpBehind
-  tick-up predefined advertise field now e =
-      let d : Drafted = cleaned g (seen_of S) local now in
+  pub tick-up : (lifetime : ℕ) (predefined : Entries) (advertise : ℕ) (field : List Addr) (now : ℕ) → tick g lifetime advertise field predefined (seen_of S) local now ≡ Some plan → IsUpBehind
+  tick-up lifetime predefined advertise field now e =
+      let d : Drafted = lasting (expires_at lifetime now) (cleaned g (seen_of S) local now) in
       let h : Stays d = cleaned-stays now in
       either-way (may_advertise advertise field now local.advertised) (Some (plan_without (advertised g advertise field now d)))
-      (plan_if_due g predefined (seen_of S) now d (first_due g (seen_of S) local now (seen_of S).all))
+      (plan_if_due g predefined (seen_of S) local now d (first_due g (seen_of S) local now (seen_of S).all))
       (λ is. without-up (advertised g advertise field now d) (advertised-stays advertise field now d h).1 is)
       (λ is. if_due-up predefined now d h (first_due g (seen_of S) local now (seen_of S).all) is) e
 

@@ -1,5 +1,5 @@
 -- Each row of the step table has a sound draft.
-use Rattle.std.proofs.Common.{◌≡◌, ℕ, ◌+◌, ◌≤◌, ◌==◌, Bool, true, false, ◌&&◌, ◌||◌, nat_le, nat_lt, is_none, is_some, cond, if◌then◌else◌, List, [], ◌∷◌, ◌++◌, map, filter, filter_map, fold, length, Option, Some, None, IfSome, option_map, option_and_then, unwrap_or, refl, sym, ap, ◌∙◌, subst, true≢false, arith, le-leb, leb-true, ltb-false, bytes_eq, IsTrue}
+use Rattle.std.proofs.Common.{◌≡◌, ℕ, ◌+◌, ◌≤◌, ◌==◌, Bool, true, false, ◌&&◌, ◌||◌, nat_le, nat_lt, is_none, is_some, cond, if◌then◌else◌, List, [], ◌∷◌, ◌++◌, map, filter, filter_map, fold, length, Option, Some, None, IfSome, option_map, option_and_then, unwrap_or, refl, ap, ◌∙◌, true≢false, arith, le-leb, leb-true, ltb-false, bytes_eq, IsTrue}
 use Rattle.std.specs.Prelude.{min, find}
 use Rattle.std.specs.List.{AllByRecursion, cons_option}
 use Rattle.std.proofs.lemmas.Bool.{and_parts, and_from, or_parts}
@@ -83,7 +83,7 @@ use Rattle.sn_deliver.specs.Waking.{claimed, has_nothing, from_sleep, from_wake,
 use Rattle.plan_laws.specs.KeepsWell.{is_asked, AreAsked}
 use Rattle.plan_laws.proofs.Sessions.{Fine, IsChange, fine-to, all-found, unknown-fine, empty-fine}
 use Rattle.plan_laws.proofs.Kept.{IsWell, view-fine, seen-fine, pending-well, pending-apart}
-use Rattle.plan_laws.proofs.Sound.{IsNamed, AreOnce, IsMessage, Sound, well-named, all-named, all-once, choose-sound, sound-nothing, sound-changed, sound-changed_if, sound-acked, sound-hand_all, sound-put_all, sound-sent, sound-moved}
+use Rattle.plan_laws.proofs.Sound.{IsNamed, IsMessage, Sound, well-named, all-named, all-once, choose-sound, sound-nothing, sound-changed, sound-changed_if, sound-acked, sound-acked_all, sound-hand_all, sound-put_all, sound-sent, sound-moved}
 use Rattle.plan_laws.proofs.Retained.{handed-fine}
 use Rattle.plan_laws.proofs.Following.{free-fine}
 
@@ -140,24 +140,8 @@ cleared-named true waiting well = all-named waiting well
 cleared-named false waiting well = tt
 
 acked_all-sound : (clean : Bool) (waiting : List Put) (d : Drafted) → d.acks ≡ [] → AllByRecursion IsWell waiting → AreApart waiting → Sound d → Sound (acked_all (cleared clean waiting) d)
-acked_all-sound true waiting d none well apart h = record {
-  changes = h.changes;
-  acks = subst (λ (xs : List (ℕ × ℕ)). AllByRecursion IsNamed (xs ++ map name_of waiting)) (sym none) (all-named waiting well);
-  once = subst (λ (xs : List (ℕ × ℕ)). AreOnce (xs ++ map name_of waiting)) (sym none) (all-once waiting apart);
-  handed = h.handed;
-  retain = h.retain;
-  puts = h.puts;
-  local = h.local;
-}
-acked_all-sound false waiting d none well apart h = record {
-  changes = h.changes;
-  acks = subst (λ (xs : List (ℕ × ℕ)). AllByRecursion IsNamed (xs ++ [])) (sym none) tt;
-  once = subst (λ (xs : List (ℕ × ℕ)). AreOnce (xs ++ [])) (sym none) tt;
-  handed = h.handed;
-  retain = h.retain;
-  puts = h.puts;
-  local = h.local;
-}
+acked_all-sound true waiting d none well apart h = sound-acked_all (map name_of waiting) d none (all-named waiting well) (all-once waiting apart) h
+acked_all-sound false waiting d none well apart h = sound-acked_all [] d none tt tt h
 
 pub bound-sound : (a : Addr) (c : List ℕ) (now : ℕ) (d : Drafted) → Sound d → Sound (bound_to a c now d)
 bound-sound a c now d h = sound-moved (Time (started c now)) _ tt (sound-moved (Bind a c) d tt h)

@@ -13,7 +13,7 @@ use Rattle.sn_plan.specs.declared.draft.NewPut.{NewPut}
 use Rattle.sn_plan.specs.declared.draft.Posted.{Posted}
 use Rattle.sn_local.specs.declared.local.LocalChange.{LocalChange}
 use Rattle.sn_local.specs.declared.local.LocalChange.TheVariants.{Ask}
-use Rattle.sn_plan.specs.Drafts.{Drafted, nothing, changed, changed_if, acked, acked_all, hand_all, retain_if, put_all, sent, moved}
+use Rattle.sn_plan.specs.Drafts.{Drafted, nothing, changed, changed_if, acked, acked_all, hand_all, retain_if, put_all, lasting, sent, moved}
 use Rattle.sn_plan.proofs.Lists.{all-append, all-both, all-given}
 use Rattle.sn_exchange.specs.Exchanges.{same_name, is_done, is_left, left}
 use Rattle.step_laws.specs.Laws.{AreApart}
@@ -71,6 +71,9 @@ sound-hand_all handed d h s = record { changes = s.changes; acks = s.acks; once 
 pub sound-retain_if : (posted : Option Posted) (d : Drafted) → IfSome posted IsPosted → Sound d → Sound (retain_if posted d)
 sound-retain_if posted d h s = record { changes = s.changes; acks = s.acks; once = s.once; handed = s.handed; retain = h; puts = s.puts; local = s.local }
 
+pub sound-lasting : (moment : ℕ) (d : Drafted) → Sound d → Sound (lasting moment d)
+sound-lasting moment d s = record { changes = s.changes; acks = s.acks; once = s.once; handed = s.handed; retain = s.retain; puts = s.puts; local = s.local }
+
 pub sound-sent : (to : Addr) (frame : Frame) (d : Drafted) → Sound d → Sound (sent to frame d)
 sound-sent to frame d s = record { changes = s.changes; acks = s.acks; once = s.once; handed = s.handed; retain = s.retain; puts = s.puts; local = s.local }
 
@@ -125,8 +128,7 @@ others-left acks put rest apart all =
 -- a message that can be has a name that can be
 pub well-named : (p : Put) → IsWell p → IsNamed (name_of p)
 well-named p h =
-    let m = and_parts _ _ h in
-    let a = and_parts (nat_le 1 p.origin && nat_le 1 p.seq && nat_le p.qos 2) (nat_le (length p.body) 4096) m.0 in
+    let a = and_parts (nat_le 1 p.origin && nat_le 1 p.seq && nat_le p.qos 2) (nat_le (length p.body) 4096) h in
     let b = and_parts (nat_le 1 p.origin && nat_le 1 p.seq) (nat_le p.qos 2) a.0 in
     let c = and_parts (nat_le 1 p.origin) (nat_le 1 p.seq) b.0 in
     (c.1, c.0)
@@ -143,6 +145,18 @@ names_apart p (q ∷ qs) all = (all.0, names_apart p qs all.1)
 pub all-once : (ps : List Put) → AreApart ps → AreOnce (map name_of ps)
 all-once [] apart = tt
 all-once (p ∷ ps) apart = (names_apart p ps apart.0, all-once ps apart.1)
+
+-- these, if nothing is acknowledged yet
+pub sound-acked_all : (names : List (ℕ × ℕ)) (d : Drafted) → d.acks ≡ [] → AllByRecursion IsNamed names → AreOnce names → Sound d → Sound (acked_all names d)
+sound-acked_all names d none named once h = record {
+  changes = h.changes;
+  acks = subst (λ (xs : List (ℕ × ℕ)). AllByRecursion IsNamed (xs ++ names)) (sym none) named;
+  once = subst (λ (xs : List (ℕ × ℕ)). AreOnce (xs ++ names)) (sym none) once;
+  handed = h.handed;
+  retain = h.retain;
+  puts = h.puts;
+  local = h.local;
+}
 
 -- ---- what is left
 

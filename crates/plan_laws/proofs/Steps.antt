@@ -13,6 +13,7 @@ use Rattle.sn_frame.specs.declared.frame.Frame.{Frame}
 use Rattle.sn_frame.specs.declared.frame.Frame.TheVariants as frames
 use Rattle.sn_frame.specs.FlagBits.{qos_of}
 use Rattle.rep_op.specs.declared.op.Op.{Op}
+use Rattle.rep_op.specs.declared.op.Put.{Put}
 use Rattle.rep_ops.specs.Making.{AreWellMade, AreApart}
 use Rattle.sn_tables.specs.Levels.{is_qos}
 use Rattle.rep_op.specs.Ranges.{is_message, is_will}
@@ -29,9 +30,10 @@ use Rattle.sn_plan.specs.declared.plan.Plan.{Plan}
 use Rattle.sn_plan.specs.declared.row.Row.{Row}
 use Rattle.sn_plan.specs.declared.row.Follow.{Follow}
 use Rattle.sn_plan.specs.declared.row.Follow.TheVariants as follows
-use Rattle.sn_local.specs.Bindings.{client_at, same_address}
+use Rattle.sn_local.specs.Bindings.{client_at, same_address, address_of}
+use Rattle.sn_local.specs.Lifetimes.{expires_at}
 use Rattle.sn_plan.specs.Bound.{session_of}
-use Rattle.sn_plan.specs.Drafts.{Drafted, nothing, changed, put_all, sent, moved}
+use Rattle.sn_plan.specs.Drafts.{Drafted, nothing, changed, put_all, lasting, sent, moved}
 use Rattle.sn_plan.specs.Flush.{AreFlush}
 use Rattle.sn_local.specs.Locals.{Local, no_local, after_all, owned}
 use Rattle.sn_plan.specs.Numbering.{planned, plan_with, rest_of, numbered as numbered_all, written, start_of, ack_of}
@@ -39,7 +41,7 @@ use Rattle.sn_plan.specs.Others.{other}
 use Rattle.sn_plan.specs.Own.{IsOfDraft, AreFresh, AddsNone}
 use Rattle.sn_local.specs.Seen.{Seen, seen_of}
 use Rattle.sn_plan.specs.Plans.{plan_of, plan_of_puts, plan_without}
-use Rattle.sn_plan.specs.Rows.{row_of, plan_for, plan_of_row}
+use Rattle.sn_plan.specs.Rows.{row_of, row_lasting, plan_for, plan_of_row}
 use Rattle.sn_local.specs.WillDialogs.{is_elsewhere, dialogs_elsewhere, dialog_change, dialogs_after}
 use Rattle.row_laws.proofs.Flushness.{flush-start, flush-taken}
 use Rattle.row_laws.proofs.Freshness.{plan-fresh}
@@ -49,16 +51,19 @@ use Rattle.row_laws.proofs.Stepping.{step-flush}
 use Rattle.sn_tick.specs.declared.due.Due.{Due}
 use Rattle.sn_tick.specs.declared.due.Due.TheVariants as dues
 use Rattle.sn_tick.specs.Due.{elapsed, first_due}
+use Rattle.sn_tick.specs.Expiry.{under_way, is_expired, expire_all}
 use Rattle.sn_exchange.specs.Following.{peer_at, followed_for, followed, deliver_next}
 use Rattle.sn_publish.specs.Recipients.{is_another}
 use Rattle.sn_publish.specs.Retaining.{has_place}
 use Rattle.sn_deliver.specs.Steps.{row_for, step}
 use Rattle.sn_tick.specs.Ticking.{dialog_ended, dialogs_ended, needs_timer, timer_begun, cleaned, may_advertise, advertised_to, advertised, will_puts, will_retained, lost, retried, plan_due, plan_if_due, tick}
 use Rattle.step_laws.proofs.Drafting.{step-drafted, tick-drafted}
+use Rattle.step_laws.proofs.Expiring.{names_of, expired-acked}
+use Rattle.step_laws.proofs.Keeping.{fold_keeps}
 use Rattle.plan_laws.specs.KeepsWell.{is_asked, AreAsked, KeepsWell}
 use Rattle.plan_laws.proofs.Sessions.{Fine}
-use Rattle.plan_laws.proofs.Kept.{seen-fine, pending-well, pending-apart}
-use Rattle.plan_laws.proofs.Sound.{IsMessage, IsPosted, IsMove, Sound, choose-sound, sound-nothing, sound-changed, sound-retain_if, sound-put_all, sound-sent, sound-moved}
+use Rattle.plan_laws.proofs.Kept.{IsWell, seen-fine, pending-well, pending-apart}
+use Rattle.plan_laws.proofs.Sound.{IsMessage, IsPosted, IsMove, Sound, all-named, all-once, filter-all, filter-apart, choose-sound, sound-nothing, sound-changed, sound-acked_all, sound-retain_if, sound-put_all, sound-lasting, sound-sent, sound-moved}
 use Rattle.plan_laws.proofs.Written.{plan-apart}
 use Rattle.plan_laws.proofs.Following.{followed-sound}
 use Rattle.plan_laws.proofs.Rows.{IsSoundRow, stray-sound, sent-nothing, connect-sound, disconnect-sound, will_topic-sound, will_msg-sound, topic_update_of-sound, message_update_of-sound, register_of-sound, subscribe_of-sound, unsubscribe_of-sound}
@@ -165,6 +170,27 @@ cleaned-sound g seen local now =
     fold-sound (timer_begun g seen local.timers now) (begun-sound g seen local.timers now) seen.all (dialogs_ended now local.dialogs nothing)
     (fold-sound (dialog_ended now) (ended-sound now) local.dialogs nothing sound-nothing)
 
+-- what a tick does first acknowledges nothing
+choose-acks : (b : Bool) (x d : Drafted) → x.acks ≡ d.acks → (if b then x else d).acks ≡ d.acks
+choose-acks true x d h = h
+choose-acks false x d h = refl
+
+cleaned-acks : (g : ℕ) (seen : Seen) (local : Local) (now : ℕ) → (cleaned g seen local now).acks ≡ []
+cleaned-acks g seen local now =
+    fold_keeps (timer_begun g seen local.timers now) (λ d. d.acks) (λ d c. choose-acks (needs_timer g local.timers c (seen.of c)) (moved (Heard c now) d) d refl) seen.all (dialogs_ended now local.dialogs nothing)
+    ∙ fold_keeps (dialog_ended now) (λ d. d.acks) (λ d dialog. choose-acks (nat_le 60 (elapsed now dialog.begun)) (moved (EndDialog dialog.request.address) d) d refl) local.dialogs nothing
+
+-- an expiry acknowledges messages that wait, each once
+expired-sound : (S : List Op) (local : Local) (now : ℕ) (c : List ℕ) (d : Drafted) → AreWellMade S → d.acks ≡ [] → Sound d → Sound (expire_all (seen_of S) local now c d)
+expired-sound S local now c d made none h =
+    let pending : List Put = (view c S).pending in
+    let name : Option (ℕ × ℕ) = under_way pending (address_of c local.bindings) (view c S).session in
+    let expired : List Put = filter (is_expired now name) pending in
+    subst Sound (sym (expired-acked (seen_of S) local now c d))
+    (sound-acked_all (names_of now name pending) d none
+    (all-named expired (filter-all IsWell (is_expired now name) pending (pending-well c S made)))
+    (all-once expired (filter-apart (is_expired now name) pending (pending-apart c S))) h)
+
 advertised-sound : (g advertise : ℕ) (field : List Addr) (now : ℕ) (d : Drafted) → Sound d → Sound (advertised g advertise field now d)
 advertised-sound g advertise field now d h =
     sound-moved (Advertised now) _ tt (fold-sound (advertised_to g advertise) (λ e a k. sound-sent a (frames.Advertise g advertise) e k) field d h)
@@ -193,20 +219,24 @@ module _ (g : ℕ) (S : List Op) (local : Local) (k : KeepsWell g S local) (pred
   next-makes drafted a now row h e =
       for-makes g S plan k.numbered k.flush k.made drafted (followed predefined (seen_of S) a now row).draft row.client (for-sound predefined S k.made a now row.draft row.follow row.client h) e
 
-  pub step-makes : (a : Addr) (frame : Frame) (now : ℕ) → step g predefined (seen_of S) local a frame now ≡ Some plan → Makes plan
+  pub step-makes : (lifetime : ℕ) (a : Addr) (frame : Frame) (now : ℕ) → step g lifetime predefined (seen_of S) local a frame now ≡ Some plan → Makes plan
   unfolding step
-  step-makes a frame now e =
-      next-makes (step-drafted g predefined S local a frame now plan e) a now (row_for g predefined (seen_of S) local a frame now) (row-sound g predefined S k.made local k.asked a frame now) e
+  step-makes lifetime a frame now e =
+      let row : Row = row_for g predefined (seen_of S) local a frame now in
+      next-makes (step-drafted g lifetime predefined S local a frame now plan e) a now (row_lasting (expires_at lifetime now) row)
+      (sound-lasting (expires_at lifetime now) row.draft (row-sound g predefined S k.made local k.asked a frame now)) e
 
-  module _ (drafted : IsOfDraft g (seen_of S) plan) (now : ℕ) (d : Drafted) (h : Sound d) where
-    due-makes : (c : List ℕ) (due : Due) → plan_due g predefined (seen_of S) now d c due ≡ Some plan → Makes plan
+  module _ (drafted : IsOfDraft g (seen_of S) plan) (now : ℕ) (d : Drafted) (none : d.acks ≡ []) (h : Sound d) where
+    due-makes : (c : List ℕ) (due : Due) → plan_due g predefined (seen_of S) local now d c due ≡ Some plan → Makes plan
+    due-makes c dues.Expiry e =
+        draft-makes g S plan k.numbered k.flush k.made drafted c (expire_all (seen_of S) local now c d) (expired-sound S local now c d k.made none h) e
     due-makes c dues.Loss e =
         draft-makes g S plan k.numbered k.flush k.made drafted c (lost (seen_of S) c (session_of (seen_of S) c) d)
         (lost-sound (seen_of S) c (session_of (seen_of S) c) d (seen-fine c S k.made) h) e
     due-makes c (dues.Retry a) e = next-makes drafted a now (row_of follows.Resend c (moved (Retried c now) d)) (sound-moved (Retried c now) d tt h) e
     due-makes c (dues.Delivery a) e = next-makes drafted a now (row_of follows.Delivery c d) h e
 
-    if_due-makes : (found : Option (List ℕ × Due)) → plan_if_due g predefined (seen_of S) now d found ≡ Some plan → Makes plan
+    if_due-makes : (found : Option (List ℕ × Due)) → plan_if_due g predefined (seen_of S) local now d found ≡ Some plan → Makes plan
     if_due-makes None e = without-makes g S plan k.numbered k.flush k.made drafted d h e
     if_due-makes (Some found) e = due-makes found.0 found.1 e
 
@@ -214,15 +244,16 @@ module _ (g : ℕ) (S : List Op) (local : Local) (k : KeepsWell g S local) (pred
   either-makes true x y h m e = h e
   either-makes false x y h m e = m e
 
-  pub tick-makes : (advertise : ℕ) (field : List Addr) (now : ℕ) → tick g advertise field predefined (seen_of S) local now ≡ Some plan → Makes plan
-  tick-makes advertise field now e =
-      let d : Drafted = cleaned g (seen_of S) local now in
-      let h : Sound d = cleaned-sound g (seen_of S) local now in
-      let drafted = tick-drafted g advertise field predefined S local now plan e in
+  pub tick-makes : (lifetime advertise : ℕ) (field : List Addr) (now : ℕ) → tick g lifetime advertise field predefined (seen_of S) local now ≡ Some plan → Makes plan
+  tick-makes lifetime advertise field now e =
+      let first : Drafted = cleaned g (seen_of S) local now in
+      let d : Drafted = lasting (expires_at lifetime now) first in
+      let h : Sound d = sound-lasting (expires_at lifetime now) first (cleaned-sound g (seen_of S) local now) in
+      let drafted = tick-drafted g lifetime advertise field predefined S local now plan e in
       either-makes (may_advertise advertise field now local.advertised)
-      (Some (plan_without (advertised g advertise field now d))) (plan_if_due g predefined (seen_of S) now d (first_due g (seen_of S) local now (clients S)))
+      (Some (plan_without (advertised g advertise field now d))) (plan_if_due g predefined (seen_of S) local now d (first_due g (seen_of S) local now (clients S)))
       (without-makes g S plan k.numbered k.flush k.made drafted (advertised g advertise field now d) (advertised-sound g advertise field now d h))
-      (if_due-makes drafted now d h (first_due g (seen_of S) local now (clients S))) e
+      (if_due-makes drafted now d (cleaned-acks g (seen_of S) local now) h (first_due g (seen_of S) local now (clients S))) e
 
 -- ---- it keeps well
 

@@ -138,27 +138,26 @@ module _ (c : List ℕ) (g : ℕ) (numbered : nat_le 1 g ≡ true) where
     acks-made rest all.1,
   )
 
-  put-made : (p : NewPut) (n : ℕ) → IsMessage p → nat_le 1 n ≡ true → IsTrue (is_well_made (put_at_seq g p n))
-  put-made p n h e =
-      and_from (nat_le 1 g && nat_le 1 n && nat_le p.qos 2 && nat_le (length p.body) 4096) true
-      (and_from (nat_le 1 g && nat_le 1 n && nat_le p.qos 2) (nat_le (length p.body) 4096)
-      (and_from (nat_le 1 g && nat_le 1 n) (nat_le p.qos 2) (and_from (nat_le 1 g) (nat_le 1 n) numbered e) h.0) h.1) refl
+  put-made : (moment : ℕ) (p : NewPut) (n : ℕ) → IsMessage p → nat_le 1 n ≡ true → IsTrue (is_well_made (put_at_seq g moment p n))
+  put-made moment p n h e =
+      and_from (nat_le 1 g && nat_le 1 n && nat_le p.qos 2) (nat_le (length p.body) 4096)
+      (and_from (nat_le 1 g && nat_le 1 n) (nat_le p.qos 2) (and_from (nat_le 1 g) (nat_le 1 n) numbered e) h.0) h.1
 
-  puts-made : (seq : List ℕ → Option ℕ) → ((e : List ℕ) → IsNext (seq e)) → (puts : List NewPut) (before after : List Op) → AllByRecursion IsMessage puts → AreWellMade before
-      → with_puts g seq puts before ≡ Some after → AreWellMade after
-  puts-made seq each [] before after all made e = subst AreWellMade (same_Some before after e) made
-  puts-made seq each (p ∷ rest) before after all made e =
-      let m = and_then-some (λ n. with_puts g seq rest (before ++ put_at_seq g p n ∷ [])) (seq p.client) after e in
-      puts-made seq each rest (before ++ put_at_seq g p m.0 ∷ []) after all.1
-      (all-append (λ op. IsTrue (is_well_made op)) before _ made (put-made p m.0 all.0 (some-next (seq p.client) m.0 (each p.client) m.1), tt)) m.2
+  puts-made : (moment : ℕ) (seq : List ℕ → Option ℕ) → ((e : List ℕ) → IsNext (seq e)) → (puts : List NewPut) (before after : List Op) → AllByRecursion IsMessage puts → AreWellMade before
+      → with_puts g moment seq puts before ≡ Some after → AreWellMade after
+  puts-made moment seq each [] before after all made e = subst AreWellMade (same_Some before after e) made
+  puts-made moment seq each (p ∷ rest) before after all made e =
+      let m = and_then-some (λ n. with_puts g moment seq rest (before ++ put_at_seq g moment p n ∷ [])) (seq p.client) after e in
+      puts-made moment seq each rest (before ++ put_at_seq g moment p m.0 ∷ []) after all.1
+      (all-append (λ op. IsTrue (is_well_made op)) before _ made (put-made moment p m.0 all.0 (some-next (seq p.client) m.0 (each p.client) m.1), tt)) m.2
 
-  handed-made : (handed : List Posted) (next : Option ℕ) → IsNext next → (before after : List Op) → AllByRecursion IsPosted handed → AreWellMade before
-      → with_handed g c next handed before ≡ Some after → AreWellMade after
-  handed-made [] next n before after all made e = subst AreWellMade (same_Some before after e) made
-  handed-made (p ∷ rest) None n before after all made e = absurd (none-some after e)
-  handed-made (p ∷ rest) (Some m) n before after all made e =
-      handed-made rest (one_more m) (next-one m) (before ++ handed_at_seq g c p m ∷ []) after all.1
-      (all-append (λ op. IsTrue (is_well_made op)) before _ made (put-made (handed_to c p) m all.0 n, tt)) e
+  handed-made : (moment : ℕ) (handed : List Posted) (next : Option ℕ) → IsNext next → (before after : List Op) → AllByRecursion IsPosted handed → AreWellMade before
+      → with_handed g moment c next handed before ≡ Some after → AreWellMade after
+  handed-made moment [] next n before after all made e = subst AreWellMade (same_Some before after e) made
+  handed-made moment (p ∷ rest) None n before after all made e = absurd (none-some after e)
+  handed-made moment (p ∷ rest) (Some m) n before after all made e =
+      handed-made moment rest (one_more m) (next-one m) (before ++ handed_at_seq g moment c p m ∷ []) after all.1
+      (all-append (λ op. IsTrue (is_well_made op)) before _ made (put-made moment (handed_to c p) m all.0 n, tt)) e
 
   kept-made : (p : Posted) (n : ℕ) → IsPosted p → nat_le 1 n ≡ true → IsTrue (is_well_made (retain_at_clock g p n))
   kept-made p n h e =
@@ -363,9 +362,9 @@ module _ (g : ℕ) (c : List ℕ) (S : List Op) (d : Drafted) (plan : Plan) (pla
 
   pub plan-made : AreWellMade plan.ops
   plan-made =
-      puts-made c g (le-leb 1 g numbered) (λ e. next_seq e g S) (λ e. next-one (largest (seq_of e g) S)) d.puts cut.kept plan.ops sound.puts
+      puts-made c g (le-leb 1 g numbered) d.expires (λ e. next_seq e g S) (λ e. next-one (largest (seq_of e g) S)) d.puts cut.kept plan.ops sound.puts
       (retain-made c g (le-leb 1 g numbered) (λ t. next_clock t S) (λ t. next-one (largest (clock_in t) S)) d.retain cut.handed cut.kept sound.retain
-      (handed-made c g (le-leb 1 g numbered) d.handed (next_seq c g S) (next-one (largest (seq_of c g) S)) (cut.w.ops ++ acks) cut.handed sound.handed
+      (handed-made c g (le-leb 1 g numbered) d.expires d.handed (next_seq c g S) (next-one (largest (seq_of c g) S)) (cut.w.ops ++ acks) cut.handed sound.handed
       (all-append (λ op. IsTrue (is_well_made op)) cut.w.ops acks ready.ops (acks-made c g (le-leb 1 g numbered) d.acks sound.acks)) cut.is_handed) cut.is_kept) cut.is_numbered
 
   ack-pairs : Pairwise ApartIfAck plan.ops

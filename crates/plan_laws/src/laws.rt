@@ -25,12 +25,12 @@ ghost use Rattle.plan_laws.specs.BoundUp.{IsUp};
 /// The operations of every plan, of each frame and of each tick, are well made at a gateway that
 /// keeps well, and no two of them have a name in common, acknowledgements neither.
 pub fn every_plan()
-    ensures steps { (g : ℕ) (predefined : Entries) (S : List Op) (local : Local) (a : Addr)
-        (frame : Frame) (now : ℕ) (plan : Plan) → KeepsWell g S local
-        → step g predefined (seen_of S) local a frame now ≡ Some plan → AreApart plan.ops }
-    ensures ticks { (g advertise : ℕ) (field : List Addr) (predefined : Entries) (S : List Op)
-        (local : Local) (now : ℕ) (plan : Plan) → KeepsWell g S local
-        → tick g advertise field predefined (seen_of S) local now ≡ Some plan
+    ensures steps { (g lifetime : ℕ) (predefined : Entries) (S : List Op) (local : Local)
+        (a : Addr) (frame : Frame) (now : ℕ) (plan : Plan) → KeepsWell g S local
+        → step g lifetime predefined (seen_of S) local a frame now ≡ Some plan → AreApart plan.ops }
+    ensures ticks { (g lifetime advertise : ℕ) (field : List Addr) (predefined : Entries)
+        (S : List Op) (local : Local) (now : ℕ) (plan : Plan) → KeepsWell g S local
+        → tick g lifetime advertise field predefined (seen_of S) local now ≡ Some plan
         → AreApart plan.ops }
 {}
 
@@ -38,13 +38,14 @@ pub fn every_plan()
 /// and when it takes a delta that has nothing new under its own stamps.
 pub fn keeps_well()
     ensures start { (g : ℕ) → 1 ≤ g → KeepsWell g [] no_local }
-    ensures steps { (g : ℕ) (predefined : Entries) (S : List Op) (local : Local) (a : Addr)
+    ensures steps { (g lifetime : ℕ) (predefined : Entries) (S : List Op) (local : Local) (a : Addr)
         (frame : Frame) (now : ℕ) (plan : Plan) (delta : List Op) → KeepsWell g S local
-        → step g predefined (seen_of S) local a frame now ≡ Some plan → IsDeltaOf plan.ops delta
-        → KeepsWell g (S ++ delta) (after_all local plan.local) }
-    ensures ticks { (g advertise : ℕ) (field : List Addr) (predefined : Entries) (S : List Op)
-        (local : Local) (now : ℕ) (plan : Plan) (delta : List Op) → KeepsWell g S local
-        → tick g advertise field predefined (seen_of S) local now ≡ Some plan
+        → step g lifetime predefined (seen_of S) local a frame now ≡ Some plan
+        → IsDeltaOf plan.ops delta → KeepsWell g (S ++ delta) (after_all local plan.local) }
+    ensures ticks { (g lifetime advertise : ℕ) (field : List Addr) (predefined : Entries)
+        (S : List Op) (local : Local) (now : ℕ) (plan : Plan) (delta : List Op)
+        → KeepsWell g S local
+        → tick g lifetime advertise field predefined (seen_of S) local now ≡ Some plan
         → IsDeltaOf plan.ops delta → KeepsWell g (S ++ delta) (after_all local plan.local) }
     ensures taken { (g : ℕ) (S delta : List Op) (local : Local) (seen : Seen)
         → KeepsWell g S local → AreWellMade delta → ((c : List ℕ) → AddsNone g c S delta)
@@ -57,13 +58,14 @@ pub fn keeps_well()
 /// bound address finds a session, and a client that is up.
 pub fn bound_up()
     ensures start { (g : ℕ) → IsUp g [] no_local }
-    ensures steps { (g : ℕ) (predefined : Entries) (S : List Op) (local : Local) (a : Addr)
+    ensures steps { (g lifetime : ℕ) (predefined : Entries) (S : List Op) (local : Local) (a : Addr)
         (frame : Frame) (now : ℕ) (plan : Plan) (delta : List Op) → AreFlush g S → IsUp g S local
-        → step g predefined (seen_of S) local a frame now ≡ Some plan → Same delta plan.ops
+        → step g lifetime predefined (seen_of S) local a frame now ≡ Some plan → Same delta plan.ops
         → IsUp g (S ++ delta) (after_all local plan.local) }
-    ensures ticks { (g advertise : ℕ) (field : List Addr) (predefined : Entries) (S : List Op)
-        (local : Local) (now : ℕ) (plan : Plan) (delta : List Op) → AreFlush g S → IsUp g S local
-        → tick g advertise field predefined (seen_of S) local now ≡ Some plan
+    ensures ticks { (g lifetime advertise : ℕ) (field : List Addr) (predefined : Entries)
+        (S : List Op) (local : Local) (now : ℕ) (plan : Plan) (delta : List Op) → AreFlush g S
+        → IsUp g S local
+        → tick g lifetime advertise field predefined (seen_of S) local now ≡ Some plan
         → Same delta plan.ops → IsUp g (S ++ delta) (after_all local plan.local) }
     ensures taken { (g : ℕ) (S delta : List Op) (local : Local) → IsUp g S local
         → ((c : List ℕ) → AddsNone g c S delta)

@@ -136,10 +136,10 @@ module _ (configs : List Config) (old new : Field) (number i : ℕ) (gateway : G
   abbrev frame-plan : Plan
   frame-plan = framed.step.0
 
-  frame-step : (frame : OfFrame) → IsValue frame → Spells octets frame → step gateway.config.gateway gateway.config.predefined (seen_of gateway.taken) gateway.local a frame now ≡ Some frame-plan
+  frame-step : (frame : OfFrame) → IsValue frame → Spells octets frame → step gateway.config.gateway gateway.config.lifetime gateway.config.predefined (seen_of gateway.taken) gateway.local a frame now ≡ Some frame-plan
   frame-step frame value spells =
       let is = framed.step.1 in
-      subst (λ (f : OfFrame). step gateway.config.gateway gateway.config.predefined (seen_of gateway.taken) gateway.local a f now ≡ Some frame-plan)
+      subst (λ (f : OfFrame). step gateway.config.gateway gateway.config.lifetime gateway.config.predefined (seen_of gateway.taken) gateway.local a f now ≡ Some frame-plan)
       (one_frame octets is.0 frame is.1 value is.2 spells) is.3
 
   frame-sent : (answer : OfFrame) → IsAnswered a answer out.sends → IsAnswered a answer frame-plan.sends
@@ -152,13 +152,13 @@ module _ (configs : List Config) (old new : Field) (number i : ℕ) (gateway : G
       → IsAnswered a (frames.PubAck t m 0) out.sends → IsAccepted gateway a flags.bits topic 1 body out Holds
   frame-puback flags topic msg_id t m body value spells q there =
       frame-accept flags.bits topic 1 body
-      (puback-put gateway.config.gateway gateway.config.predefined (seen_of gateway.taken) gateway.local a flags topic msg_id body now frame-plan
+      (puback-put gateway.config.gateway gateway.config.lifetime gateway.config.predefined (seen_of gateway.taken) gateway.local a flags topic msg_id body now frame-plan
       (frame-step (frames.Publish flags topic msg_id body) value spells) t m q (frame-sent (frames.PubAck t m 0) there))
 
   pub frame-pubrec : (flags : Flags) (topic msg_id m : ℕ) (body : List ℕ) → IsValue (frames.Publish flags topic msg_id body) → Spells octets (frames.Publish flags topic msg_id body) → qos_of flags.bits ≡ Two
       → IsAnswered a (frames.PubRec m) out.sends → IsAccepted gateway a flags.bits topic 2 body out Holds ⊎ HasReceived (seen_of gateway.taken) gateway.local a msg_id
   frame-pubrec flags topic msg_id m body value spells q there =
-      elim (pubrec-put gateway.config.gateway gateway.config.predefined (seen_of gateway.taken) gateway.local a flags topic msg_id body now frame-plan
+      elim (pubrec-put gateway.config.gateway gateway.config.lifetime gateway.config.predefined (seen_of gateway.taken) gateway.local a flags topic msg_id body now frame-plan
       (frame-step (frames.Publish flags topic msg_id body) value spells) m q (frame-sent (frames.PubRec m) there)) [
         | inl published ↦ inl (frame-accept flags.bits topic 2 body published)
         | inr received ↦ inr received
@@ -169,7 +169,7 @@ module _ (configs : List Config) (old new : Field) (number i : ℕ) (gateway : G
   frame-served frame p value spells there =
       serve new i gateway (Datagram a octets) now out frame-flush framed Holds (holds framed.next framed.here) p
       (subst (λ (ps : List NewPut). Contains ps p)
-      (sym (step-messages gateway.config.gateway gateway.config.predefined (seen_of gateway.taken) gateway.local a frame now frame-plan (frame-step frame value spells))) there)
+      (sym (step-messages gateway.config.gateway gateway.config.lifetime gateway.config.predefined (seen_of gateway.taken) gateway.local a frame now frame-plan (frame-step frame value spells))) there)
 
 -- ---- a tick
 
@@ -185,7 +185,7 @@ module _ (configs : List Config) (old new : Field) (number i : ℕ) (gateway : G
   tick-served p there =
       serve new i gateway Clock now out tick-flush ticked Holds (holds ticked.next ticked.here) p
       (subst (λ (ps : List NewPut). Contains ps p)
-      (sym (tick-messages gateway.config.gateway gateway.config.advertise gateway.config.field gateway.config.predefined (seen_of gateway.taken) gateway.local now ticked.step.0 ticked.step.1)) there)
+      (sym (tick-messages gateway.config.gateway gateway.config.lifetime gateway.config.advertise gateway.config.field gateway.config.predefined (seen_of gateway.taken) gateway.local now ticked.step.0 ticked.step.1)) there)
 
 -- ---- whatever was told of
 

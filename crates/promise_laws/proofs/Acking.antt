@@ -198,9 +198,9 @@ module _ (c : List ℕ) (name : ℕ × ℕ) where
 
   plan-cause : (gateway : Gateway) (occasion : Occasion) (now : ℕ) (plan : Plan) → IsPlan gateway occasion now (Some plan) → Acks plan.ops → HasCause gateway occasion now plan.sends c name
   plan-cause gateway (Datagram from bytes) now plan h e =
-      (h.0, h.1, h.2, step-cause gateway.config.gateway gateway.config.predefined (seen_of gateway.taken) gateway.local from h.0 now plan c name h.3 e)
+      (h.0, h.1, h.2, step-cause gateway.config.gateway gateway.config.lifetime gateway.config.predefined (seen_of gateway.taken) gateway.local from h.0 now plan c name h.3 e)
   plan-cause gateway Clock now plan h e =
-      tick-timely gateway.config.gateway gateway.config.advertise gateway.config.field gateway.config.predefined (seen_of gateway.taken) gateway.local now plan c name h e
+      tick-timely gateway.config.gateway gateway.config.lifetime gateway.config.advertise gateway.config.field gateway.config.predefined (seen_of gateway.taken) gateway.local now plan c name h e
 
   abbrev Before : Field → Event → Answer → Type 0
   Before old event answer = IsAcknowledgedIn old c name ⊎ Acknowledges old event answer c name

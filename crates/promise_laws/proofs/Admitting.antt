@@ -19,7 +19,9 @@ use Rattle.sn_plan.specs.declared.plan.Plan.{Plan}
 use Rattle.sn_plan.specs.declared.row.Follow.TheVariants as follows
 use Rattle.sn_plan.specs.Bound.{session_of}
 use Rattle.sn_plan.specs.Asking.{retain_asked}
-use Rattle.sn_plan.specs.Drafts.{Drafted, nothing, changed, sent, moved}
+use Rattle.sn_plan.specs.Drafts.{Drafted, nothing, changed, lasting, sent, moved}
+use Rattle.sn_plan.specs.Rows.{row_lasting}
+use Rattle.sn_local.specs.Lifetimes.{expires_at}
 use Rattle.sn_plan.specs.Own.{messages}
 use Rattle.sn_publish.specs.declared.meaning.Meant.{Meant}
 use Rattle.sn_publish.specs.Publishing.{publication_meant, posted, publish_meant, publish}
@@ -33,7 +35,7 @@ use Rattle.put_laws.specs.Puts.{puts_of, puts_at, puts_bound, puts_by_level, IsA
 use Rattle.put_laws.proofs.Putting.{step-messages}
 use Rattle.promise_laws.proofs.Carrying.{IsNewPublish}
 
-module _ (g : ℕ) (predefined : Entries) (seen : Seen) (local : Local) (a : Addr) (frame : Frame) (now : ℕ) (plan : Plan) (is : step g predefined seen local a frame now ≡ Some plan)
+module _ (g lifetime : ℕ) (predefined : Entries) (seen : Seen) (local : Local) (a : Addr) (frame : Frame) (now : ℕ) (plan : Plan) (is : step g lifetime predefined seen local a frame now ≡ Some plan)
     (c : List ℕ) (id : ℕ) (new : IsNewPublish predefined seen local a frame c id) where
   abbrev s : Session
   s = session_of seen c
@@ -52,7 +54,7 @@ module _ (g : ℕ) (predefined : Entries) (seen : Seen) (local : Local) (a : Add
         new.name,
         new.bound,
         new.about,
-        step-messages g predefined seen local a frame now plan is
+        step-messages g lifetime predefined seen local a frame now plan is
             ∙ (ap (puts_of predefined seen local a) new.is
             ∙ (ap (λ x. puts_by_level predefined seen bound new.flags.bits new.topic id new.body x) new.at_two
             ∙ (ap (λ x. puts_bound predefined seen x new.flags.bits new.topic id new.body) new.bound
@@ -82,16 +84,16 @@ module _ (g : ℕ) (predefined : Entries) (seen : Seen) (local : Local) (a : Add
       let about = subst (λ x. Contains (publish_meant seen (retain_asked new.flags.bits) a s new.topic id new.body levels.Two x).sends answer) (sym new.about) two in
       subst (λ x. Contains (publish_meant seen (retain_asked new.flags.bits) a s new.topic id new.body x meant).sends answer) (sym new.at_two) about
 
-  of-publish : (x : Frame) → frame ≡ x → deliver_next g predefined seen a now (row_for g predefined seen local a x now) ≡ Some plan
+  of-publish : (x : Frame) → frame ≡ x → deliver_next g predefined seen a now (row_lasting (expires_at lifetime now) (row_for g predefined seen local a x now)) ≡ Some plan
   unfolding step
-  of-publish x e = subst (λ f. deliver_next g predefined seen a now (row_for g predefined seen local a f now) ≡ Some plan) e is
+  of-publish x e = subst (λ f. deliver_next g predefined seen a now (row_lasting (expires_at lifetime now) (row_for g predefined seen local a f now)) ≡ Some plan) e is
 
   pub new-answered : IsAnswered a (frames.PubRec id) plan.sends
   new-answered =
-      let row : Drafted = moved (Heard c now) row_of_two in
+      let row : Drafted = lasting (expires_at lifetime now) (moved (Heard c now) row_of_two) in
       let whole : Drafted = followed_by predefined (peer_at a c now) s (seen.of c).pending row follows.Delivery in
-      let level = subst (λ x. deliver_next g predefined seen a now (publish_in_at predefined seen local a new.flags.bits new.topic id new.body now x) ≡ Some plan) new.at_two
+      let level = subst (λ x. deliver_next g predefined seen a now (row_lasting (expires_at lifetime now) (publish_in_at predefined seen local a new.flags.bits new.topic id new.body now x)) ≡ Some plan) new.at_two
       (of-publish (frames.Publish new.flags new.topic id new.body) new.is) in
-      let planned = subst (λ x. deliver_next g predefined seen a now (publish_of predefined seen a x new.flags.bits new.topic id new.body now) ≡ Some plan) new.bound level in
+      let planned = subst (λ x. deliver_next g predefined seen a now (row_lasting (expires_at lifetime now) (publish_of predefined seen a x new.flags.bits new.topic id new.body now)) ≡ Some plan) new.bound level in
       subst (λ (sends : List Send). Contains sends answer) (sym (plan-sends g c seen whole plan planned))
       (follows-stay predefined (peer_at a c now) s (seen.of c).pending row follows.Delivery answer row-answers)

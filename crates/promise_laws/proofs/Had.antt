@@ -59,7 +59,7 @@ module _ (c : List ℕ) (name : ℕ × ℕ) where
 
   cause-waits : (gateway : Gateway) (occasion : Occasion) (now : ℕ) (sends : List Send) → HasCause gateway occasion now sends c name → Waiting gateway
   cause-waits gateway (Datagram from bytes) now sends h = (h.3.1.0, h.3.1.1, h.3.1.2)
-  cause-waits gateway Clock now sends h = (h.1.2.0, h.1.2.1, h.1.2.2)
+  cause-waits gateway Clock now sends h = (h.1.0, h.1.1, h.1.2)
 
   pub step-taken : (field : Field) (event : Event) (answer : Answer) → Acknowledges field event answer c name → HasTaken field
   step-taken field event answer a =

@@ -110,8 +110,8 @@ module _ (g : ℕ) (S : List Op) (plan : Plan) (is : IsOfGateway g S plan) (flus
 
 -- a plan of a gateway is one of the step table's
 pub of-gateway : (gateway : Gateway) (occasion : Occasion) (now : ℕ) (plan : Plan) → IsPlan gateway occasion now (Some plan) → IsOfGateway gateway.config.gateway gateway.taken plan
-of-gateway gateway (Datagram from bytes) now plan h = inl (gateway.config.predefined, gateway.local, from, h.0, now, h.3)
-of-gateway gateway Clock now plan h = inr (gateway.config.advertise, gateway.config.field, gateway.config.predefined, gateway.local, now, h)
+of-gateway gateway (Datagram from bytes) now plan h = inl (gateway.config.lifetime, gateway.config.predefined, gateway.local, from, h.0, now, h.3)
+of-gateway gateway Clock now plan h = inr (gateway.config.lifetime, gateway.config.advertise, gateway.config.field, gateway.config.predefined, gateway.local, now, h)
 
 -- the operations are the delta that the answer tells of, and that the gateway took
 pub record IsTaken (ops : List Op) (old : Gateway) (told : Option (List Op)) (delta : List Op) (next : Gateway) : Type 0 where

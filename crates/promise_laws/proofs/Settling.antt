@@ -1,5 +1,5 @@
 -- Each operation of a step's plan carries over what the session has received, or the step accepts a PUBLISH with the id.
-use Rattle.std.proofs.Common.{◌≡◌, ℕ, Bool, true, false, ◌⊎◌, nat_lt, if◌then◌else◌, List, [], ◌∷◌, ◌++◌, map, Option, Some, None, option_map, refl, sym, ◌∙◌, subst, inl, inr}
+use Rattle.std.proofs.Common.{◌≡◌, ℕ, Bool, true, false, ◌⊎◌, nat_lt, if◌then◌else◌, List, [], ◌∷◌, ◌++◌, map, Option, Some, None, option_map, refl, sym, ap, ◌∙◌, subst, inl, inr}
 use Rattle.std.specs.List.{AllByRecursion}
 use Rattle.std.proofs.lemmas.Option.{same_Some}
 use Rattle.std.proofs.lemmas.List.Elements.{All-from_recursion, All-contains}
@@ -14,16 +14,17 @@ use Rattle.rep_op.specs.declared.op.Op.{Op}
 use Rattle.rep_op.specs.declared.op.Op.TheVariants.{Session as OfSession, Put as OfPut, Ack, Retain as OfRetain}
 use Rattle.sn_local.specs.declared.config.Addr.{Addr}
 use Rattle.sn_local.specs.declared.local.LocalChange.TheVariants.{Heard, EndDialog}
+use Rattle.sn_local.specs.Lifetimes.{expires_at}
 use Rattle.sn_local.specs.Locals.{Local}
 use Rattle.sn_local.specs.Seen.{Seen}
 use Rattle.sn_plan.specs.declared.plan.Plan.{Plan}
 use Rattle.sn_plan.specs.declared.row.Row.{Row}
 use Rattle.sn_plan.specs.declared.row.Follow.TheVariants as follows
 use Rattle.sn_plan.specs.Bound.{session_of}
-use Rattle.sn_plan.specs.Drafts.{Drafted, nothing, moved}
+use Rattle.sn_plan.specs.Drafts.{Drafted, nothing, lasting, moved}
 use Rattle.sn_plan.specs.Numbering.{Written, another, taken_at, taken, counted, write, written, start_of, ack_of, planned}
 use Rattle.sn_plan.specs.Plans.{plan_of, plan_of_puts, plan_without}
-use Rattle.sn_plan.specs.Rows.{row_of, plan_for}
+use Rattle.sn_plan.specs.Rows.{row_of, row_lasting, plan_for}
 use Rattle.sn_plan.proofs.Lists.{and_then-some, map-some, all-append, all-weaken, all-map}
 use Rattle.sn_plan.proofs.Made.{for_nobody}
 use Rattle.sn_exchange.specs.Following.{followed_for, deliver_next}
@@ -31,8 +32,10 @@ use Rattle.sn_deliver.specs.Steps.{row_for, step}
 use Rattle.sn_tick.specs.declared.due.Due.{Due}
 use Rattle.sn_tick.specs.declared.due.Due.TheVariants as dues
 use Rattle.sn_tick.specs.Due.{first_due}
+use Rattle.sn_tick.specs.Expiry.{expire_all}
 use Rattle.sn_tick.specs.Ticking.{is_old, dialog_ended, dialogs_ended, needs_timer, timer_begun, cleaned, may_advertise, advertised, published, lost, retried, plan_due, plan_if_due, tick}
 use Rattle.row_laws.proofs.Planned.{IsNumbered, planned-parts, parts-more}
+use Rattle.step_laws.proofs.Expiring.{expired-acked}
 use Rattle.step_laws.proofs.Keeping.{fold_keeps}
 use Rattle.promise_laws.proofs.Bringing.{HasOne, applied-brings}
 use Rattle.promise_laws.proofs.Carrying.{IsNewPublish, IsCarried, Carried, CarriedFor, CarriedRow, carried-more, row-carried}
@@ -121,14 +124,21 @@ module _ (seen : Seen) (A : List ℕ → ℕ → Type 0) where
   one-settled c id ops all (stamp, counter, change, there, brings) =
       All-contains IsSettled ops (OfSession c stamp counter change) (All-from_recursion IsSettled ops all) there id brings
 
+-- a moment brings no id
+lasting-carried : (seen : Seen) (A : List ℕ → ℕ → Type 0) (client : Option (List ℕ)) (moment : ℕ) (d : Drafted) → CarriedFor seen A client d → CarriedFor seen A client (lasting moment d)
+lasting-carried seen A None moment d h = tt
+lasting-carried seen A (Some c) moment d h = h
+
 -- ---- a frame
 
-pub step-brings : (g : ℕ) (predefined : Entries) (seen : Seen) (local : Local) (a : Addr) (frame : Frame) (now : ℕ) (plan : Plan) → step g predefined seen local a frame now ≡ Some plan
+pub step-brings : (g lifetime : ℕ) (predefined : Entries) (seen : Seen) (local : Local) (a : Addr) (frame : Frame) (now : ℕ) (plan : Plan) → step g lifetime predefined seen local a frame now ≡ Some plan
     → (c : List ℕ) (id : ℕ) → HasOne c id plan.ops → (is_received id (session_of seen c).received ≡ true) ⊎ IsNewPublish predefined seen local a frame c id
 unfolding step
-step-brings g predefined seen local a frame now plan e c id h =
+step-brings g lifetime predefined seen local a frame now plan e c id h =
+    let row : Row = row_for g predefined seen local a frame now in
     one-settled seen (IsNewPublish predefined seen local a frame) c id plan.ops
-    (next-settled seen (IsNewPublish predefined seen local a frame) g plan predefined a now (row_for g predefined seen local a frame now) (row-carried g predefined seen local a frame now) e) h
+    (next-settled seen (IsNewPublish predefined seen local a frame) g plan predefined a now (row_lasting (expires_at lifetime now) row)
+    (lasting-carried seen (IsNewPublish predefined seen local a frame) row.client (expires_at lifetime now) row.draft (row-carried g predefined seen local a frame now)) e) h
 
 -- ---- a tick
 
@@ -145,11 +155,17 @@ cleaned-changes g seen local now =
     fold_keeps (timer_begun g seen local.timers now) (λ (d : Drafted). d.changes) (λ d c. choose-changes (needs_timer g local.timers c (seen.of c)) (moved (Heard c now) d) d refl) seen.all (dialogs_ended now local.dialogs nothing)
     ∙ fold_keeps (dialog_ended now) (λ (d : Drafted). d.changes) (λ d dialog. choose-changes (is_old now dialog) (moved (EndDialog dialog.request.address) d) d refl) local.dialogs nothing
 
-module _ (g : ℕ) (predefined : Entries) (seen : Seen) (now : ℕ) (plan : Plan) (d : Drafted) (none : d.changes ≡ []) where
+expired-changes : (seen : Seen) (local : Local) (now : ℕ) (c : List ℕ) (d : Drafted) → (expire_all seen local now c d).changes ≡ d.changes
+expired-changes seen local now c d = ap (λ (e : Drafted). e.changes) (expired-acked seen local now c d)
+
+module _ (g : ℕ) (predefined : Entries) (seen : Seen) (local : Local) (now : ℕ) (plan : Plan) (d : Drafted) (none : d.changes ≡ []) where
   base : (c : List ℕ) → Carried seen Nobody c d
   base c = subst (λ (changes : List SessionOp). AllByRecursion (IsCarried seen Nobody c) changes) (sym none) tt
 
-  due-settled : (c : List ℕ) (due : Due) → plan_due g predefined seen now d c due ≡ Some plan → AreSettled seen Nobody plan.ops
+  due-settled : (c : List ℕ) (due : Due) → plan_due g predefined seen local now d c due ≡ Some plan → AreSettled seen Nobody plan.ops
+  due-settled c dues.Expiry e =
+      of-settled seen Nobody g plan c (expire_all seen local now c d)
+      (subst (λ (changes : List SessionOp). AllByRecursion (IsCarried seen Nobody c) changes) (sym (expired-changes seen local now c d ∙ none)) tt) e
   due-settled c dues.Loss e =
       of-settled seen Nobody g plan c (lost seen c (session_of seen c) d)
       (carried-more seen Nobody c (Presence Lost (session_of seen c).duration) (published seen c (session_of seen c).will d) (λ id b. absurd b) (base c)) e
@@ -159,18 +175,18 @@ module _ (g : ℕ) (predefined : Entries) (seen : Seen) (now : ℕ) (plan : Plan
   without-settled : (e : Drafted) → Some (plan_without e) ≡ Some plan → AreSettled seen Nobody plan.ops
   without-settled e is = subst (λ (p : Plan). AreSettled seen Nobody p.ops) (same_Some (plan_without e) plan is) tt
 
-  if_due-settled : (found : Option (List ℕ × Due)) → plan_if_due g predefined seen now d found ≡ Some plan → AreSettled seen Nobody plan.ops
+  if_due-settled : (found : Option (List ℕ × Due)) → plan_if_due g predefined seen local now d found ≡ Some plan → AreSettled seen Nobody plan.ops
   if_due-settled None e = without-settled d e
   if_due-settled (Some found) e = due-settled found.0 found.1 e
 
-  either-settled : (b : Bool) (told : Drafted) (found : Option (List ℕ × Due)) → (if b then Some (plan_without told) else plan_if_due g predefined seen now d found) ≡ Some plan → AreSettled seen Nobody plan.ops
+  either-settled : (b : Bool) (told : Drafted) (found : Option (List ℕ × Due)) → (if b then Some (plan_without told) else plan_if_due g predefined seen local now d found) ≡ Some plan → AreSettled seen Nobody plan.ops
   either-settled true told found e = without-settled told e
   either-settled false told found e = if_due-settled found e
 
-pub tick-brings : (g advertise : ℕ) (field : List Addr) (predefined : Entries) (seen : Seen) (local : Local) (now : ℕ) (plan : Plan) → tick g advertise field predefined seen local now ≡ Some plan
+pub tick-brings : (g lifetime advertise : ℕ) (field : List Addr) (predefined : Entries) (seen : Seen) (local : Local) (now : ℕ) (plan : Plan) → tick g lifetime advertise field predefined seen local now ≡ Some plan
     → (c : List ℕ) (id : ℕ) → HasOne c id plan.ops → is_received id (session_of seen c).received ≡ true
-tick-brings g advertise field predefined seen local now plan e c id h =
-    let d : Drafted = cleaned g seen local now in
-    let settled = either-settled g predefined seen now plan d (cleaned-changes g seen local now) (may_advertise advertise field now local.advertised)
+tick-brings g lifetime advertise field predefined seen local now plan e c id h =
+    let d : Drafted = lasting (expires_at lifetime now) (cleaned g seen local now) in
+    let settled = either-settled g predefined seen local now plan d (cleaned-changes g seen local now) (may_advertise advertise field now local.advertised)
     (advertised g advertise field now d) (first_due g seen local now seen.all) e in
     elim (one-settled seen Nobody c id plan.ops settled h) [ inl had ↦ had | inr none ↦ absurd none ]

@@ -244,14 +244,14 @@ module _ (c : List ℕ) (id : ℕ) where
     at_two = new.at_two;
     bound = new.bound;
     fresh = new.fresh;
-    published = new-published gateway.config.gateway gateway.config.predefined (seen_of gateway.taken) gateway.local from h.0 now plan h.3 c id new;
-    answered = new-answered gateway.config.gateway gateway.config.predefined (seen_of gateway.taken) gateway.local from h.0 now plan h.3 c id new;
+    published = new-published gateway.config.gateway gateway.config.lifetime gateway.config.predefined (seen_of gateway.taken) gateway.local from h.0 now plan h.3 c id new;
+    answered = new-answered gateway.config.gateway gateway.config.lifetime gateway.config.predefined (seen_of gateway.taken) gateway.local from h.0 now plan h.3 c id new;
   }
 
   plan-accepts : (gateway : Gateway) (from : Addr) (bytes : List ℕ) (now : ℕ) (plan : Plan) → IsPlan gateway (Datagram from bytes) now (Some plan) → Brought plan.ops
       → Brought gateway.taken ⊎ AcceptsPublish gateway from bytes c id plan
   plan-accepts gateway from bytes now plan h e =
-      elim (step-brings gateway.config.gateway gateway.config.predefined (seen_of gateway.taken) gateway.local from h.0 now plan h.3 c id e) [
+      elim (step-brings gateway.config.gateway gateway.config.lifetime gateway.config.predefined (seen_of gateway.taken) gateway.local from h.0 now plan h.3 c id e) [
         | inl had ↦ inl (seen-brings c id gateway.taken had)
         | inr new ↦ inr (to-publish gateway from bytes now plan h new)
       ]
@@ -259,7 +259,7 @@ module _ (c : List ℕ) (id : ℕ) where
   plan-of-clock : (gateway : Gateway) (now : ℕ) (plan : Plan) → IsPlan gateway Clock now (Some plan) → Brought plan.ops → Brought gateway.taken
   plan-of-clock gateway now plan h e =
       seen-brings c id gateway.taken
-      (tick-brings gateway.config.gateway gateway.config.advertise gateway.config.field gateway.config.predefined (seen_of gateway.taken) gateway.local now plan h c id e)
+      (tick-brings gateway.config.gateway gateway.config.lifetime gateway.config.advertise gateway.config.field gateway.config.predefined (seen_of gateway.taken) gateway.local now plan h c id e)
 
   abbrev Before : Field → Event → Answer → Type 0
   Before old event answer = IsBroughtIn old c id ⊎ Accepts old event answer c id

@@ -41,7 +41,7 @@ IsOccasion (Tick gateway moment) number occasion now =
 IsOccasion event number occasion now = ⊥
 
 -- The message of this name waits for the client at the gateway, and the occasion is a cause to
--- acknowledge it: the frame is, or Delivery is done with the message.
+-- acknowledge it: the frame is, or Delivery is done with the message, or it has expired.
 abbrev pub HasCause : Gateway → Occasion → ℕ → List Send → List ℕ → ℕ × ℕ → Type 0
 HasCause gateway (Datagram from bytes) now sends c name =
     (frame : OfFrame) × IsValue frame × Spells bytes frame

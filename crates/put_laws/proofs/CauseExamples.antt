@@ -34,7 +34,7 @@ abbrev welcome : List Send
 welcome = record { to = seven; bytes = 3 ∷ 5 ∷ 0 ∷ [] } ∷ []
 
 -- with a clean session the message is acknowledged
-cleared : step 1 [] waits no_local seven (connects 4) 0
+cleared : step 1 0 [] waits no_local seven (connects 4) 0
     ≡ Some (record {
       ops = OfSession s1 (record { epoch = 2; gateway = 1 }) 0 (Take session_of_s1) ∷ Ack s1 1 1 1 ∷ [];
       sends = welcome;
@@ -45,7 +45,7 @@ cleared = refl
 
 -- and for a cause
 for_cause : IsForCause 1 [] waits no_local seven (connects 4) 0 welcome s1 (1, 1)
-for_cause = step-cause 1 [] waits no_local seven (connects 4) 0 _ s1 (1, 1) cleared refl
+for_cause = step-cause 1 0 [] waits no_local seven (connects 4) 0 _ s1 (1, 1) cleared refl
 
 -- without a clean session a CONNECT is none
 kept : (put : Put) → IsCause waits no_local seven (connects 0) welcome s1 put → ⊥

@@ -14,3 +14,4 @@ pub mod Waiting
 pub mod Saying
 pub mod Retaining
 pub mod Handing
+pub mod Lasting

@@ -13,6 +13,7 @@ use Rattle.sn_frame.specs.FlagBits.{qos_of}
 use Rattle.rep_op.specs.declared.op.Op.{Op}
 use Rattle.sn_local.specs.declared.config.Addr.{Addr}
 use Rattle.sn_local.specs.Bindings.{client_at}
+use Rattle.sn_local.specs.Lifetimes.{expires_at}
 use Rattle.sn_local.specs.Locals.{Local}
 use Rattle.sn_local.specs.Seen.{Seen, seen_of}
 use Rattle.sn_plan.specs.declared.draft.NewPut.{NewPut}
@@ -21,13 +22,13 @@ use Rattle.sn_plan.specs.declared.row.Follow.TheVariants as follows
 use Rattle.sn_plan.specs.declared.row.Row.{Row}
 use Rattle.sn_plan.specs.Asking.{retain_asked}
 use Rattle.sn_plan.specs.Bound.{session_of}
-use Rattle.sn_plan.specs.Drafts.{Drafted}
+use Rattle.sn_plan.specs.Drafts.{Drafted, lasting}
 use Rattle.sn_plan.specs.Numbering.{planned}
 use Rattle.sn_plan.specs.Own.{IsOneEach, IsOfDraft, messages}
 use Rattle.sn_plan.specs.Others.{other}
 use Rattle.sn_plan.specs.Plans.{plan_without}
-use Rattle.sn_plan.specs.Rows.{plan_for, row_of}
-use Rattle.sn_plan.proofs.Made.{no_puts, for_nobody}
+use Rattle.sn_plan.specs.Rows.{plan_for, row_of, row_lasting}
+use Rattle.sn_plan.proofs.Made.{Made, no_puts, for_nobody}
 use Rattle.sn_publish.specs.declared.meaning.Meant.{Meant}
 use Rattle.sn_publish.specs.declared.meaning.Meant.TheVariants.{Topic, Refused}
 use Rattle.sn_publish.specs.Publishing.{publication_meant, publish_meant, spread_meant}
@@ -36,12 +37,13 @@ use Rattle.sn_exchange.specs.Following.{followed_for, deliver_next}
 use Rattle.sn_deliver.specs.Serving.{publish_of, publish_in_at}
 use Rattle.sn_deliver.specs.Steps.{row_for, step}
 use Rattle.sn_tick.specs.declared.due.Due.{Due}
-use Rattle.sn_tick.specs.declared.due.Due.TheVariants.{Loss, Retry, Delivery}
+use Rattle.sn_tick.specs.declared.due.Due.TheVariants.{Expiry, Loss, Retry, Delivery}
 use Rattle.sn_tick.specs.Due.{first_due}
+use Rattle.sn_tick.specs.Expiry.{expire_all}
 use Rattle.sn_tick.specs.Ticking.{cleaned, may_advertise, advertised, will_puts, lost, retried, plan_due, plan_if_due, tick}
 use Rattle.row_laws.proofs.Drafting.{connect-made, disconnect-made, will_topic-made, will_msg-made, will_topic_update-made, will_msg_update-made, register-made, subscribe-puts, unsubscribe-made, other-made}
 use Rattle.row_laws.proofs.Waiting.{plan-messages}
-use Rattle.step_laws.proofs.Drafting.{followed_for_puts, pubrel_of_made, ack_of_made, wake_made, cleaned_made, step-drafted, tick-drafted}
+use Rattle.step_laws.proofs.Drafting.{followed_for_puts, pubrel_of_made, ack_of_made, wake_made, cleaned_made, expired_made, step-drafted, tick-drafted}
 use Rattle.put_laws.specs.Puts.{puts_meant, puts_at, puts_bound, puts_by_level, puts_of, puts_lost, puts_due, puts_by_tick, IsOfGateway}
 
 -- ---- the row of a PUBLISH
@@ -116,44 +118,47 @@ module _ (g : ℕ) (seen : Seen) where
       for-messages (followed_for predefined seen a now row.draft row.follow row.client) row.client plan is
       ∙ followed_for_puts predefined seen a now row.draft row.follow row.client
 
-pub step-messages : (g : ℕ) (predefined : Entries) (seen : Seen) (local : Local) (a : Addr) (frame : Frame) (now : ℕ) (plan : Plan)
-    → step g predefined seen local a frame now ≡ Some plan → messages plan.ops ≡ puts_of predefined seen local a frame
+pub step-messages : (g lifetime : ℕ) (predefined : Entries) (seen : Seen) (local : Local) (a : Addr) (frame : Frame) (now : ℕ) (plan : Plan)
+    → step g lifetime predefined seen local a frame now ≡ Some plan → messages plan.ops ≡ puts_of predefined seen local a frame
 unfolding step
-step-messages g predefined seen local a frame now plan is =
-    next-messages g seen predefined a now (row_for g predefined seen local a frame now) plan is
+step-messages g lifetime predefined seen local a frame now plan is =
+    next-messages g seen predefined a now (row_lasting (expires_at lifetime now) (row_for g predefined seen local a frame now)) plan is
     ∙ row-puts g predefined seen local a frame now
 
 -- ---- a tick
 
-module _ (g : ℕ) (predefined : Entries) (seen : Seen) (now : ℕ) (plan : Plan) (d : Drafted) (none : d.puts ≡ []) where
-  lost-messages : (c : List ℕ) (due : Due) → plan_due g predefined seen now d c due ≡ Some plan → messages plan.ops ≡ puts_lost seen c due
+module _ (g : ℕ) (predefined : Entries) (seen : Seen) (local : Local) (now : ℕ) (plan : Plan) (d : Drafted) (none : d.puts ≡ []) where
+  lost-messages : (c : List ℕ) (due : Due) → plan_due g predefined seen local now d c due ≡ Some plan → messages plan.ops ≡ puts_lost seen c due
+  lost-messages c Expiry is =
+      plan-messages g c seen (expire_all seen local now c d) plan is
+      ∙ (ap (λ (m : Made). m.0) (expired_made seen local now c d) ∙ none)
   lost-messages c Loss is =
       plan-messages g c seen (lost seen c (session_of seen c) d) plan is
       ∙ ap (λ (puts : List NewPut). puts ++ will_puts seen c (session_of seen c).will) none
   lost-messages c (Retry a) is = next-messages g seen predefined a now (retried now d c) plan is ∙ none
   lost-messages c (Delivery a) is = next-messages g seen predefined a now (row_of follows.Delivery c d) plan is ∙ none
 
-  due-messages : (found : Option (List ℕ × Due)) → plan_if_due g predefined seen now d found ≡ Some plan → messages plan.ops ≡ puts_due seen found
+  due-messages : (found : Option (List ℕ × Due)) → plan_if_due g predefined seen local now d found ≡ Some plan → messages plan.ops ≡ puts_due seen found
   due-messages None is = ap (λ (p : Plan). messages p.ops) (sym (same_Some (plan_without d) plan is))
   due-messages (Some found) is = lost-messages found.0 found.1 is
 
-  either-messages : (b : Bool) (told : Drafted) (found : Option (List ℕ × Due)) → (if b then Some (plan_without told) else plan_if_due g predefined seen now d found) ≡ Some plan
+  either-messages : (b : Bool) (told : Drafted) (found : Option (List ℕ × Due)) → (if b then Some (plan_without told) else plan_if_due g predefined seen local now d found) ≡ Some plan
       → messages plan.ops ≡ (if b then [] else puts_due seen found)
   either-messages true told found is = ap (λ (p : Plan). messages p.ops) (sym (same_Some (plan_without told) plan is))
   either-messages false told found is = due-messages found is
 
-pub tick-messages : (g advertise : ℕ) (field : List Addr) (predefined : Entries) (seen : Seen) (local : Local) (now : ℕ) (plan : Plan)
-    → tick g advertise field predefined seen local now ≡ Some plan → messages plan.ops ≡ puts_by_tick g advertise field seen local now
-tick-messages g advertise field predefined seen local now plan is =
-    let d : Drafted = cleaned g seen local now in
-    either-messages g predefined seen now plan d (no_puts d (cleaned_made g seen local now)) (may_advertise advertise field now local.advertised)
+pub tick-messages : (g lifetime advertise : ℕ) (field : List Addr) (predefined : Entries) (seen : Seen) (local : Local) (now : ℕ) (plan : Plan)
+    → tick g lifetime advertise field predefined seen local now ≡ Some plan → messages plan.ops ≡ puts_by_tick g advertise field seen local now
+tick-messages g lifetime advertise field predefined seen local now plan is =
+    let d : Drafted = lasting (expires_at lifetime now) (cleaned g seen local now) in
+    either-messages g predefined seen local now plan d (no_puts d (cleaned_made g seen local now)) (may_advertise advertise field now local.advertised)
     (advertised g advertise field now d) (first_due g seen local now seen.all) is
 
 -- ---- every message that is made waits
 
 pub of-draft : (g : ℕ) (S : List Op) (plan : Plan) → IsOfGateway g S plan → IsOfDraft g (seen_of S) plan
-of-draft g S plan (inl (predefined, local, a, frame, now, is)) = step-drafted g predefined S local a frame now plan is
-of-draft g S plan (inr (advertise, field, predefined, local, now, is)) = tick-drafted g advertise field predefined S local now plan is
+of-draft g S plan (inl (lifetime, predefined, local, a, frame, now, is)) = step-drafted g lifetime predefined S local a frame now plan is
+of-draft g S plan (inr (lifetime, advertise, field, predefined, local, now, is)) = tick-drafted g lifetime advertise field predefined S local now plan is
 
 pub gateway-once : (g : ℕ) (S : List Op) (plan : Plan) → IsOfGateway g S plan → IsOneEach (messages plan.ops)
 gateway-once g S plan is =

@@ -18,6 +18,7 @@ use Rattle.rep_model.specs.Topics.{retained}
 use Rattle.rep_model.specs.Fresh.{next_clock}
 use Rattle.sn_local.specs.declared.config.Addr.{Addr}
 use Rattle.sn_local.specs.Bindings.{client_at}
+use Rattle.sn_local.specs.Lifetimes.{expires_at}
 use Rattle.sn_local.specs.Locals.{Local}
 use Rattle.sn_local.specs.Seen.{Seen, seen_of}
 use Rattle.sn_plan.specs.declared.asking.Asked.{Asked}
@@ -29,12 +30,12 @@ use Rattle.sn_plan.specs.declared.row.Follow.TheVariants as follows
 use Rattle.sn_plan.specs.declared.row.Row.{Row}
 use Rattle.sn_plan.specs.Asking.{qos_asked, retain_asked, topics_asked}
 use Rattle.sn_plan.specs.Bound.{session_of}
-use Rattle.sn_plan.specs.Drafts.{Drafted, nothing, changed_if}
+use Rattle.sn_plan.specs.Drafts.{Drafted, nothing, changed_if, lasting}
 use Rattle.sn_plan.specs.Numbering.{planned, handed_to, kept_as}
 use Rattle.sn_plan.specs.Own.{handed_in, retained_in}
 use Rattle.sn_plan.specs.Others.{other}
 use Rattle.sn_plan.specs.Plans.{plan_without}
-use Rattle.sn_plan.specs.Rows.{plan_for, row_of}
+use Rattle.sn_plan.specs.Rows.{plan_for, row_of, row_lasting}
 use Rattle.sn_plan.proofs.Made.{Made, SameMade, no_handed, no_retain, for_nobody}
 use Rattle.sn_subscribe.specs.declared.registration.NamedId.{NamedId}
 use Rattle.sn_subscribe.specs.Handing.{waiting_for, handed_for}
@@ -48,13 +49,14 @@ use Rattle.sn_exchange.specs.Following.{followed_for, deliver_next}
 use Rattle.sn_deliver.specs.Serving.{publish_of, publish_in_at}
 use Rattle.sn_deliver.specs.Steps.{row_for, step}
 use Rattle.sn_tick.specs.declared.due.Due.{Due}
-use Rattle.sn_tick.specs.declared.due.Due.TheVariants.{Loss, Retry, Delivery}
+use Rattle.sn_tick.specs.declared.due.Due.TheVariants.{Expiry, Loss, Retry, Delivery}
 use Rattle.sn_tick.specs.Due.{first_due}
+use Rattle.sn_tick.specs.Expiry.{expire_all}
 use Rattle.sn_tick.specs.Ticking.{cleaned, may_advertise, advertised, lost, retried, plan_due, plan_if_due, tick}
 use Rattle.row_laws.proofs.Drafting.{connect-made, disconnect-made, will_topic-made, will_msg-made, will_topic_update-made, will_msg_update-made, register-made, subscribe-retain, unsubscribe-made, other-made}
 use Rattle.row_laws.proofs.Retaining.{plan-wins, plan-others}
 use Rattle.row_laws.proofs.Waiting.{plan-handed, plan-retained}
-use Rattle.step_laws.proofs.Drafting.{followed_for_made, pubrel_of_made, ack_of_made, wake_made, cleaned_made}
+use Rattle.step_laws.proofs.Drafting.{followed_for_made, pubrel_of_made, ack_of_made, wake_made, cleaned_made, expired_made}
 use Rattle.put_laws.specs.Puts.{IsOfGateway}
 use Rattle.put_laws.specs.Retained.{kept_meant, kept_at, kept_bound, kept_by_level, kept_of, kept_lost, kept_due, kept_by_tick, handed_with, handed_asked, handed_at, handed_bound, handed_of}
 use Rattle.put_laws.proofs.Putting.{of-draft}
@@ -221,18 +223,18 @@ module _ (g : ℕ) (seen : Seen) where
         for-handed (followed_for predefined seen a now row.draft row.follow row.client) row.client plan is
         ∙ ap (λ (m : Made). hands row.client m.1) (followed_for_made predefined seen a now row.draft row.follow row.client)
 
-module _ (g : ℕ) (predefined : Entries) (seen : Seen) (local : Local) (a : Addr) (frame : Frame) (now : ℕ) (plan : Plan) (is : step g predefined seen local a frame now ≡ Some plan) where
+module _ (g lifetime : ℕ) (predefined : Entries) (seen : Seen) (local : Local) (a : Addr) (frame : Frame) (now : ℕ) (plan : Plan) (is : step g lifetime predefined seen local a frame now ≡ Some plan) where
   pub step-retained : retained_in plan.ops ≡ option_to_list (kept_of predefined seen local a frame)
   unfolding step
-  step-retained = next-retained g seen predefined a now (row_for g predefined seen local a frame now) plan is ∙ ap option_to_list (row-is g predefined seen local a frame now).0
+  step-retained = next-retained g seen predefined a now (row_lasting (expires_at lifetime now) (row_for g predefined seen local a frame now)) plan is ∙ ap option_to_list (row-is g predefined seen local a frame now).0
 
   pub step-handed : handed_in plan.ops ≡ handed_of predefined seen local a frame
   unfolding step
-  step-handed = next-handed g seen predefined a now (row_for g predefined seen local a frame now) plan is ∙ (row-is g predefined seen local a frame now).1
+  step-handed = next-handed g seen predefined a now (row_lasting (expires_at lifetime now) (row_for g predefined seen local a frame now)) plan is ∙ (row-is g predefined seen local a frame now).1
 
 -- ---- a tick
 
-module _ (g : ℕ) (predefined : Entries) (seen : Seen) (now : ℕ) (plan : Plan) (d : Drafted) (same : SameMade d nothing) where
+module _ (g : ℕ) (predefined : Entries) (seen : Seen) (local : Local) (now : ℕ) (plan : Plan) (d : Drafted) (same : SameMade d nothing) where
   abbrev Tells : Option Posted → Type 0
   Tells kept = (retained_in plan.ops ≡ option_to_list kept) × (handed_in plan.ops ≡ [])
 
@@ -241,7 +243,11 @@ module _ (g : ℕ) (predefined : Entries) (seen : Seen) (now : ℕ) (plan : Plan
       let made = made-nothing row none in
       (next-retained g seen predefined a now row plan is ∙ ap option_to_list made.0, next-handed g seen predefined a now row plan is ∙ made.1)
 
-  lost-tells : (c : List ℕ) (due : Due) → plan_due g predefined seen now d c due ≡ Some plan → Tells (kept_lost seen c due)
+  lost-tells : (c : List ℕ) (due : Due) → plan_due g predefined seen local now d c due ≡ Some plan → Tells (kept_lost seen c due)
+  lost-tells c Expiry is =
+      let e : Drafted = expire_all seen local now c d in
+      let none : SameMade e nothing = expired_made seen local now c d ∙ same in
+      (plan-retained g c seen e plan is ∙ ap option_to_list (no_retain e none), plan-handed g c seen e plan is ∙ ap (map (handed_to c)) (no_handed e none))
   lost-tells c Loss is =
       (plan-retained g c seen (lost seen c (session_of seen c) d) plan is, plan-handed g c seen (lost seen c (session_of seen c) d) plan is ∙ ap (map (handed_to c)) (no_handed d same))
   lost-tells c (Retry a) is = next-tells a (retried now d c) same is
@@ -250,20 +256,20 @@ module _ (g : ℕ) (predefined : Entries) (seen : Seen) (now : ℕ) (plan : Plan
   without-tells : (e : Drafted) → Some (plan_without e) ≡ Some plan → Tells None
   without-tells e is = subst (λ (p : Plan). (retained_in p.ops ≡ []) × (handed_in p.ops ≡ [])) (same_Some (plan_without e) plan is) (refl, refl)
 
-  due-tells : (found : Option (List ℕ × Due)) → plan_if_due g predefined seen now d found ≡ Some plan → Tells (kept_due seen found)
+  due-tells : (found : Option (List ℕ × Due)) → plan_if_due g predefined seen local now d found ≡ Some plan → Tells (kept_due seen found)
   due-tells None is = without-tells d is
   due-tells (Some found) is = lost-tells found.0 found.1 is
 
-  either-tells : (b : Bool) (told : Drafted) (found : Option (List ℕ × Due)) → (if b then Some (plan_without told) else plan_if_due g predefined seen now d found) ≡ Some plan
+  either-tells : (b : Bool) (told : Drafted) (found : Option (List ℕ × Due)) → (if b then Some (plan_without told) else plan_if_due g predefined seen local now d found) ≡ Some plan
       → Tells (if b then None else kept_due seen found)
   either-tells true told found is = without-tells told is
   either-tells false told found is = due-tells found is
 
-module _ (g advertise : ℕ) (field : List Addr) (predefined : Entries) (seen : Seen) (local : Local) (now : ℕ) (plan : Plan) (is : tick g advertise field predefined seen local now ≡ Some plan) where
+module _ (g lifetime advertise : ℕ) (field : List Addr) (predefined : Entries) (seen : Seen) (local : Local) (now : ℕ) (plan : Plan) (is : tick g lifetime advertise field predefined seen local now ≡ Some plan) where
   tick-tells : (retained_in plan.ops ≡ option_to_list (kept_by_tick g advertise field seen local now)) × (handed_in plan.ops ≡ [])
   tick-tells =
-      let d : Drafted = cleaned g seen local now in
-      either-tells g predefined seen now plan d (cleaned_made g seen local now) (may_advertise advertise field now local.advertised)
+      let d : Drafted = lasting (expires_at lifetime now) (cleaned g seen local now) in
+      either-tells g predefined seen local now plan d (cleaned_made g seen local now) (may_advertise advertise field now local.advertised)
       (advertised g advertise field now d) (first_due g seen local now seen.all) is
 
   pub tick-retained : retained_in plan.ops ≡ option_to_list (kept_by_tick g advertise field seen local now)

@@ -26,15 +26,16 @@ use Rattle.sn_local.specs.declared.config.Addr.{Addr}
 use Rattle.sn_local.specs.declared.config.Send.{Send}
 use Rattle.sn_local.specs.declared.local.LocalChange.TheVariants.{Heard}
 use Rattle.sn_local.specs.Bindings.{client_at}
+use Rattle.sn_local.specs.Lifetimes.{expires_at}
 use Rattle.sn_local.specs.Locals.{Local}
 use Rattle.sn_local.specs.Seen.{Seen}
 use Rattle.sn_plan.specs.declared.plan.Plan.{Plan}
 use Rattle.sn_plan.specs.Asking.{retain_asked}
 use Rattle.sn_plan.specs.Bound.{session_of}
-use Rattle.sn_plan.specs.Drafts.{Drafted, nothing, changed, changed_if, acked, sent, moved, session_after}
+use Rattle.sn_plan.specs.Drafts.{Drafted, nothing, changed, changed_if, acked, lasting, sent, moved, session_after}
 use Rattle.sn_plan.specs.Numbering.{planned}
 use Rattle.sn_plan.specs.Own.{messages}
-use Rattle.sn_plan.specs.Rows.{plan_for}
+use Rattle.sn_plan.specs.Rows.{row_lasting, plan_for}
 use Rattle.sn_plan.proofs.Made.{for_nobody}
 use Rattle.sn_exchange.specs.declared.delivery.ToldId.{ToldId}
 use Rattle.sn_exchange.specs.declared.form.Form.{Form}
@@ -195,41 +196,41 @@ unfolding planned
 for-sends g seen d None plan is = plan-sends g [] seen (for_nobody d) plan is
 for-sends g seen d (Some c) plan is = plan-sends g c seen d plan is
 
-module _ (g : ℕ) (predefined : Entries) (seen : Seen) (a : Addr) (bits topic msg_id : ℕ) (body : List ℕ) (now : ℕ) (plan : Plan)
+module _ (g lifetime : ℕ) (predefined : Entries) (seen : Seen) (a : Addr) (bits topic msg_id : ℕ) (body : List ℕ) (now : ℕ) (plan : Plan)
     (y : Send) (n k : ℕ) (rest : List ℕ) (spelled : y.bytes ≡ n ∷ k ∷ rest)
     (long : 1 ≡ n → ⊥) (no_publish : 12 ≡ k → ⊥) (no_register : 10 ≡ k → ⊥) (no_ping_resp : 23 ≡ k → ⊥) (no_disconnect : 2 ≡ n → ⊥) where
-  from-row : (bound : Option (List ℕ)) → deliver_next g predefined seen a now (publish_of predefined seen a bound bits topic msg_id body now) ≡ Some plan → Contains plan.sends y
+  from-row : (bound : Option (List ℕ)) → deliver_next g predefined seen a now (row_lasting (expires_at lifetime now) (publish_of predefined seen a bound bits topic msg_id body now)) ≡ Some plan → Contains plan.sends y
       → (c : List ℕ) × (bound ≡ Some c) × Contains (publish predefined seen a (session_of seen c) bits topic msg_id body).sends y
   unfolding first
   from-row None is there =
-      let away : Drafted = sent a (frames.Disconnect None) nothing in
+      let away : Drafted = lasting (expires_at lifetime now) (sent a (frames.Disconnect None) nothing) in
       let same = one_sent (record { to = a; bytes = spelling (frames.Disconnect None) }) y (subst (λ (sends : List Send). Contains sends y) (for-sends g seen away None plan is) there) in
       absurd (no_disconnect (ap (λ (m : Send). first m.bytes) same ∙ ap first spelled))
   from-row (Some c) is there =
-      let row : Drafted = moved (Heard c now) (publish predefined seen a (session_of seen c) bits topic msg_id body) in
+      let row : Drafted = lasting (expires_at lifetime now) (moved (Heard c now) (publish predefined seen a (session_of seen c) bits topic msg_id body)) in
       let whole : Drafted = then_deliver predefined (peer_at a c now) (session_of seen c) (seen.of c).pending row in
       elim (then_adds n k long no_publish no_register no_ping_resp predefined (peer_at a c now) (session_of seen c) (seen.of c).pending row y (subst (λ (sends : List Send). Contains sends y) (for-sends g seen whole (Some c) plan is) there)) [
         | inl here ↦ (c, refl, here)
         | inr other ↦ absurd (other rest spelled)
       ]
 
-module _ (g : ℕ) (predefined : Entries) (seen : Seen) (local : Local) (a : Addr) (flags : Flags) (topic msg_id : ℕ) (body : List ℕ) (now : ℕ) (plan : Plan)
-    (is : step g predefined seen local a (frames.Publish flags topic msg_id body) now ≡ Some plan) where
+module _ (g lifetime : ℕ) (predefined : Entries) (seen : Seen) (local : Local) (a : Addr) (flags : Flags) (topic msg_id : ℕ) (body : List ℕ) (now : ℕ) (plan : Plan)
+    (is : step g lifetime predefined seen local a (frames.Publish flags topic msg_id body) now ≡ Some plan) where
   abbrev bound : Option (List ℕ)
   bound = client_at a local.bindings
 
   abbrev meant : List ℕ → Meant
   meant c = publication_meant predefined (session_of seen c) flags.bits topic body
 
-  by-level : (qos : Qos) → qos_of flags.bits ≡ qos → deliver_next g predefined seen a now (publish_in_at predefined seen local a flags.bits topic msg_id body now qos) ≡ Some plan
+  by-level : (qos : Qos) → qos_of flags.bits ≡ qos → deliver_next g predefined seen a now (row_lasting (expires_at lifetime now) (publish_in_at predefined seen local a flags.bits topic msg_id body now qos)) ≡ Some plan
   unfolding step
-  by-level qos q = subst (λ x. deliver_next g predefined seen a now (publish_in_at predefined seen local a flags.bits topic msg_id body now x) ≡ Some plan) q is
+  by-level qos q = subst (λ x. deliver_next g predefined seen a now (row_lasting (expires_at lifetime now) (publish_in_at predefined seen local a flags.bits topic msg_id body now x)) ≡ Some plan) q is
 
   -- the messages, where the client is bound and the publication is about the topic
   at-level : (qos : Qos) → qos_of flags.bits ≡ qos → (c name : List ℕ) → bound ≡ Some c → meant c ≡ Topic name → puts_by_level predefined seen bound flags.bits topic msg_id body qos ≡ puts_bound predefined seen bound flags.bits topic msg_id body
       → messages plan.ops ≡ puts_at seen (session_of seen c) msg_id body qos (Topic name)
   at-level qos q c name b m level =
-      step-messages g predefined seen local a (frames.Publish flags topic msg_id body) now plan is
+      step-messages g lifetime predefined seen local a (frames.Publish flags topic msg_id body) now plan is
       ∙ (ap (λ x. puts_by_level predefined seen bound flags.bits topic msg_id body x) q
       ∙ (level
       ∙ (ap (λ x. puts_bound predefined seen x flags.bits topic msg_id body) b
@@ -239,7 +240,7 @@ module _ (g : ℕ) (predefined : Entries) (seen : Seen) (local : Local) (a : Add
   pub puback-put : (t m : ℕ) → qos_of flags.bits ≡ levels.One → IsAnswered a (frames.PubAck t m 0) plan.sends → IsPublished predefined seen local a flags.bits topic 1 body (messages plan.ops)
   puback-put t m q there =
       let y : Send = record { to = a; bytes = spelling (frames.PubAck t m 0) } in
-      let w = from-row g predefined seen a flags.bits topic msg_id body now plan y 7 13 _ refl (λ e. omega (arith, e)) (λ e. omega (arith, e)) (λ e. omega (arith, e)) (λ e. omega (arith, e)) (λ e. omega (arith, e)) bound (by-level levels.One q) there in
+      let w = from-row g lifetime predefined seen a flags.bits topic msg_id body now plan y 7 13 _ refl (λ e. omega (arith, e)) (λ e. omega (arith, e)) (λ e. omega (arith, e)) (λ e. omega (arith, e)) (λ e. omega (arith, e)) bound (by-level levels.One q) there in
       let s : Session = session_of seen w.0 in
       let o = acked-once seen (retain_asked flags.bits) a s topic msg_id body t m (meant w.0) (limit-above body _ (topic-above predefined s (kind_of flags.bits) topic)) (subst (λ x. Contains (publish_meant seen (retain_asked flags.bits) a s topic msg_id body x (meant w.0)).sends y) q w.2) in
       (w.0, o.0, w.1, o.1, at-level levels.One q w.0 o.0 w.1 o.1 refl)
@@ -247,7 +248,7 @@ module _ (g : ℕ) (predefined : Entries) (seen : Seen) (local : Local) (a : Add
   pub pubrec-put : (m : ℕ) → qos_of flags.bits ≡ levels.Two → IsAnswered a (frames.PubRec m) plan.sends → IsPublished predefined seen local a flags.bits topic 2 body (messages plan.ops) ⊎ HasReceived seen local a msg_id
   pubrec-put m q there =
       let y : Send = record { to = a; bytes = spelling (frames.PubRec m) } in
-      let w = from-row g predefined seen a flags.bits topic msg_id body now plan y 4 15 _ refl (λ e. omega (arith, e)) (λ e. omega (arith, e)) (λ e. omega (arith, e)) (λ e. omega (arith, e)) (λ e. omega (arith, e)) bound (by-level levels.Two q) there in
+      let w = from-row g lifetime predefined seen a flags.bits topic msg_id body now plan y 4 15 _ refl (λ e. omega (arith, e)) (λ e. omega (arith, e)) (λ e. omega (arith, e)) (λ e. omega (arith, e)) (λ e. omega (arith, e)) bound (by-level levels.Two q) there in
       let s : Session = session_of seen w.0 in
       let o = received-twice seen (retain_asked flags.bits) a s topic msg_id body m (meant w.0) (subst (λ x. Contains (publish_meant seen (retain_asked flags.bits) a s topic msg_id body x (meant w.0)).sends y) q w.2) in
       let made = at-level levels.Two q w.0 o.0 w.1 o.1 refl in

@@ -10,14 +10,15 @@ use Rattle.rep_op.specs.Sets.{is_acknowledged}
 use Rattle.sn_local.specs.declared.config.Addr.{Addr}
 use Rattle.sn_local.specs.declared.config.Send.{Send}
 use Rattle.sn_local.specs.Bindings.{client_at}
+use Rattle.sn_local.specs.Lifetimes.{expires_at}
 use Rattle.sn_local.specs.Locals.{Local}
 use Rattle.sn_local.specs.Seen.{Seen}
 use Rattle.sn_plan.specs.declared.plan.Plan.{Plan}
 use Rattle.sn_plan.specs.declared.row.Follow.{Follow}
 use Rattle.sn_plan.specs.declared.row.Row.{Row}
 use Rattle.sn_plan.specs.Bound.{session_of}
-use Rattle.sn_plan.specs.Drafts.{Drafted, session_after}
-use Rattle.sn_plan.specs.Rows.{plan_for}
+use Rattle.sn_plan.specs.Drafts.{Drafted, lasting, session_after}
+use Rattle.sn_plan.specs.Rows.{row_lasting, plan_for}
 use Rattle.sn_exchange.specs.Exchanges.{is_served}
 use Rattle.sn_exchange.specs.Following.{peer_at, followed_by, followed_for}
 use Rattle.sn_deliver.specs.Steps.{row_for, step}
@@ -79,7 +80,7 @@ module _ (g : ℕ) (p : Entries) (seen : Seen) (local : Local) (a : Addr) (frame
       × (IsCause seen local a frame plan.sends c put ⊎ IsSpent p a c now (session_after (session_of seen c) d) put plan.sends))
 
   module _ (d : Drafted) (c : List ℕ) (is : sender_of local a frame ≡ Some c) (name : ℕ × ℕ) where
-    by-cause : Stays d (record { changes = []; acks = []; handed = []; retain = None; puts = []; sends = plan.sends; local = [] }) → Caused seen (IsCause seen local a frame) d.sends c name → IsFor d c name
+    by-cause : Stays d (record { changes = []; acks = []; handed = []; retain = None; puts = []; expires = 0; sends = plan.sends; local = [] }) → Caused seen (IsCause seen local a frame) d.sends c name → IsFor d c name
     by-cause stays (put, among, named, cause) = (is, (put, among, named, inl (cause-more seen local a d.sends plan.sends stays c put frame cause)))
 
     by-delivery : is_served (session_after (session_of seen c) d).presence ≡ true → IsOfOneDone p (peer_at a c now) (session_after (session_of seen c) d) (seen.of c).pending plan.sends name → IsFor d c name
@@ -105,9 +106,17 @@ module _ (g : ℕ) (p : Entries) (seen : Seen) (local : Local) (a : Addr) (frame
       subst (λ (x : List ℕ). IsFor d x name) (sym w.0)
       (by-either d c h.0 name follow (plan-sends g c seen f plan is) (h.1 name) (follows-spend p (peer_at a c now) (session_of seen c) (seen.of c).pending d follow h.2 name w.1))
 
-pub step-cause : (g : ℕ) (p : Entries) (seen : Seen) (local : Local) (a : Addr) (frame : Frame) (now : ℕ) (plan : Plan) (c : List ℕ) (name : ℕ × ℕ)
-    → step g p seen local a frame now ≡ Some plan → is_acknowledged c plan.ops name ≡ true → IsForCause g p seen local a frame now plan.sends c name
+-- a moment is no cause
+lasting-fits : (seen : Seen) (cause : List Send → List ℕ → Put → Type 0) (from : Option (List ℕ)) (client : Option (List ℕ)) (d : Drafted) (follow : Follow) (moment : ℕ)
+    → FitsFor seen cause from client d follow → FitsFor seen cause from client (lasting moment d) follow
+lasting-fits seen cause from None d follow moment h = h
+lasting-fits seen cause from (Some c) d follow moment h = h
+
+pub step-cause : (g lifetime : ℕ) (p : Entries) (seen : Seen) (local : Local) (a : Addr) (frame : Frame) (now : ℕ) (plan : Plan) (c : List ℕ) (name : ℕ × ℕ)
+    → step g lifetime p seen local a frame now ≡ Some plan → is_acknowledged c plan.ops name ≡ true → IsForCause g p seen local a frame now plan.sends c name
 unfolding step
-step-cause g p seen local a frame now plan c name is acked =
+step-cause g lifetime p seen local a frame now plan c name is acked =
     let row : Row = row_for g p seen local a frame now in
-    row-cause g p seen local a frame now plan row.draft row.follow row.client (row-fits g p seen local a frame now) is c name acked
+    let last : Row = row_lasting (expires_at lifetime now) row in
+    row-cause g p seen local a frame now plan last.draft last.follow last.client
+    (lasting-fits seen (IsCause seen local a frame) (sender_of local a frame) row.client row.draft row.follow (expires_at lifetime now) (row-fits g p seen local a frame now)) is c name acked

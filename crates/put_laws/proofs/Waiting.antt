@@ -51,12 +51,12 @@ abbrev Waited : List Op → List ℕ → ℕ × ℕ → Type 0
 Waited S e name = (put : Put) × Contains (pending e S) put × (name ≡ name_of put)
 
 acked-waited : (g : ℕ) (S : List Op) (plan : Plan) → IsOfGateway g S plan → (e : List ℕ) (name : ℕ × ℕ) → is_acknowledged e plan.ops name ≡ true → Waited S e name
-acked-waited g S plan (inl (predefined, local, a, frame, now, is)) e name acked =
-    let w = step-cause g predefined (seen_of S) local a frame now plan e name is acked in
+acked-waited g S plan (inl (lifetime, predefined, local, a, frame, now, is)) e name acked =
+    let w = step-cause g lifetime predefined (seen_of S) local a frame now plan e name is acked in
     (w.1.0, w.1.1, w.1.2)
-acked-waited g S plan (inr (advertise, field, predefined, local, now, is)) e name acked =
-    let w = tick-timely g advertise field predefined (seen_of S) local now plan e name is acked in
-    (w.1.2.0, w.1.2.1, w.1.2.2)
+acked-waited g S plan (inr (lifetime, advertise, field, predefined, local, now, is)) e name acked =
+    let w = tick-timely g lifetime advertise field predefined (seen_of S) local now plan e name is acked in
+    (w.1.0, w.1.1, w.1.2)
 
 read_some : (b : Bool) (x : Option Put) (put : Put) → cond (not b) x None ≡ Some put → x ≡ Some put
 read_some true x put e = absurd (true≢false (sym (ap is_some e)))

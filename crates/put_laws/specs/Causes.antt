@@ -1,5 +1,5 @@
 -- Why a gateway may acknowledge a message that waits for a client.
-use Rattle.std.specs.Prelude.{◌≡◌, ℕ, ◌≤◌, ◌==◌, true, ◌⊎◌, if◌then◌else◌, List, [], length, Option, Some, None, Contains}
+use Rattle.std.specs.Prelude.{◌≡◌, ℕ, ◌≤◌, ◌==◌, true, false, ◌⊎◌, if◌then◌else◌, List, [], length, Option, Some, None, Contains}
 use Rattle.sn_topic.specs.Table.{Entries}
 use Rattle.sn_session.specs.declared.outbound.Outbound.{Outbound}
 use Rattle.sn_session.specs.declared.outbound.Phase.{Phase}
@@ -10,6 +10,7 @@ use Rattle.sn_frame.specs.declared.frame.Frame.TheVariants as frames
 use Rattle.sn_frame.specs.Grammar.{spelling}
 use Rattle.rep_op.specs.declared.op.Put.{Put}
 use Rattle.rep_op.specs.Orders.{name_of}
+use Rattle.rep_model.specs.Moments.{is_past}
 use Rattle.sn_local.specs.declared.config.Addr.{Addr}
 use Rattle.sn_local.specs.declared.config.Send.{Send}
 use Rattle.sn_local.specs.declared.local.Awaited.{Awaited}
@@ -25,6 +26,7 @@ use Rattle.sn_flow.specs.Connection.{has_bit}
 use Rattle.sn_exchange.specs.Exchanges.{is_served, message_of, open_exchange}
 use Rattle.sn_exchange.specs.Following.{peer_at}
 use Rattle.sn_deliver.specs.Steps.{row_for}
+use Rattle.sn_tick.specs.Expiry.{under_way, is_under_way}
 use Rattle.step_laws.specs.Laws.{IsDoneWith}
 
 -- ---- whom a frame is from
@@ -131,10 +133,24 @@ IsForCause g predefined seen local a frame now sends c name =
     × (IsCause seen local a frame sends c put
     ⊎ IsSpent predefined a c now (session_behind g predefined seen local a frame now c) put sends))
 
--- The name is that of a message that waits for the client c, which is the gateway's and has an
--- address. Delivery at that address is done with the message.
+-- the client has an address, and Delivery at that address is done with the message
+abbrev pub IsDelivered : Entries → Seen → Local → ℕ → List Send → List ℕ → Put → Type 0
+IsDelivered predefined seen local now sends c put =
+    (a : Addr) × (address_of c local.bindings ≡ Some a)
+    × IsSpent predefined a c now (session_of seen c) put sends
+
+-- the moment is there from which on the message need not wait, and the client is not in the middle
+-- of it
+abbrev pub HasExpired : Seen → Local → ℕ → List ℕ → Put → Type 0
+HasExpired seen local now c put =
+    (is_past now put ≡ true)
+    × (is_under_way
+    (under_way (seen.of c).pending (address_of c local.bindings) (seen.of c).session) put ≡ false)
+
+-- The name is that of a message that waits for the client c, which is the gateway's. Delivery is
+-- done with the message, or it has expired.
 abbrev pub IsTimely : ℕ → Entries → Seen → Local → ℕ → List Send → List ℕ → ℕ × ℕ → Type 0
 IsTimely g predefined seen local now sends c name =
-    (is_owned g seen c ≡ true) × ((a : Addr) × (address_of c local.bindings ≡ Some a)
-    × ((put : Put) × Contains (seen.of c).pending put × (name ≡ name_of put)
-    × IsSpent predefined a c now (session_of seen c) put sends))
+    (is_owned g seen c ≡ true) × ((put : Put) × Contains (seen.of c).pending put
+    × (name ≡ name_of put)
+    × (IsDelivered predefined seen local now sends c put ⊎ HasExpired seen local now c put))

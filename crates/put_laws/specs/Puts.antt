@@ -27,7 +27,7 @@ use Rattle.sn_publish.specs.declared.meaning.Meant.TheVariants.{Topic, Refused}
 use Rattle.sn_publish.specs.Publishing.{publication_meant}
 use Rattle.sn_publish.specs.Recipients.{qos_for, puts_for}
 use Rattle.sn_tick.specs.declared.due.Due.{Due}
-use Rattle.sn_tick.specs.declared.due.Due.TheVariants.{Loss, Retry, Delivery}
+use Rattle.sn_tick.specs.declared.due.Due.TheVariants.{Expiry, Loss, Retry, Delivery}
 use Rattle.sn_tick.specs.Due.{first_due}
 use Rattle.sn_tick.specs.Ticking.{may_advertise, will_puts, tick}
 
@@ -93,6 +93,7 @@ puts_of predefined seen local a frame = []
 -- the messages that are made if this is due with the client: those of its will if it is lost, else
 -- none
 abbrev pub puts_lost : Seen → List ℕ → Due → List NewPut
+puts_lost seen c Expiry = []
 puts_lost seen c Loss = will_puts seen c (session_of seen c).will
 puts_lost seen c (Retry a) = []
 puts_lost seen c (Delivery a) = []
@@ -131,10 +132,11 @@ HasReceived seen local a msg_id =
 -- the plan is that of a frame, or of a tick, of the gateway g that has taken the set
 abbrev pub IsOfGateway : ℕ → List Op → Plan → Type 0
 IsOfGateway g S plan =
-    ((predefined : Entries) × (local : Local) × (a : Addr) × (frame : Frame) × (now : ℕ)
-    × (step g predefined (seen_of S) local a frame now ≡ Some plan))
-    ⊎ ((advertise : ℕ) × (field : List Addr) × (predefined : Entries) × (local : Local)
-    × (now : ℕ) × (tick g advertise field predefined (seen_of S) local now ≡ Some plan))
+    ((lifetime : ℕ) × (predefined : Entries) × (local : Local) × (a : Addr) × (frame : Frame)
+    × (now : ℕ) × (step g lifetime predefined (seen_of S) local a frame now ≡ Some plan))
+    ⊎ ((lifetime : ℕ) × (advertise : ℕ) × (field : List Addr) × (predefined : Entries)
+    × (local : Local) × (now : ℕ)
+    × (tick g lifetime advertise field predefined (seen_of S) local now ≡ Some plan))
 
 -- a message of these operations waits for its client in the set
 abbrev pub IsKept : List Op → Op → Type 0

@@ -30,7 +30,7 @@ use Rattle.sn_publish.specs.declared.meaning.Meant.TheVariants.{Topic, Refused}
 use Rattle.sn_publish.specs.Publishing.{publication_meant}
 use Rattle.sn_publish.specs.Retaining.{retained_of}
 use Rattle.sn_tick.specs.declared.due.Due.{Due}
-use Rattle.sn_tick.specs.declared.due.Due.TheVariants.{Loss, Retry, Delivery}
+use Rattle.sn_tick.specs.declared.due.Due.TheVariants.{Expiry, Loss, Retry, Delivery}
 use Rattle.sn_tick.specs.Due.{first_due}
 use Rattle.sn_tick.specs.Ticking.{may_advertise, will_retained}
 
@@ -84,6 +84,7 @@ kept_of predefined seen local a frame = None
 
 -- what is retained if this is due with the client: its will, if it is lost, and that asks for it
 abbrev pub kept_lost : Seen → List ℕ → Due → Option Posted
+kept_lost seen c Expiry = None
 kept_lost seen c Loss = will_retained seen (session_of seen c).will
 kept_lost seen c (Retry a) = None
 kept_lost seen c (Delivery a) = None

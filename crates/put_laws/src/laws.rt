@@ -1,7 +1,7 @@
-//! What a gateway puts, and for whom; what it retains, and what it hands to a client that
-//! subscribes. Each function does nothing; its contract is a law.
+//! What a gateway puts, for whom, and until when; what it retains, and what it hands to a client
+//! that subscribes. Each function does nothing; its contract is a law.
 
-ghost use Rattle.std.specs.Prelude.{◌≡◌, ℕ, ◌+◌, ◌-◌, ◌≤◌, ◌<◌, ◌⊎◌, ◌++◌, ◌∷◌, ◌↔◌, true, List, [], length, map, Some, option_to_list, Contains, filter, take};
+ghost use Rattle.std.specs.Prelude.{◌≡◌, ℕ, ◌+◌, ◌-◌, ◌^◌, ◌≤◌, ◌<◌, ◌⊎◌, ◌++◌, ◌∷◌, ◌↔◌, true, List, [], length, map, Some, option_to_list, Contains, filter, take};
 ghost use Rattle.std.specs.List.{AllByRecursion};
 ghost use Rattle.std.specs.List.Sorted.{IsStrictlySortedBy};
 ghost use Rattle.sn_topic.specs.Table.{Entries};
@@ -18,6 +18,7 @@ ghost use Rattle.rep_op.specs.Orders.{topic_name_cmp};
 ghost use Rattle.rep_model.specs.Topics.{retained, retained_matching};
 ghost use Rattle.rep_model.specs.Fresh.{next_clock};
 ghost use Rattle.sn_local.specs.declared.config.Addr.{Addr};
+ghost use Rattle.sn_local.specs.Lifetimes.{expires_at};
 ghost use Rattle.sn_local.specs.Locals.{Local};
 ghost use Rattle.sn_local.specs.Seen.{Seen, seen_of};
 ghost use Rattle.sn_plan.specs.declared.draft.NewPut.{NewPut};
@@ -26,7 +27,7 @@ ghost use Rattle.sn_plan.specs.declared.limits.TheConstants.{MAX_PENDING};
 ghost use Rattle.sn_plan.specs.declared.plan.Plan.{Plan};
 ghost use Rattle.sn_plan.specs.Flush.{AreFlush};
 ghost use Rattle.sn_plan.specs.Numbering.{kept_as};
-ghost use Rattle.sn_plan.specs.Own.{IsOneEach, messages, handed_in, retained_in};
+ghost use Rattle.sn_plan.specs.Own.{HasMoment, IsOneEach, messages, handed_in, retained_in};
 ghost use Rattle.sn_publish.specs.Recipients.{is_another, puts_for, puts_of_will};
 ghost use Rattle.sn_subscribe.specs.Handing.{at_most, handed_for};
 ghost use Rattle.sn_deliver.specs.Steps.{step};
@@ -48,22 +49,26 @@ ghost use Rattle.put_laws.specs.Puts.{HasReceived, IsAmong, IsAnswered, IsKept, 
 /// is said by the calls of `gw_node`, and that a message goes on waiting by `nothing_vanishes` of
 /// `field_laws`. Nothing says here that an accepted PUBLISH is answered at all.
 pub fn accepted_is_put()
-    ensures frames { (g : ℕ) (predefined : Entries) (seen : Seen) (local : Local) (a : Addr)
-        (frame : Frame) (now : ℕ) (plan : Plan)
-        → step g predefined seen local a frame now ≡ Some plan
+    ensures frames { (g lifetime : ℕ) (predefined : Entries) (seen : Seen) (local : Local)
+        (a : Addr) (frame : Frame) (now : ℕ) (plan : Plan)
+        → step g lifetime predefined seen local a frame now ≡ Some plan
         → messages plan.ops ≡ puts_of predefined seen local a frame }
-    ensures ticks { (g advertise : ℕ) (field : List Addr) (predefined : Entries) (seen : Seen)
-        (local : Local) (now : ℕ) (plan : Plan)
-        → tick g advertise field predefined seen local now ≡ Some plan
+    ensures ticks { (g lifetime advertise : ℕ) (field : List Addr) (predefined : Entries)
+        (seen : Seen) (local : Local) (now : ℕ) (plan : Plan)
+        → tick g lifetime advertise field predefined seen local now ≡ Some plan
         → messages plan.ops ≡ puts_by_tick g advertise field seen local now }
-    ensures puback { (g : ℕ) (predefined : Entries) (seen : Seen) (local : Local) (a : Addr)
-        (flags : Flags) (topic msg_id : ℕ) (body : List ℕ) (now : ℕ) (plan : Plan) (t m : ℕ)
-        → step g predefined seen local a (frames.Publish flags topic msg_id body) now ≡ Some plan
+    ensures puback { (g lifetime : ℕ) (predefined : Entries) (seen : Seen) (local : Local)
+        (a : Addr) (flags : Flags) (topic msg_id : ℕ) (body : List ℕ) (now : ℕ) (plan : Plan)
+        (t m : ℕ)
+        → step g lifetime predefined seen local a (frames.Publish flags topic msg_id body) now
+        ≡ Some plan
         → qos_of flags.bits ≡ One → IsAnswered a (frames.PubAck t m 0) plan.sends
         → IsPublished predefined seen local a flags.bits topic 1 body (messages plan.ops) }
-    ensures pubrec { (g : ℕ) (predefined : Entries) (seen : Seen) (local : Local) (a : Addr)
-        (flags : Flags) (topic msg_id : ℕ) (body : List ℕ) (now : ℕ) (plan : Plan) (m : ℕ)
-        → step g predefined seen local a (frames.Publish flags topic msg_id body) now ≡ Some plan
+    ensures pubrec { (g lifetime : ℕ) (predefined : Entries) (seen : Seen) (local : Local)
+        (a : Addr) (flags : Flags) (topic msg_id : ℕ) (body : List ℕ) (now : ℕ) (plan : Plan)
+        (m : ℕ)
+        → step g lifetime predefined seen local a (frames.Publish flags topic msg_id body) now
+        ≡ Some plan
         → qos_of flags.bits ≡ Two → IsAnswered a (frames.PubRec m) plan.sends
         → IsPublished predefined seen local a flags.bits topic 2 body (messages plan.ops)
         ⊎ HasReceived seen local a msg_id }
@@ -91,13 +96,13 @@ pub fn accepted_is_put()
 ///
 /// Of a topic that is new to a gateway that knows 1,024 nothing is retained.
 pub fn retained_is_handed()
-    ensures frames { (g : ℕ) (predefined : Entries) (seen : Seen) (local : Local) (a : Addr)
-        (frame : Frame) (now : ℕ) (plan : Plan)
-        → step g predefined seen local a frame now ≡ Some plan
+    ensures frames { (g lifetime : ℕ) (predefined : Entries) (seen : Seen) (local : Local)
+        (a : Addr) (frame : Frame) (now : ℕ) (plan : Plan)
+        → step g lifetime predefined seen local a frame now ≡ Some plan
         → retained_in plan.ops ≡ option_to_list (kept_of predefined seen local a frame) }
-    ensures ticks { (g advertise : ℕ) (field : List Addr) (predefined : Entries) (seen : Seen)
-        (local : Local) (now : ℕ) (plan : Plan)
-        → tick g advertise field predefined seen local now ≡ Some plan
+    ensures ticks { (g lifetime advertise : ℕ) (field : List Addr) (predefined : Entries)
+        (seen : Seen) (local : Local) (now : ℕ) (plan : Plan)
+        → tick g lifetime advertise field predefined seen local now ≡ Some plan
         → retained_in plan.ops ≡ option_to_list (kept_by_tick g advertise field seen local now) }
     ensures wins { (g : ℕ) (S : List Op) (plan : Plan) (m : Posted) → IsOfGateway g S plan
         → retained_in plan.ops ≡ m ∷ [] → (clock : ℕ) × (next_clock m.topic S ≡ Some clock)
@@ -105,13 +110,13 @@ pub fn retained_is_handed()
     ensures others { (g : ℕ) (S : List Op) (plan : Plan) (t : List ℕ) → IsOfGateway g S plan
         → AllByRecursion (λ (m : Posted). ¬ (m.topic ≡ t)) (retained_in plan.ops)
         → retained t (S ++ plan.ops) ≡ retained t S }
-    ensures handed { (g : ℕ) (predefined : Entries) (seen : Seen) (local : Local) (a : Addr)
-        (frame : Frame) (now : ℕ) (plan : Plan)
-        → step g predefined seen local a frame now ≡ Some plan
+    ensures handed { (g lifetime : ℕ) (predefined : Entries) (seen : Seen) (local : Local)
+        (a : Addr) (frame : Frame) (now : ℕ) (plan : Plan)
+        → step g lifetime predefined seen local a frame now ≡ Some plan
         → handed_in plan.ops ≡ handed_of predefined seen local a frame }
-    ensures ticks_hand { (g advertise : ℕ) (field : List Addr) (predefined : Entries) (seen : Seen)
-        (local : Local) (now : ℕ) (plan : Plan)
-        → tick g advertise field predefined seen local now ≡ Some plan
+    ensures ticks_hand { (g lifetime advertise : ℕ) (field : List Addr) (predefined : Entries)
+        (seen : Seen) (local : Local) (now : ℕ) (plan : Plan)
+        → tick g lifetime advertise field predefined seen local now ≡ Some plan
         → handed_in plan.ops ≡ [] }
     ensures exact { (S : List Op) (asked : List ℕ) (qos waiting : ℕ)
         → handed_for (seen_of S) asked qos waiting
@@ -129,4 +134,24 @@ pub fn retained_is_handed()
     ensures ascending { (S : List Op) (asked : List ℕ) (qos waiting : ℕ)
         → IsStrictlySortedBy topic_name_cmp
         (map (λ (m : Posted). m.topic) (handed_for (seen_of S) asked qos waiting)) }
+{}
+
+/// Until when a message waits. All messages that a step or a tick makes have the same moment: the
+/// one at which the lifetime of their gateway is over, in seconds. Without a lifetime they have
+/// none, and wait until they are delivered; so do those whose moment would not fit eight octets. A
+/// moment is later than that of the step, so that no message expires in the second in which it is
+/// made. What is retained has no moment.
+pub fn moments()
+    ensures frames { (g lifetime : ℕ) (predefined : Entries) (seen : Seen) (local : Local)
+        (a : Addr) (frame : Frame) (now : ℕ) (plan : Plan)
+        → step g lifetime predefined seen local a frame now ≡ Some plan
+        → AllByRecursion (HasMoment (expires_at lifetime now)) plan.ops }
+    ensures ticks { (g lifetime advertise : ℕ) (field : List Addr) (predefined : Entries)
+        (seen : Seen) (local : Local) (now : ℕ) (plan : Plan)
+        → tick g lifetime advertise field predefined seen local now ≡ Some plan
+        → AllByRecursion (HasMoment (expires_at lifetime now)) plan.ops }
+    ensures none { (now : ℕ) → expires_at 0 now ≡ 0 }
+    ensures later { (lifetime now : ℕ) → 0 < lifetime → now + lifetime < 2 ^ 64
+        → (expires_at lifetime now ≡ now + lifetime) × (now < expires_at lifetime now) }
+    ensures too_late { (lifetime now : ℕ) → 2 ^ 64 ≤ now + lifetime → expires_at lifetime now ≡ 0 }
 {}

@@ -60,8 +60,7 @@ module _ (c : List ℕ) where
   one_put (OfPut d p) m v =
       let u = and_parts _ _ m in
       let w = and_parts _ _ u.0 in
-      let x = and_parts _ _ w.0 in
-      let y = and_parts (nat_le 1 p.origin) (nat_le 1 p.seq) x.0 in
+      let y = and_parts (nat_le 1 p.origin) (nat_le 1 p.seq) w.0 in
       elim (same_client c d) as (λ b. IfSome {T = (ℕ × ℕ) × Put} (if b then Some ((p.seq, p.origin), p) else None) (λ e. IsNumber e.0.0)) [
         | true ↦ (leb-true 1 p.seq y.1, v.2)
         | false ↦ tt

@@ -6,6 +6,7 @@ pub mod Steps
 pub mod One
 pub mod Changes
 pub mod Changing
+mod Lasting
 pub mod Freshness
 pub mod Owning
 pub mod Counts

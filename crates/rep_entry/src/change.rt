@@ -16,7 +16,7 @@ ghost use Rattle.rep_entry.specs.inner.Entries.{with_log};
 ghost use Rattle.rep_entry.specs.Applied.{applied};
 
 use super::entry::Entry;
-use super::settling::settled;
+use super::settling::wait_on;
 use super::span::Span;
 use rep_log::{Acks, Known, Log, NamedOp};
 use rep_model::Puts;
@@ -70,8 +70,9 @@ pub fn put_into(place: &mut Entry, change: Change)
     } = change;
     put_log(place, log, log_room);
     put_acks(&mut place.acks, acks);
-    let waiting = mem::replace(&mut place.seen.pending, none).into_items();
-    place.seen.pending = Puts::new(settled(room, waiting, news, span, &place.acks));
+    let waiting = mem::replace(&mut place.seen.pending, none);
+    let left = wait_on(room, waiting, news, span, &place.acks);
+    place.seen.pending = left;
     place.parked = parked;
     place.exceptions = exceptions;
 }

@@ -2,6 +2,7 @@
 
 ghost use Rattle.std.specs.Prelude.{◌≡◌, ◌+◌, ◌==◌, ◌<◌, ◌≤◌, ◌++◌, [], suc, false, vec_capacity, List, take, drop, filter, length, count_by, IfOk, IsTrue};
 ghost use Rattle.rep_op.specs.declared.op.Put.{Put};
+ghost use Rattle.rep_model.specs.Moments.{AllLast};
 ghost use Rattle.rep_log.specs.Mail.{weave, NoneCovered, Rising};
 ghost use Rattle.rep_log.specs.Mail as mail;
 ghost use Rattle.rep_entry.specs.Spans.{AreFreeOutside};
@@ -13,6 +14,7 @@ use super::span::{Span, between};
 use super::weaving::{goes_before, merge};
 use octets::NoMemory;
 use rep_log::{Acks, put_behind};
+use rep_model::Puts;
 use rep_ops::Put;
 use std::collections::VecDeque;
 
@@ -115,15 +117,68 @@ fn joined(room: Vec<Put>, mut waiting: Vec<Put>, news: Vec<Put>) -> Vec<Put>
     merge(room, VecDeque::from_vec(waiting), VecDeque::from_vec(news))
 }
 
-/// The messages that wait, and new ones, without those that are acknowledged, which lie in the
-/// span.
-pub(crate) fn settled(
+/// By how many seconds a moment may go before all others unseen: whoever looks for what is past
+/// then looks in vain for as long at most, and dropping messages one by one looks at all of them
+/// once in so many seconds of moments.
+const SLACK_SECONDS: u64 = 60;
+
+/// Whether the message with the least moment may be among those that were dropped: so many are left
+/// of so many. If that moment is the last one of all, it is none.
+fn may_be_gone(left: usize, count: usize, soonest: u64) -> bool {
+    left < count && soonest < u64::MAX
+}
+
+/// Whether the first of these messages has no moment, or one that is much later than this.
+fn is_much_later(left: &[Put], soonest: u64) -> bool {
+    match left.first() {
+        None => true,
+        Some(first) => first.expires == 0 || soonest.saturating_add(SLACK_SECONDS) < first.expires,
+    }
+}
+
+/// These messages, of which none has a moment before this one, and which were so many before some
+/// were dropped. If the one with that moment may be gone, and the first that is left waits for much
+/// longer, all are looked at.
+fn puts_of(left: Vec<Put>, count: usize, soonest: u64) -> Puts
+    requires { AllLast soonest left.items }
+    ensures { result ≡ left.items }
+{
+    let gone = may_be_gone(left.len(), count, soonest);
+    let again = gone && is_much_later(left.as_slice(), soonest);
+    if again {
+        Puts::new(left)
+    } else {
+        Puts::lasting(left, soonest)
+    }
+}
+
+/// The messages that wait after a change: those that waited, and new ones, without those that are
+/// acknowledged, which lie in the span.
+pub(crate) fn wait_on(
     room: Vec<Put>,
-    waiting: Vec<Put>,
+    waiting: Puts,
     news: Vec<Put>,
     span: Span,
     acks: &Acks,
-) -> Vec<Put>
+) -> Puts
+    requires empty { room.items ≡ [] }
+    requires room { (length news.items == 0) ≡ false
+        → length waiting + length news.items ≤ vec_capacity room }
+    requires rising { Rising waiting }
+    requires woven { Rising (weave waiting news.items) }
+    requires free { AreFreeOutside span (ranges_in acks.now) (weave waiting news.items) }
+    ensures { result ≡ filter (mail.is_left (ranges_in acks.now)) (weave waiting news.items) }
+{
+    let soonest = waiting.soonest_with(news.as_slice());
+    let count = waiting.len().saturating_add(news.len());
+    let waiting = waiting.into_items();
+    let left = settled(room, waiting, news, span, acks);
+    puts_of(left, count, soonest)
+}
+
+/// The messages that wait, and new ones, without those that are acknowledged, which lie in the
+/// span.
+fn settled(room: Vec<Put>, waiting: Vec<Put>, news: Vec<Put>, span: Span, acks: &Acks) -> Vec<Put>
     requires empty { room.items ≡ [] }
     requires room { (length news.items == 0) ≡ false
         → length waiting.items + length news.items ≤ vec_capacity room }

@@ -5,7 +5,9 @@ pub mod Keep
 pub mod Held
 pub mod Ranges
 pub mod Limits
+pub mod Moments
 pub mod Roomy
 pub mod Taking
 pub mod Faults
 pub mod Asking
+pub mod inner

@@ -16,8 +16,9 @@
 //! (what is retained), `Fresh` (the next epoch, sequence number and clock), `Keep` (what may not be
 //! forgotten), `Held` (that as deltas), `Ranges` (of acknowledgements), `Limits` (how much a
 //! replica holds), `Roomy` (deltas that fit one after the other), `Asking` (whom a publication
-//! passes over). The lemmas that crates above cite are in `proofs/`: `Joins`, `Thin`, `Ranges`,
-//! `Named`, `Fresh`, `Limits`, `Agreeing`, `Occurring`, `Roomy`.
+//! passes over), `Moments` (from which on messages need not wait). The lemmas that crates above
+//! cite are in `proofs/`: `Joins`, `Thin`, `Ranges`, `Named`, `Fresh`, `Limits`, `Agreeing`,
+//! `Occurring`, `Roomy`.
 //!
 //! `rep_ops` is passed on, since types of it stand in ours.
 #![tactic(auto)]

@@ -1,6 +1,9 @@
 //! The view of a client.
 
-ghost use Rattle.std.specs.Prelude.{◌≡◌, ◌==◌, length, List, IfOk, IfErr};
+ghost use Rattle.std.specs.Prelude.{◌≡◌, ◌==◌, false, length, List, IfOk, IfErr};
+ghost use Rattle.std.specs.List.{list_any};
+ghost use Rattle.rep_model.specs.Moments.{is_past, AllLast};
+ghost use Rattle.rep_model.specs.inner.Moments as spec;
 
 use octets::NoMemory;
 use rep_ops::{OpsFault, Put, Stamp};
@@ -12,23 +15,79 @@ use std::marker::Model;
 #[derive(Drop)]
 pub struct Puts {
     items: Vec<Put>,
+    /// No message has a moment before this one, from which on it need not wait: whoever asks for
+    /// one that is past looks at all of them only if one may be.
+    soonest: u64,
 }
 
 impl Model for Puts {
     ghost use Rattle.std.specs.Prelude.{List};
     ghost use Rattle.rep_op.specs.declared.op.Put.{Put};
+    ghost use Rattle.rep_model.specs.Moments.{AllLast};
 
     ghost Value = { List Put };
 
     ghost view = { λ p. p.items.items };
+
+    ghost invariant = { λ p. AllLast p.soonest p.items.items };
+}
+
+/// The moment of a message, if it has one before this moment, else this one.
+fn sooner(moment: u64, put: &Put) -> u64
+    ensures { result ≡ spec.sooner moment put.now }
+{
+    if 0 < put.expires && put.expires < moment {
+        put.expires
+    } else {
+        moment
+    }
+}
+
+/// The least moment that one of these messages has before this moment, else this one.
+fn soonest_of(moment: u64, puts: &[Put]) -> u64
+    ensures { result ≡ spec.soonest_of moment puts.now }
+{
+    let mut soonest = moment;
+    for put in puts {
+        soonest = sooner(soonest, put);
+    }
+    soonest
 }
 
 impl Puts {
-    /// These messages.
+    /// These messages. All of them are looked at.
     pub fn new(items: Vec<Put>) -> Puts
         ensures { result ≡ items.items }
     {
-        Puts { items }
+        let soonest = soonest_of(u64::MAX, items.as_slice());
+        Puts { items, soonest }
+    }
+
+    /// These messages, of which none has a moment before this one, in seconds. None is looked at.
+    pub fn lasting(items: Vec<Put>, soonest: u64) -> Puts
+        requires { AllLast soonest items.items }
+        ensures { result ≡ items.items }
+    {
+        Puts { items, soonest }
+    }
+
+    /// A moment, in seconds, before which neither these messages nor the others have one.
+    pub fn soonest_with(&self, more: &[Put]) -> u64
+        ensures these { AllLast result self.now }
+        ensures others { AllLast result more.now }
+    {
+        soonest_of(self.soonest, more)
+    }
+
+    /// Whether the moment of one of them may be there, from which on it need not wait. The time
+    /// does not depend on how many there are.
+    pub fn may_be_past(&self, now: u64) -> bool
+        ensures { result ≡ false → list_any (is_past now) self.now ≡ false }
+    {
+        if now < self.soonest {
+            return false;
+        }
+        true
     }
 
     /// The messages, in their order.
@@ -67,7 +126,7 @@ impl Puts {
         for put in self.items.as_slice() {
             items.push(put.copied(alloc)?)?;
         }
-        Ok(Puts { items })
+        Ok(Puts::new(items))
     }
 }
 

@@ -19,11 +19,9 @@ abbrev pub is_counted : ℕ → SessionOp → Bool
 is_counted counter change = if is_take change then counter == 0 else nat_lt 0 counter
 
 -- a message has an origin, a sequence number, a quality of service of 0 to 2 and at most 4,096
--- octets, and does not expire
+-- octets
 abbrev pub is_put : Put → Bool
-is_put put =
-    nat_le 1 put.origin && nat_le 1 put.seq && is_qos put.qos && is_message put.body
-    && (put.expires == 0)
+is_put put = nat_le 1 put.origin && nat_le 1 put.seq && is_qos put.qos && is_message put.body
 
 -- what is retained has a clock, a gateway, a quality of service of 0 to 2 and at most 4,096 octets
 abbrev pub is_retained : Retained → Bool

@@ -29,11 +29,7 @@ fn is_counted(counter: u8, change: &SessionOp) -> bool
 fn is_put(put: &Put) -> bool
     ensures { result ≡ spec.is_put put.now }
 {
-    put.origin >= 1
-        && put.seq >= 1
-        && put.qos.number() <= 2
-        && put.body.len() <= MAX_MESSAGE
-        && put.expires == 0
+    put.origin >= 1 && put.seq >= 1 && put.qos.number() <= 2 && put.body.len() <= MAX_MESSAGE
 }
 
 /// Whether the values of what is retained are in range.

@@ -1,5 +1,5 @@
 -- Worked examples of the definitions.
-use Rattle.std.proofs.Common.{◌≡◌, ℕ, List, [], ◌∷◌, Ok, Err, refl, true}
+use Rattle.std.proofs.Common.{◌≡◌, ℕ, List, [], ◌∷◌, Ok, Err, refl, true, false}
 use Rattle.sn_session.specs.declared.presence.Presence.TheVariants.{Active}
 use Rattle.sn_session.specs.declared.change.SessionOp.TheVariants.{Take}
 use Rattle.sn_session.specs.Session.{empty_session}
@@ -51,6 +51,22 @@ retained_octets =
 
 retained_spelled : spelling (retained ∷ []) ≡ retained_octets
 retained_spelled = refl
+
+-- its first message on the topic `ab`, at quality of service 0, which expires at moment 33
+abbrev expiring : Op
+expiring = OfPut s1 (record { origin = 1; seq = 1; topic = 0x61 ∷ 0x62 ∷ []; qos = 0; retain = false; expires = 33; body = 0x78 ∷ [] })
+
+abbrev expiring_octets : List ℕ
+expiring_octets =
+    0x02 ∷ 0x00 ∷ 0x00 ∷ 0x00 ∷ 0x01 ∷ 0x02 ∷ 0x02 ∷ 0x73 ∷ 0x31 ∷ 0x01 ∷ 0x00 ∷ 0x00 ∷ 0x00 ∷ 0x00 ∷ 0x00 ∷ 0x00 ∷ 0x00 ∷ 0x01 ∷ 0x00 ∷ 0x02 ∷ 0x61 ∷ 0x62
+    ∷ 0x00 ∷ 0x00 ∷ 0x00 ∷ 0x00 ∷ 0x00 ∷ 0x00 ∷ 0x00 ∷ 0x00 ∷ 0x00 ∷ 0x21 ∷ 0x00 ∷ 0x01 ∷ 0x78 ∷ []
+
+expiring_spelled : spelling (expiring ∷ []) ≡ expiring_octets
+expiring_spelled = refl
+
+expiring_in_one : reading_one expiring_octets ≡ Err faults.Version
+unfolding whole_at text_at
+expiring_in_one = refl
 
 -- gateway 1 retains `x` of the topic `ab`, for the first time and at quality of service 0
 abbrev kept : Op

@@ -2,7 +2,8 @@
 use Rattle.std.proofs.Common.{◌≡◌, ℕ, ◌<◌, ◌≤◌, ◌^◌, Bool, true, false, cond, ◌&&◌, not, List, ◌∷◌, ◌++◌, length, Ok, refl, sym, subst, ◌∙◌, inl, inr, append_assoc, arith}
 use Rattle.std.specs.Prelude.{IsTrue, nat_le, nat_lt, ◌==◌, ◌||◌}
 use Rattle.std.specs.Int.{w64, to_be_bytes}
-use Rattle.std.proofs.lemmas.Bool.{cases_Bool, and_parts, and_from, leb-true, le-leb, eqb-true, eq-eqb, eqb-false}
+use Rattle.std.proofs.lemmas.Bool.{cases_Bool, and_parts, and_from, leb-true, le-leb, eqb-true, eqb-false}
+use Rattle.std.proofs.lemmas.Bool.Decides.{nat_tests}
 use Rattle.byteorder.specs.Endian.{big_bytes}
 use Rattle.sn_topic.specs.Topics.{IsName}
 use Rattle.sn_session.specs.declared.change.SessionOp.{SessionOp}
@@ -10,7 +11,7 @@ use Rattle.rep_op.specs.ClientIds.{IsClientId}
 use Rattle.rep_op.specs.declared.op.Put.{Put}
 use Rattle.rep_op.specs.declared.op.Op.{Op}
 use Rattle.rep_op.specs.declared.op.Op.TheVariants.{Session as OfSession, Put as OfPut, Ack, Retain as OfRetain}
-use Rattle.rep_read.specs.Reading.{Reader, both, by_first, ranged, octet_at, number_at, is_counted, client_at, topic_at, flag_at, qos_at, body_at, change_at, session_op_of, session_op_at, expires_at, later_at, put_op_of, content_at, put_op_at, ack_of, range_at, ack_at, retain_op_of, retain_op_at, is_kind, of_kind_at, op_at}
+use Rattle.rep_read.specs.Reading.{Reader, both, by_first, ranged, octet_at, number_at, is_counted, client_at, topic_at, flag_at, qos_at, body_at, change_at, session_op_of, session_op_at, later_at, put_op_of, content_at, put_op_at, ack_of, range_at, ack_at, retain_op_of, retain_op_at, is_kind, of_kind_at, op_at}
 use Rattle.rep_op.specs.Spelling.{client_octets, later_octets, put_octets, retained_octets, op_octets}
 use Rattle.rep_op.specs.Sessions.{text_octets, flag_octet, change_octets}
 use Rattle.rep_op.specs.Values.{IsValue}
@@ -122,23 +123,28 @@ later_text version x = later_octets version x.0 x.1
 
 abbrev FitsLater : Version → Bool × ℕ → Type 0
 FitsLater One x = (x.0 ≡ false) × (x.1 ≡ 0)
-FitsLater Two x = x.1 ≡ 0
+FitsLater Two x = x.1 < 2 ^ 64
 
-never : (version : Version) (x : Bool × ℕ) → FitsLater version x → x.1 ≡ 0
-never One x h = h.1
-never Two x h = h
+-- the moment fits eight octets
+in_eight : (version : Version) (x : Bool × ℕ) → FitsLater version x → x.1 < 2 ^ 64
+in_eight One x h = omega (arith, h.1)
+in_eight Two x h = h
 
 later_said : (version : Version) (c : List ℕ) (p : Put) → FitsLater version (p.retain, p.expires) → can_say version (OfPut c p) ≡ true
 later_said One c p h = rw (h.0, h.1) refl
 later_said Two c p h = refl
 
-not_either : (a b : Bool) → not (a || b) ≡ true → a ≡ false
-not_either true b e = absurd cc
-not_either false b e = refl
+neither : (a b : Bool) → not (a || b) ≡ true → (a ≡ false) × (b ≡ false)
+neither true b e = absurd cc
+neither false true e = absurd cc
+neither false false e = (refl, refl)
 
-said_later : (version : Version) (c : List ℕ) (p : Put) → can_say version (OfPut c p) ≡ true → p.expires ≡ 0 → FitsLater version (p.retain, p.expires)
-said_later One c p e zero = (not_either p.retain (nat_lt 0 p.expires) e, zero)
-said_later Two c p e zero = zero
+no_moment : (n : ℕ) → nat_lt 0 n ≡ false → n ≡ 0
+no_moment n e = grind (arith, nat_tests)
+
+said_later : (version : Version) (c : List ℕ) (p : Put) → can_say version (OfPut c p) ≡ true → p.expires < 2 ^ 64 → FitsLater version (p.retain, p.expires)
+said_later One c p e fits = let off = neither p.retain (nat_lt 0 p.expires) e in (off.0, no_moment p.expires off.1)
+said_later Two c p e fits = fits
 
 one_later : Law (later_at One) (later_text One) (FitsLater One)
 unfolding later_at
@@ -150,18 +156,15 @@ one_later = record {
   stable = λ bytes more. inr refl;
 }
 
-abbrev IsNever : ℕ → Type 0
-IsNever n = (n < 2 ^ 64) × ((n == 0) ≡ true)
-
 two_later : Law (later_at Two) (later_text Two) (FitsLater Two)
 unfolding later_at
 two_later =
-    same_law (later_at Two) (λ x. one_octet (flag_octet x.0) ++ to_be_bytes w64 x.1) (λ x. Unit {0} × IsNever x.1)
+    same_law (later_at Two) (λ x. one_octet (flag_octet x.0) ++ to_be_bytes w64 x.1) (λ x. Unit {0} × (x.1 < 2 ^ 64))
     (both_law flag_at (λ b. one_octet (flag_octet b)) (λ b. Unit {0}) flag_law
-    expires_at (to_be_bytes w64) IsNever (ranged_law (λ n. n == 0) (number_at w64) (to_be_bytes w64) (λ n. n < 2 ^ 64) (number_law w64 (2 ^ 64) wide64)))
+    (number_at w64) (to_be_bytes w64) (λ n. n < 2 ^ 64) (number_law w64 (2 ^ 64) wide64))
     (later_text Two) (FitsLater Two)
-    (λ x h. (refl, eqb-true _ _ h.1.1))
-    (λ x h. (tt, (omega (arith, h), eq-eqb _ _ h)))
+    (λ x h. (refl, h.1))
+    (λ x h. (tt, h))
 
 later_law : (version : Version) → Law (later_at version) (later_text version) (FitsLater version)
 later_law One = one_later
@@ -179,12 +182,11 @@ FitsPutParts version x = IsClientId x.0 × (IsOne x.1.0 × (IsEight x.1.1.0 × (
 
 put_over : (v : Version) (x : PutParts) → FitsPutParts v x → (put_text v x ≡ tail_octets v (put_op_of x)) × FitsPutOp v (put_op_of x)
 put_over v x h =
-    let p : Put = record { origin = x.1.0; seq = x.1.1.0; topic = x.1.1.1.0; qos = x.1.1.1.1.0; retain = x.1.1.1.1.1.0.0; expires = x.1.1.1.1.1.0.1; body = x.1.1.1.1.1.1 } in
-    let none : x.1.1.1.1.1.0.1 ≡ 0 = never v x.1.1.1.1.1.0 h.1.1.1.1.1.0 in (
+    let p : Put = record { origin = x.1.0; seq = x.1.1.0; topic = x.1.1.1.0; qos = x.1.1.1.1.0; retain = x.1.1.1.1.1.0.0; expires = x.1.1.1.1.1.0.1; body = x.1.1.1.1.1.1 } in (
       refl,
       record {
-        made = and_from _ _ (and_from _ _ (and_from _ _ (and_from _ _ h.1.0.1 h.1.1.0.1) h.1.1.1.1.0.1) (le-leb _ _ h.1.1.1.1.1.1)) (eq-eqb _ _ none);
-        value = (h.0, h.1.0.0, h.1.1.0.0, h.1.1.1.0, omega (arith, none));
+        made = and_from _ _ (and_from _ _ (and_from _ _ h.1.0.1 h.1.1.0.1) h.1.1.1.1.0.1) (le-leb _ _ h.1.1.1.1.1.1);
+        value = (h.0, h.1.0.0, h.1.1.0.0, h.1.1.1.0, in_eight v x.1.1.1.1.1.0 h.1.1.1.1.1.0);
         said = later_said v x.0 p h.1.1.1.1.1.0;
       },
     )
@@ -194,13 +196,12 @@ put_back v (OfSession c s i o) h = absurd h
 put_back v (Ack c r f l) h = absurd h
 put_back v (OfRetain t k) h = absurd h
 put_back v (OfPut c p) h =
-    let w = and_parts _ _ h.made in
-    let m = and_parts _ _ w.0 in
+    let m = and_parts _ _ h.made in
     let n = and_parts _ _ m.0 in
     let k = and_parts _ _ n.0 in
     let qos : p.qos ≤ 2 = leb-true _ _ n.1 in
-    let later : FitsLater v (p.retain, p.expires) = said_later v c p h.said (eqb-true _ _ w.1) in
     let u = h.value in
+    let later : FitsLater v (p.retain, p.expires) = said_later v c p h.said u.4 in
     let x : PutParts = (c, (p.origin, (p.seq, (p.topic, (p.qos, ((p.retain, p.expires), p.body)))))) in
     let fits : FitsPutParts v x = (u.0, ((u.1, k.0), ((u.2, k.1), (u.3, ((omega arith, n.1), (later, leb-true _ _ m.1)))))) in
     (x, refl, fits, refl)

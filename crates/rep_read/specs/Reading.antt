@@ -327,14 +327,11 @@ session_op_at =
     (both (ranged is_counted (number_at w64))
     (both (ranged is_counted octet_at) (by_first octet_at change_at))))
 
--- the moment at which a message expires: eight octets, all 0
-abbrev pub expires_at : Reader ℕ
-expires_at = ranged (λ n. n == 0) (number_at w64)
-
--- whether a message was retained, and when it expires; version 1 says no and never of each
+-- whether a message was retained, and when it expires, in eight octets; version 1 says no and never
+-- of each
 unfoldable pub later_at : Version → Reader (Bool × ℕ)
 later_at One bytes = Ok ((false, 0), bytes)
-later_at Two bytes = both flag_at expires_at bytes
+later_at Two bytes = both flag_at (number_at w64) bytes
 
 -- a message of a client, of its origin, sequence number, topic, quality of service, whether it was
 -- retained and when it expires, and octets

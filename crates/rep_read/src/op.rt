@@ -1,7 +1,7 @@
 //! Operations.
 
 ghost use Rattle.std.specs.Prelude.{◌≡◌, nat_le};
-ghost use Rattle.rep_read.specs.Reading.{Gives, session_op_at, expires_at, later_at, content_at, put_op_at, range_at, ack_at, retain_op_at, last_kind, op_at};
+ghost use Rattle.rep_read.specs.Reading.{Gives, session_op_at, later_at, content_at, put_op_at, range_at, ack_at, retain_op_at, last_kind, op_at};
 
 use super::field::{
     read_body, read_client, read_counted_eight, read_counted_octet, read_eight, read_octet,
@@ -33,17 +33,6 @@ fn read_session_op(alloc: Global, bytes: &[u8]) -> Result<(Op, &[u8]), OpsFault>
     Ok((op, rest))
 }
 
-/// The moment at which a message expires, which is 0.
-fn read_expires(bytes: &[u8]) -> Result<(u64, &[u8]), OpsFault>
-    ensures { Gives (λ x. (x.0, x.1.now)) result (expires_at bytes.now) }
-{
-    let (moment, rest) = read_eight(bytes)?;
-    if moment != 0 {
-        return Err(OpsFault::Kind);
-    }
-    Ok((moment, rest))
-}
-
 /// Whether a message was retained, and when it expires, as far as the version says it.
 #[tactic(auto, unfolding(crate::specs::Reading::later_at))]
 fn read_later(version: Version, bytes: &[u8]) -> Result<((bool, u64), &[u8]), OpsFault>
@@ -53,7 +42,7 @@ fn read_later(version: Version, bytes: &[u8]) -> Result<((bool, u64), &[u8]), Op
         Version::One => Ok(((false, 0), bytes)),
         Version::Two => {
             let (retain, rest) = read_flag(bytes)?;
-            let (expires, rest) = read_expires(rest)?;
+            let (expires, rest) = read_eight(rest)?;
             Ok(((retain, expires), rest))
         }
     }

@@ -78,37 +78,37 @@ written-puts g c e (OfPut d p) h = absurd h
 written-puts g c e (Ack d origin first last) h = absurd h
 written-puts g c e (OfRetain topic kept) h = absurd h
 
-module _ (g : ℕ) (seq : List ℕ → Option ℕ) where
+module _ (g moment : ℕ) (seq : List ℕ → Option ℕ) where
   -- the client's next number is free
   abbrev IsFree : List Op → NewPut → Type 0
   IsFree A p = (n : ℕ) → seq p.client ≡ Some n → put_at p.client A (n, g) ≡ None
 
-  still_free : (A : List Op) (p : NewPut) (n : ℕ) (q : NewPut) → ¬ (q.client ≡ p.client) → IsFree A q → IsFree (A ++ put_at_seq g p n ∷ []) q
+  still_free : (A : List Op) (p : NewPut) (n : ℕ) (q : NewPut) → ¬ (q.client ≡ p.client) → IsFree A q → IsFree (A ++ put_at_seq g moment p n ∷ []) q
   still_free A p n q h free k next =
-      puts-other q.client A (put_at_seq g p n ∷ []) (k, g) (ap (λ b. cons_option (if b then Some ((n, g), record { origin = g; seq = n; topic = p.topic; qos = p.qos; retain = false; expires = 0; body = p.body }) else None) []) (same_client-apart q.client p.client h))
+      puts-other q.client A (put_at_seq g moment p n ∷ []) (k, g) (ap (λ b. cons_option (if b then Some ((n, g), record { origin = g; seq = n; topic = p.topic; qos = p.qos; retain = false; expires = moment; body = p.body }) else None) []) (same_client-apart q.client p.client h))
       ∙ free k next
 
-  pub puts-fresh : (S : List Op) (new : List NewPut) (before after : List Op) → IsOneEach new → AllByRecursion (IsFree (S ++ before)) new → AreFresh S before → with_puts g seq new before ≡ Some after → AreFresh S after
+  pub puts-fresh : (S : List Op) (new : List NewPut) (before after : List Op) → IsOneEach new → AllByRecursion (IsFree (S ++ before)) new → AreFresh S before → with_puts g moment seq new before ≡ Some after → AreFresh S after
   puts-fresh S [] before after one free fresh e = subst (AreFresh S) (same_Some before after e) fresh
   puts-fresh S (p ∷ rest) before after one free fresh e =
-      let m = and_then-some (λ n. with_puts g seq rest (before ++ put_at_seq g p n ∷ [])) (seq p.client) after e in
-      let longer : List Op = before ++ put_at_seq g p m.0 ∷ [] in
+      let m = and_then-some (λ n. with_puts g moment seq rest (before ++ put_at_seq g moment p n ∷ [])) (seq p.client) after e in
+      let longer : List Op = before ++ put_at_seq g moment p m.0 ∷ [] in
       puts-fresh S rest longer after one.1
-      (subst (λ A. AllByRecursion (IsFree A) rest) (append_assoc S before (put_at_seq g p m.0 ∷ []))
-      (all-both (λ (q : NewPut). ¬ (q.client ≡ p.client)) (IsFree (S ++ before)) (IsFree ((S ++ before) ++ put_at_seq g p m.0 ∷ [])) (still_free (S ++ before) p m.0) rest one.0 free.1))
-      (fresh-append S before (put_at_seq g p m.0 ∷ []) fresh (free.0 m.0 m.1, tt))
+      (subst (λ A. AllByRecursion (IsFree A) rest) (append_assoc S before (put_at_seq g moment p m.0 ∷ []))
+      (all-both (λ (q : NewPut). ¬ (q.client ≡ p.client)) (IsFree (S ++ before)) (IsFree ((S ++ before) ++ put_at_seq g moment p m.0 ∷ [])) (still_free (S ++ before) p m.0) rest one.0 free.1))
+      (fresh-append S before (put_at_seq g moment p m.0 ∷ []) fresh (free.0 m.0 m.1, tt))
       m.2
 
-module _ (g : ℕ) (c : List ℕ) where
+module _ (g moment : ℕ) (c : List ℕ) where
   -- from this number on the client has no message of the gateway's
   abbrev IsBare : List Op → Option ℕ → Type 0
   IsBare A next = IfSome next (λ n. (k : ℕ) → n ≤ k → put_at c A (k, g) ≡ None)
 
-  still_bare : (A : List Op) (p : Posted) (n : ℕ) → ((k : ℕ) → n ≤ k → put_at c A (k, g) ≡ None) → (next : Option ℕ) → IfSome next (λ m. n + 1 ≤ m) → IsBare (A ++ handed_at_seq g c p n ∷ []) next
+  still_bare : (A : List Op) (p : Posted) (n : ℕ) → ((k : ℕ) → n ≤ k → put_at c A (k, g) ≡ None) → (next : Option ℕ) → IfSome next (λ m. n + 1 ≤ m) → IsBare (A ++ handed_at_seq g moment c p n ∷ []) next
   still_bare A p n bare None h = tt
   still_bare A p n bare (Some m) h = λ k least.
       let more : n + 1 ≤ m = h in
-      let new : Put = record { origin = g; seq = n; topic = p.topic; qos = p.qos; retain = true; expires = 0; body = p.body } in
+      let new : Put = record { origin = g; seq = n; topic = p.topic; qos = p.qos; retain = true; expires = moment; body = p.body } in
       put_at_both c A (OfPut c new ∷ []) (k, g) ∙ none_or (put_at c A (k, g)) (put_at c (OfPut c new ∷ []) (k, g)) (bare k (omega (arith, more, least)))
       ∙ alone-apart c new k (λ e. omega (arith, e, more, least))
 
@@ -118,11 +118,11 @@ module _ (g : ℕ) (c : List ℕ) where
     | false ↦ tt
   ]
 
-  handed-fresh : (S : List Op) (handed : List Posted) (next : Option ℕ) (before after : List Op) → IsBare (S ++ before) next → AreFresh S before → with_handed g c next handed before ≡ Some after → AreFresh S after
+  handed-fresh : (S : List Op) (handed : List Posted) (next : Option ℕ) (before after : List Op) → IsBare (S ++ before) next → AreFresh S before → with_handed g moment c next handed before ≡ Some after → AreFresh S after
   handed-fresh S [] next before after bare fresh e = subst (AreFresh S) (same_Some before after e) fresh
   handed-fresh S (p ∷ rest) None before after bare fresh e = absurd (none-some after e)
   handed-fresh S (p ∷ rest) (Some n) before after bare fresh e =
-      let one : List Op = handed_at_seq g c p n ∷ [] in
+      let one : List Op = handed_at_seq g moment c p n ∷ [] in
       handed-fresh S rest (one_more n) (before ++ one) after
       (subst (λ A. IsBare A (one_more n)) (append_assoc S before one) (still_bare (S ++ before) p n bare (one_more n) (after_one n)))
       (fresh-append S before one fresh (bare n (omega arith), tt))
@@ -164,10 +164,10 @@ module _ (g : ℕ) (c : List ℕ) (S : List Op) (d : Drafted) (plan : Plan) (pla
 
   pub handed-retains : (t : List ℕ) → retains t cut.handed ≡ []
   handed-retains t =
-      handed-passed g seq_in clock_now c (retain_of t) (λ p n. refl) d.handed (next_seq c g S) before cut.handed cut.is_handed
+      handed-passed g seq_in clock_now c d.expires (retain_of t) (λ p n. refl) d.handed (next_seq c g S) before cut.handed cut.is_handed
       ∙ before-none g c (retain_of t) (written-retains g c t) (λ name. refl) (view c S) (next_epoch c S) d.changes cut.w cut.is_written d.acks
 
-  start-bare : (next : Option ℕ) → next_seq c g S ≡ next → IsBare g c (S ++ before) next
+  start-bare : (next : Option ℕ) → next_seq c g S ≡ next → IsBare g d.expires c (S ++ before) next
   start-bare None e = tt
   start-bare (Some n) e = λ k least. puts-other c S before (k, g) (before-puts c) ∙ unput c g S n k e least
 
@@ -175,29 +175,29 @@ module _ (g : ℕ) (c : List ℕ) (S : List Op) (d : Drafted) (plan : Plan) (pla
   kept-fresh flush =
       retain-fresh g clock_now S d.retain cut.handed cut.kept
       (λ t n next. retains-other t S cut.handed (n, g) (handed-retains t) ∙ next_clock-free t S n g next)
-      (handed-fresh g c S d.handed (next_seq c g S) before cut.handed (start-bare (next_seq c g S) refl) (before-fresh flush) cut.is_handed)
+      (handed-fresh g d.expires c S d.handed (next_seq c g S) before cut.handed (start-bare (next_seq c g S) refl) (before-fresh flush) cut.is_handed)
       cut.is_kept
 
   -- where nothing is handed there are no messages yet
   kept-puts : d.handed ≡ [] → (e : List ℕ) → puts e cut.kept ≡ []
   kept-puts none e =
-      let given : with_handed g c (next_seq c g S) [] before ≡ Some cut.handed = ap (λ xs. with_handed g c (next_seq c g S) xs before) (sym none) ∙ cut.is_handed in
+      let given : with_handed g d.expires c (next_seq c g S) [] before ≡ Some cut.handed = ap (λ xs. with_handed g d.expires c (next_seq c g S) xs before) (sym none) ∙ cut.is_handed in
       retain-passed g seq_in clock_now (put_of e) (λ p n. refl) d.retain cut.handed cut.kept cut.is_kept
       ∙ ap (puts e) (sym (same_Some before cut.handed given)) ∙ before-puts e
 
   -- where nothing is put either there are none
   pub bare-puts : d.handed ≡ [] → d.puts ≡ [] → (e : List ℕ) → puts e plan.ops ≡ []
   bare-puts bare none e =
-      let last : with_puts g seq_in [] cut.kept ≡ Some plan.ops = ap (λ xs. with_puts g seq_in xs cut.kept) (sym none) ∙ cut.is_numbered in
+      let last : with_puts g d.expires seq_in [] cut.kept ≡ Some plan.ops = ap (λ xs. with_puts g d.expires seq_in xs cut.kept) (sym none) ∙ cut.is_numbered in
       ap (puts e) (sym (same_Some cut.kept plan.ops last)) ∙ kept-puts bare e
 
   pub plan-fresh : IsFlush g c S → IsApart d → AreFresh S plan.ops
   plan-fresh flush apart = elim apart.alone [
-    | inl none ↦ puts-fresh g seq_in S d.puts cut.kept plan.ops apart.one_each
-        (all-given (IsFree g seq_in (S ++ cut.kept)) (λ p n next. puts-other p.client S cut.kept (n, g) (kept-puts none p.client) ∙ unput p.client g S n n next (omega arith)) d.puts)
+    | inl none ↦ puts-fresh g d.expires seq_in S d.puts cut.kept plan.ops apart.one_each
+        (all-given (IsFree g d.expires seq_in (S ++ cut.kept)) (λ p n next. puts-other p.client S cut.kept (n, g) (kept-puts none p.client) ∙ unput p.client g S n n next (omega arith)) d.puts)
         (kept-fresh flush) cut.is_numbered
     | inr none ↦
-        let last : with_puts g seq_in [] cut.kept ≡ Some plan.ops = ap (λ xs. with_puts g seq_in xs cut.kept) (sym none) ∙ cut.is_numbered in
+        let last : with_puts g d.expires seq_in [] cut.kept ≡ Some plan.ops = ap (λ xs. with_puts g d.expires seq_in xs cut.kept) (sym none) ∙ cut.is_numbered in
         subst (AreFresh S) (same_Some cut.kept plan.ops last) (kept-fresh flush)
   ]
 

@@ -113,7 +113,7 @@ module _ (g : ℕ) (c : List ℕ) (S : List Op) (d : Drafted) (plan : Plan) (pla
       let before : List Op = cut.w.ops ++ map (ack_of c) d.acks in
       let first : written c g [] start ≡ Some cut.w = ap (λ xs. written c g xs start) (sym changes) ∙ cut.is_written in
       let ops : cut.w.ops ≡ [] = ap (λ (w : Written). w.ops) (sym (same_Some start cut.w first)) in
-      let given : with_handed g c (seq_of_step c) [] before ≡ Some cut.handed = ap (λ xs. with_handed g c (seq_of_step c) xs before) (sym handed) ∙ cut.is_handed in
+      let given : with_handed g d.expires c (seq_of_step c) [] before ≡ Some cut.handed = ap (λ xs. with_handed g d.expires c (seq_of_step c) xs before) (sym handed) ∙ cut.is_handed in
       let kept : with_retain g clock_of_step None cut.handed ≡ Some cut.kept = ap (λ posted. with_retain g clock_of_step posted cut.handed) (sym retain) ∙ cut.is_kept in
-      let last : with_puts g seq_of_step [] cut.kept ≡ Some plan.ops = ap (λ xs. with_puts g seq_of_step xs cut.kept) (sym puts) ∙ cut.is_numbered in
+      let last : with_puts g d.expires seq_of_step [] cut.kept ≡ Some plan.ops = ap (λ xs. with_puts g d.expires seq_of_step xs cut.kept) (sym puts) ∙ cut.is_numbered in
       sym (same_Some cut.kept plan.ops last) ∙ sym (same_Some cut.handed cut.kept kept) ∙ sym (same_Some before cut.handed given) ∙ (λ i. ops i ++ map (ack_of c) (acks i))

@@ -12,6 +12,7 @@ pub mod Freshness
 pub mod Leaving
 pub mod Retaining
 pub mod Waiting
+pub mod Moments
 pub mod Known
 pub mod Flushness
 pub mod Alone

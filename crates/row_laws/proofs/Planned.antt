@@ -83,12 +83,12 @@ module _ (g : ℕ) (seq clock : List ℕ → Option ℕ) where
   more-again a b c h k =
       (h.0 ++ k.0, k.1 ∙ ap (λ xs. xs ++ k.0) h.1 ∙ append_assoc a h.0 k.0, all-append (IsNumbered g seq clock) h.0 k.0 h.2 k.2)
 
-  pub puts-more : (puts : List NewPut) (before after : List Op) → with_puts g seq puts before ≡ Some after → IsMore before after
-  puts-more [] before after e = none-more before after e
-  puts-more (p ∷ rest) before after e =
-      let m = and_then-some (λ n. with_puts g seq rest (before ++ put_at_seq g p n ∷ [])) (seq p.client) after e in
-      let r = puts-more rest (before ++ put_at_seq g p m.0 ∷ []) after m.2 in
-      (put_at_seq g p m.0 ∷ r.0, r.1 ∙ append_assoc before (put_at_seq g p m.0 ∷ []) r.0, ((refl, (m.0, m.1, omega arith)), r.2))
+  pub puts-more : (moment : ℕ) (puts : List NewPut) (before after : List Op) → with_puts g moment seq puts before ≡ Some after → IsMore before after
+  puts-more moment [] before after e = none-more before after e
+  puts-more moment (p ∷ rest) before after e =
+      let m = and_then-some (λ n. with_puts g moment seq rest (before ++ put_at_seq g moment p n ∷ [])) (seq p.client) after e in
+      let r = puts-more moment rest (before ++ put_at_seq g moment p m.0 ∷ []) after m.2 in
+      (put_at_seq g moment p m.0 ∷ r.0, r.1 ∙ append_assoc before (put_at_seq g moment p m.0 ∷ []) r.0, ((refl, (m.0, m.1, omega arith)), r.2))
 
   pub retain-more : (retain : Option Posted) (before after : List Op) → with_retain g clock retain before ≡ Some after → IsMore before after
   retain-more None before after e = none-more before after e
@@ -97,12 +97,12 @@ module _ (g : ℕ) (seq clock : List ℕ → Option ℕ) where
       (retain_at_clock g p n.0 ∷ [], sym n.2, ((refl, n.1), tt))
 
   -- readers that pass over what is put, or retained
-  pub puts-passed : {X : Type 0} (f : Op → Option X) → ((p : NewPut) (n : ℕ) → f (put_at_seq g p n) ≡ None) → (puts : List NewPut) (before after : List Op) → with_puts g seq puts before ≡ Some after
+  pub puts-passed : {X : Type 0} (moment : ℕ) (f : Op → Option X) → ((p : NewPut) (n : ℕ) → f (put_at_seq g moment p n) ≡ None) → (puts : List NewPut) (before after : List Op) → with_puts g moment seq puts before ≡ Some after
       → filter_map f after ≡ filter_map f before
-  puts-passed f h [] before after e = ap (filter_map f) (sym (same_Some before after e))
-  puts-passed f h (p ∷ rest) before after e =
-      let m = and_then-some (λ n. with_puts g seq rest (before ++ put_at_seq g p n ∷ [])) (seq p.client) after e in
-      puts-passed f h rest (before ++ put_at_seq g p m.0 ∷ []) after m.2 ∙ one-passed f before (put_at_seq g p m.0) (h p m.0)
+  puts-passed moment f h [] before after e = ap (filter_map f) (sym (same_Some before after e))
+  puts-passed moment f h (p ∷ rest) before after e =
+      let m = and_then-some (λ n. with_puts g moment seq rest (before ++ put_at_seq g moment p n ∷ [])) (seq p.client) after e in
+      puts-passed moment f h rest (before ++ put_at_seq g moment p m.0 ∷ []) after m.2 ∙ one-passed f before (put_at_seq g moment p m.0) (h p m.0)
 
   pub retain-passed : {X : Type 0} (f : Op → Option X) → ((p : Posted) (n : ℕ) → f (retain_at_clock g p n) ≡ None) → (retain : Option Posted) (before after : List Op) → with_retain g clock retain before ≡ Some after
       → filter_map f after ≡ filter_map f before
@@ -113,12 +113,12 @@ module _ (g : ℕ) (seq clock : List ℕ → Option ℕ) where
 
   module _ (c : List ℕ) where
     -- a reader that passes over what is handed
-    pub handed-passed : {X : Type 0} (f : Op → Option X) → ((p : Posted) (n : ℕ) → f (handed_at_seq g c p n) ≡ None) → (handed : List Posted) (next : Option ℕ) (before after : List Op)
-        → with_handed g c next handed before ≡ Some after → filter_map f after ≡ filter_map f before
-    handed-passed f h [] next before after e = ap (filter_map f) (sym (same_Some before after e))
-    handed-passed f h (p ∷ rest) None before after e = absurd (none-some after e)
-    handed-passed f h (p ∷ rest) (Some n) before after e =
-        handed-passed f h rest (one_more n) (before ++ handed_at_seq g c p n ∷ []) after e ∙ one-passed f before (handed_at_seq g c p n) (h p n)
+    pub handed-passed : {X : Type 0} (moment : ℕ) (f : Op → Option X) → ((p : Posted) (n : ℕ) → f (handed_at_seq g moment c p n) ≡ None) → (handed : List Posted) (next : Option ℕ) (before after : List Op)
+        → with_handed g moment c next handed before ≡ Some after → filter_map f after ≡ filter_map f before
+    handed-passed moment f h [] next before after e = ap (filter_map f) (sym (same_Some before after e))
+    handed-passed moment f h (p ∷ rest) None before after e = absurd (none-some after e)
+    handed-passed moment f h (p ∷ rest) (Some n) before after e =
+        handed-passed moment f h rest (one_more n) (before ++ handed_at_seq g moment c p n ∷ []) after e ∙ one-passed f before (handed_at_seq g moment c p n) (h p n)
 
     -- a number from the next one of the client on
     abbrev IsFrom : ℕ → Type 0
@@ -128,19 +128,19 @@ module _ (g : ℕ) (seq clock : List ℕ → Option ℕ) where
     later-from n from None h = tt
     later-from n from (Some k) h = let least = from.2 in let more : n ≤ k = h in (from.0, from.1, omega (arith, least, more))
 
-    handed-from : (handed : List Posted) (next : Option ℕ) → IfSome next IsFrom → (before after : List Op) → with_handed g c next handed before ≡ Some after → IsMore before after
-    handed-from [] next from before after e = none-more before after e
-    handed-from (p ∷ rest) None from before after e = absurd (none-some after e)
-    handed-from (p ∷ rest) (Some n) from before after e =
-        let r = handed-from rest (one_more n) (later-from n from (one_more n) (no_less n n (omega arith))) (before ++ handed_at_seq g c p n ∷ []) after e in
-        (handed_at_seq g c p n ∷ r.0, r.1 ∙ append_assoc before (handed_at_seq g c p n ∷ []) r.0, ((refl, from), r.2))
+    handed-from : (moment : ℕ) (handed : List Posted) (next : Option ℕ) → IfSome next IsFrom → (before after : List Op) → with_handed g moment c next handed before ≡ Some after → IsMore before after
+    handed-from moment [] next from before after e = none-more before after e
+    handed-from moment (p ∷ rest) None from before after e = absurd (none-some after e)
+    handed-from moment (p ∷ rest) (Some n) from before after e =
+        let r = handed-from moment rest (one_more n) (later-from n from (one_more n) (no_less n n (omega arith))) (before ++ handed_at_seq g moment c p n ∷ []) after e in
+        (handed_at_seq g moment c p n ∷ r.0, r.1 ∙ append_assoc before (handed_at_seq g moment c p n ∷ []) r.0, ((refl, from), r.2))
 
     first-from : (next : Option ℕ) → seq c ≡ next → IfSome next IsFrom
     first-from None e = tt
     first-from (Some n) e = (n, e, omega arith)
 
-    pub handed-more : (handed : List Posted) (before after : List Op) → with_handed g c (seq c) handed before ≡ Some after → IsMore before after
-    handed-more handed before after e = handed-from handed (seq c) (first-from (seq c) refl) before after e
+    pub handed-more : (moment : ℕ) (handed : List Posted) (before after : List Op) → with_handed g moment c (seq c) handed before ≡ Some after → IsMore before after
+    handed-more moment handed before after e = handed-from moment handed (seq c) (first-from (seq c) refl) before after e
 
 -- a plan is the session operations that were written, then the acknowledgements, what is handed, what is retained, and the messages
 pub record Parts (g : ℕ) (c : List ℕ) (v : ClientView) (epoch : Option ℕ) (seq clock : List ℕ → Option ℕ) (d : Drafted) (ops : List Op) : Type 0 where
@@ -148,9 +148,9 @@ pub record Parts (g : ℕ) (c : List ℕ) (v : ClientView) (epoch : Option ℕ) 
   pub handed : List Op
   pub kept : List Op
   pub is_written : written c g d.changes (start_of g v epoch) ≡ Some w
-  pub is_handed : with_handed g c (seq c) d.handed (w.ops ++ map (ack_of c) d.acks) ≡ Some handed
+  pub is_handed : with_handed g d.expires c (seq c) d.handed (w.ops ++ map (ack_of c) d.acks) ≡ Some handed
   pub is_kept : with_retain g clock d.retain handed ≡ Some kept
-  pub is_numbered : with_puts g seq d.puts kept ≡ Some ops
+  pub is_numbered : with_puts g d.expires seq d.puts kept ≡ Some ops
 
 module _ (g : ℕ) (c : List ℕ) (v : ClientView) (epoch : Option ℕ) (seq clock : List ℕ → Option ℕ) (d : Drafted) where
   pub planned-parts : (plan : Plan) → planned g c v epoch seq clock d ≡ Some plan → Parts g c v epoch seq clock d plan.ops
@@ -159,13 +159,13 @@ module _ (g : ℕ) (c : List ℕ) (v : ClientView) (epoch : Option ℕ) (seq clo
       let m = and_then-some (rest_of g c seq clock d) (written c g d.changes (start_of g v epoch)) plan e in
       let acks : List Op = m.0.ops ++ map (ack_of c) d.acks in
       let n = map-some (plan_with d) (numbered g c seq clock d acks) plan m.2 in
-      let k = and_then-some (with_puts g seq d.puts) (option_and_then (with_retain g clock d.retain) (with_handed g c (seq c) d.handed acks)) n.0 n.1 in
-      let h = and_then-some (with_retain g clock d.retain) (with_handed g c (seq c) d.handed acks) k.0 k.1 in
+      let k = and_then-some (with_puts g d.expires seq d.puts) (option_and_then (with_retain g clock d.retain) (with_handed g d.expires c (seq c) d.handed acks)) n.0 n.1 in
+      let h = and_then-some (with_retain g clock d.retain) (with_handed g d.expires c (seq c) d.handed acks) k.0 k.1 in
       record { w = m.0; handed = h.0; kept = k.0; is_written = m.1; is_handed = h.1; is_kept = h.2; is_numbered = k.2 ∙ ap (λ (p : Plan). Some p.ops) n.2 }
 
   -- behind the acknowledgements there are operations under new numbers alone
   pub parts-more : (ops : List Op) (p : Parts g c v epoch seq clock d ops) → IsMore g seq clock (p.w.ops ++ map (ack_of c) d.acks) ops
   parts-more ops p =
       more-again g seq clock (p.w.ops ++ map (ack_of c) d.acks) p.kept ops
-      (more-again g seq clock (p.w.ops ++ map (ack_of c) d.acks) p.handed p.kept (handed-more g seq clock c d.handed (p.w.ops ++ map (ack_of c) d.acks) p.handed p.is_handed) (retain-more g seq clock d.retain p.handed p.kept p.is_kept))
-      (puts-more g seq clock d.puts p.kept ops p.is_numbered)
+      (more-again g seq clock (p.w.ops ++ map (ack_of c) d.acks) p.handed p.kept (handed-more g seq clock c d.expires d.handed (p.w.ops ++ map (ack_of c) d.acks) p.handed p.is_handed) (retain-more g seq clock d.retain p.handed p.kept p.is_kept))
+      (puts-more g seq clock d.expires d.puts p.kept ops p.is_numbered)

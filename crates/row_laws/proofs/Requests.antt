@@ -26,7 +26,7 @@ after change = applied empty_session change
 
 -- these changes, and this frame to the client
 abbrev drafted : List SessionOp → List ℕ → Drafted
-drafted changes bytes = record { changes = changes; acks = []; handed = []; retain = None; puts = []; sends = record { to = seven; bytes = bytes } ∷ []; local = [] }
+drafted changes bytes = record { changes = changes; acks = []; handed = []; retain = None; puts = []; expires = 0; sends = record { to = seven; bytes = bytes } ∷ []; local = [] }
 
 -- a set in which nothing is retained
 abbrev nothing_yet : Seen

@@ -40,7 +40,7 @@ module _ (g : ℕ) (c : List ℕ) (S : List Op) (d : Drafted) (plan : Plan) (pla
   -- neither messages nor what is handed retains anything
   module _ (t : List ℕ) where
     kept-read : retains t plan.ops ≡ retains t parts.kept
-    kept-read = puts-passed g seq_now clock_now (retain_of t) (λ p n. refl) d.puts parts.kept plan.ops parts.is_numbered
+    kept-read = puts-passed g seq_now clock_now d.expires (retain_of t) (λ p n. refl) d.puts parts.kept plan.ops parts.is_numbered
 
     none-read : retains t parts.handed ≡ []
     none-read = handed-retains g c S d plan planned t

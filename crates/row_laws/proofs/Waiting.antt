@@ -25,12 +25,12 @@ use Rattle.row_laws.proofs.Freshness.{IsUnacknowledged, plan-fresh, plan-unacked
 use Rattle.row_laws.proofs.Leaving.{acked-plan, names-acked}
 use Rattle.sn_plan.proofs.Standing.{fresh-stand}
 
-puts-messages : (g : ℕ) (seq : List ℕ → Option ℕ) (new : List NewPut) (before after : List Op) → with_puts g seq new before ≡ Some after → messages after ≡ messages before ++ new
-puts-messages g seq [] before after e = ap messages (sym (same_Some before after e)) ∙ sym (append-nil (messages before))
-puts-messages g seq (p ∷ rest) before after e =
-    let m = and_then-some (λ n. with_puts g seq rest (before ++ put_at_seq g p n ∷ [])) (seq p.client) after e in
-    puts-messages g seq rest (before ++ put_at_seq g p m.0 ∷ []) after m.2
-    ∙ ap (λ xs. xs ++ rest) (filter_map-append message_of before (put_at_seq g p m.0 ∷ []))
+puts-messages : (g moment : ℕ) (seq : List ℕ → Option ℕ) (new : List NewPut) (before after : List Op) → with_puts g moment seq new before ≡ Some after → messages after ≡ messages before ++ new
+puts-messages g moment seq [] before after e = ap messages (sym (same_Some before after e)) ∙ sym (append-nil (messages before))
+puts-messages g moment seq (p ∷ rest) before after e =
+    let m = and_then-some (λ n. with_puts g moment seq rest (before ++ put_at_seq g moment p n ∷ [])) (seq p.client) after e in
+    puts-messages g moment seq rest (before ++ put_at_seq g moment p m.0 ∷ []) after m.2
+    ∙ ap (λ xs. xs ++ rest) (filter_map-append message_of before (put_at_seq g moment p m.0 ∷ []))
     ∙ append_assoc (messages before) (p ∷ []) rest
 
 written-messages : (g : ℕ) (c : List ℕ) (op : Op) → IsWritten g c op → message_of op ≡ None
@@ -52,12 +52,12 @@ written-posted g c (Ack d origin first last) h = absurd h
 written-posted g c (OfRetain topic kept) h = absurd h
 
 -- what is handed is read back
-handed-read : (g : ℕ) (c : List ℕ) (handed : List Posted) (next : Option ℕ) (before after : List Op) → with_handed g c next handed before ≡ Some after → handed_in after ≡ handed_in before ++ map (handed_to c) handed
-handed-read g c [] next before after e = ap handed_in (sym (same_Some before after e)) ∙ sym (append-nil (handed_in before))
-handed-read g c (p ∷ rest) None before after e = absurd (none-some after e)
-handed-read g c (p ∷ rest) (Some n) before after e =
-    handed-read g c rest (one_more n) (before ++ handed_at_seq g c p n ∷ []) after e
-    ∙ ap (λ xs. xs ++ map (handed_to c) rest) (filter_map-append handed_of before (handed_at_seq g c p n ∷ []))
+handed-read : (g moment : ℕ) (c : List ℕ) (handed : List Posted) (next : Option ℕ) (before after : List Op) → with_handed g moment c next handed before ≡ Some after → handed_in after ≡ handed_in before ++ map (handed_to c) handed
+handed-read g moment c [] next before after e = ap handed_in (sym (same_Some before after e)) ∙ sym (append-nil (handed_in before))
+handed-read g moment c (p ∷ rest) None before after e = absurd (none-some after e)
+handed-read g moment c (p ∷ rest) (Some n) before after e =
+    handed-read g moment c rest (one_more n) (before ++ handed_at_seq g moment c p n ∷ []) after e
+    ∙ ap (λ xs. xs ++ map (handed_to c) rest) (filter_map-append handed_of before (handed_at_seq g moment c p n ∷ []))
     ∙ append_assoc (handed_in before) (handed_to c p ∷ []) (map (handed_to c) rest)
 
 -- and so is what is retained
@@ -83,26 +83,26 @@ module _ (g : ℕ) (c : List ℕ) (seen : Seen) (d : Drafted) (plan : Plan) (pla
 
   pub plan-messages : messages plan.ops ≡ d.puts
   plan-messages =
-      puts-messages g seq d.puts parts.kept plan.ops parts.is_numbered
+      puts-messages g d.expires seq d.puts parts.kept plan.ops parts.is_numbered
       ∙ ap (λ xs. xs ++ d.puts)
       (retain-passed g seq seen.clock message_of (λ p n. refl) d.retain parts.handed parts.kept parts.is_kept
-      ∙ handed-passed g seq seen.clock c message_of (λ p n. refl) d.handed (seen.seq c g) before parts.handed parts.is_handed
+      ∙ handed-passed g seq seen.clock c d.expires message_of (λ p n. refl) d.handed (seen.seq c g) before parts.handed parts.is_handed
       ∙ nothing-yet message_of (written-messages g c) (λ name. refl))
 
   -- what the draft hands is handed to its client, and nobody else is handed anything
   pub plan-handed : handed_in plan.ops ≡ map (handed_to c) d.handed
   plan-handed =
-      puts-passed g seq seen.clock handed_of (λ p n. refl) d.puts parts.kept plan.ops parts.is_numbered
+      puts-passed g seq seen.clock d.expires handed_of (λ p n. refl) d.puts parts.kept plan.ops parts.is_numbered
       ∙ retain-passed g seq seen.clock handed_of (λ p n. refl) d.retain parts.handed parts.kept parts.is_kept
-      ∙ handed-read g c d.handed (seen.seq c g) before parts.handed parts.is_handed
+      ∙ handed-read g d.expires c d.handed (seen.seq c g) before parts.handed parts.is_handed
       ∙ ap (λ xs. xs ++ map (handed_to c) d.handed) (nothing-yet handed_of (written-handed g c) (λ name. refl))
 
   pub plan-retained : retained_in plan.ops ≡ option_to_list d.retain
   plan-retained =
-      puts-passed g seq seen.clock posted_of (λ p n. refl) d.puts parts.kept plan.ops parts.is_numbered
+      puts-passed g seq seen.clock d.expires posted_of (λ p n. refl) d.puts parts.kept plan.ops parts.is_numbered
       ∙ retain-read g seen.clock d.retain parts.handed parts.kept parts.is_kept
       ∙ ap (λ xs. xs ++ option_to_list d.retain)
-      (handed-passed g seq seen.clock c posted_of (λ p n. refl) d.handed (seen.seq c g) before parts.handed parts.is_handed
+      (handed-passed g seq seen.clock c d.expires posted_of (λ p n. refl) d.handed (seen.seq c g) before parts.handed parts.is_handed
       ∙ nothing-yet posted_of (written-posted g c) (λ name. refl))
 
 module _ (g : ℕ) (c : List ℕ) (S : List Op) (d : Drafted) (plan : Plan) (planned : plan_of g c (seen_of S) d ≡ Some plan) where

@@ -30,7 +30,7 @@ ghost use Rattle.sn_plan.specs.Others.{other};
 ghost use Rattle.sn_plan.specs.Numbering.{Written, start_of, written, handed_to, kept_as};
 ghost use Rattle.sn_local.specs.Seen.{Seen, seen_of};
 ghost use Rattle.sn_plan.specs.Plans.{plan_of};
-ghost use Rattle.sn_plan.specs.Own.{IsOwn, HasNoneOf, AddsNone, AreFresh, IsApart, Waits, messages, handed_in, retained_in, IsOfDraft, PublishesNothing, MakesNoMessage};
+ghost use Rattle.sn_plan.specs.Own.{IsOwn, HasNoneOf, AddsNone, AreFresh, IsApart, HasMoment, Waits, messages, handed_in, retained_in, IsOfDraft, PublishesNothing, MakesNoMessage};
 ghost use Rattle.sn_plan.specs.Flush.{IsFlush, AreFlush, Shows, session_with};
 
 /// A gateway writes under names of its own: the session operations of a plan are of the client that
@@ -99,13 +99,16 @@ pub fn fresh_names()
 {}
 
 /// Every message of a draft is written, and waits for its client after the step, unless the draft
-/// acknowledges it as well. So is what the draft hands, to its own client, in its order. What it
+/// acknowledges it as well. So is what the draft hands, to its own client, in its order. Each of
+/// these messages has the moment of the draft, from which on it need not wait. What the draft
 /// retains is written, and then it is what is retained of its topic.
 pub fn messages_wait()
     ensures all { (g : ℕ) (c : List ℕ) (seen : Seen) (d : Drafted) (plan : Plan)
         → plan_of g c seen d ≡ Some plan → messages plan.ops ≡ d.puts }
     ensures handed { (g : ℕ) (c : List ℕ) (seen : Seen) (d : Drafted) (plan : Plan)
         → plan_of g c seen d ≡ Some plan → handed_in plan.ops ≡ map (handed_to c) d.handed }
+    ensures moments { (g : ℕ) (c : List ℕ) (seen : Seen) (d : Drafted) (plan : Plan)
+        → plan_of g c seen d ≡ Some plan → AllByRecursion (HasMoment d.expires) plan.ops }
     ensures retained { (g : ℕ) (c : List ℕ) (seen : Seen) (d : Drafted) (plan : Plan)
         → plan_of g c seen d ≡ Some plan → retained_in plan.ops ≡ option_to_list d.retain }
     ensures wins { (g : ℕ) (c : List ℕ) (S : List Op) (d : Drafted) (plan : Plan) (m : Posted)

@@ -6,6 +6,8 @@ use Rattle.sn_frame.specs.declared.frame.Frame.TheVariants as frames
 use Rattle.sn_local.specs.declared.config.Addr.{Addr}
 use Rattle.sn_plan.specs.declared.plan.Plan.{Plan}
 use Rattle.sn_plan.specs.declared.row.Row.{Row}
+use Rattle.sn_plan.specs.Rows.{row_lasting}
+use Rattle.sn_local.specs.Lifetimes.{expires_at}
 use Rattle.sn_local.specs.Seen.{Seen}
 use Rattle.sn_local.specs.Locals.{Local}
 use Rattle.sn_flow.specs.Connection.{connect, disconnect}
@@ -48,7 +50,9 @@ row_for g predefined seen local a (frames.RegAck topic_id msg_id code) now =
 row_for g predefined seen local a (frames.PingReq client) now = wake g seen local a client now
 row_for g predefined seen local a frame now = other g local a frame now
 
--- the plan of a frame: its row, and what follows it; none if it needs a number after the last
-unfoldable pub step : ℕ → Entries → Seen → Local → Addr → Frame → ℕ → Option Plan
-step g predefined seen local a frame now =
-    deliver_next g predefined seen a now (row_for g predefined seen local a frame now)
+-- the plan of a frame: its row, and what follows it; none if it needs a number after the last. Each
+-- message that it makes has the moment at which the lifetime is over, if there is one.
+unfoldable pub step : ℕ → ℕ → Entries → Seen → Local → Addr → Frame → ℕ → Option Plan
+step g lifetime predefined seen local a frame now =
+    deliver_next g predefined seen a now
+    (row_lasting (expires_at lifetime now) (row_for g predefined seen local a frame now))

@@ -15,8 +15,8 @@ use rep_model::Replica;
 use sn_exchange::deliver_next;
 use sn_flow::{connect, disconnect, will_msg, will_msg_update, will_topic, will_topic_update};
 use sn_frame::{Flags, Frame};
-use sn_local::{Addr, Config, Dialogs, StepFault};
-use sn_plan::{Plan, Row, other};
+use sn_local::{Addr, Config, Dialogs, StepFault, expires_at};
+use sn_plan::{Plan, Row, lasting_row, other};
 use sn_subscribe::{register, subscribe, unsubscribe};
 use std::alloc::Global;
 
@@ -149,7 +149,8 @@ fn row_for<R: Replica>(
     }
 }
 
-/// What a gateway does when a frame comes from an address at a moment.
+/// What a gateway does when a frame comes from an address at a moment. Each message that it makes
+/// need not wait once the lifetime is over, if there is one.
 pub fn step<R: Replica>(
     alloc: Global,
     config: &Config,
@@ -160,9 +161,11 @@ pub fn step<R: Replica>(
     now: u64,
 ) -> Result<Plan, StepFault>
     requires { IsMessage frame.now }
-    ensures { Gives result (spec.step config.now.gateway config.now.predefined
+    ensures { Gives result (spec.step config.now.gateway config.now.lifetime config.now.predefined
         (seen_of (R.kept replica.now)) dialogs.now.local from frame.now now) }
 {
     let row = row_for(alloc, config, replica, dialogs, from, frame, now)?;
-    deliver_next(alloc, config, replica, from, now, row)
+    let moment = expires_at(config.lifetime, now);
+    let lasting = lasting_row(row, moment);
+    deliver_next(alloc, config, replica, from, now, lasting)
 }

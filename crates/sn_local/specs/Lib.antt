@@ -1,4 +1,5 @@
 pub mod Advertising
+pub mod Lifetimes
 pub mod Bindings
 pub mod Locals
 pub mod Timers

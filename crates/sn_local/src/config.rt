@@ -21,6 +21,9 @@ pub struct Config {
     pub gateway: u8,
     /// After how many seconds it advertises itself again; 0 for never (MQTT-SN 1.2 section 6.1).
     pub advertise: u16,
+    /// For how many seconds a message waits for its client at most, before it need not wait any
+    /// more; 0 for no such time.
+    pub lifetime: u32,
     /// Where it advertises itself.
     pub field: Sequence<Addr>,
     /// The topic ids that stand for names without registration.
@@ -41,6 +44,7 @@ impl Config {
         Ok(Config {
             gateway: self.gateway,
             advertise: self.advertise,
+            lifetime: self.lifetime,
             field: Sequence::new(Vec::from_slice(alloc, self.field.as_slice())?),
             predefined,
         })

@@ -26,4 +26,4 @@ no_retain d h = ap (λ (m : Made). m.2) h
 
 -- of the draft, what a plan for nobody has of it
 abbrev pub for_nobody : Drafted → Drafted
-for_nobody d = record { changes = []; acks = []; handed = []; retain = d.retain; puts = d.puts; sends = d.sends; local = d.local }
+for_nobody d = record { changes = []; acks = []; handed = []; retain = d.retain; puts = d.puts; expires = d.expires; sends = d.sends; local = d.local }

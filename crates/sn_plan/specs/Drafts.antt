@@ -12,14 +12,16 @@ use Rattle.sn_plan.specs.declared.draft.Posted.{Posted}
 use Rattle.sn_local.specs.declared.local.LocalChange.{LocalChange}
 
 -- changes of one client's session, acknowledgements of its puts (sequence number and origin), what
--- was retained and it is handed now, what is retained from now on, messages for any client, frames,
--- changes of the local state
+-- was retained and it is handed now, what is retained from now on, messages for any client, the
+-- moment from which on these and what is handed need not wait (0 for none), frames, changes of the
+-- local state
 pub record Drafted : Type 0 where
   pub changes : List SessionOp
   pub acks : List (ℕ × ℕ)
   pub handed : List Posted
   pub retain : Option Posted
   pub puts : List NewPut
+  pub expires : ℕ
   pub sends : List Send
   pub local : List LocalChange
 
@@ -32,6 +34,7 @@ nothing =
       handed = [];
       retain = None;
       puts = [];
+      expires = 0;
       sends = [];
       local = [];
     }
@@ -64,6 +67,10 @@ retain_if posted d = record d { retain = posted }
 -- and then these messages
 abbrev pub put_all : List NewPut → Drafted → Drafted
 put_all puts d = record d { puts = d.puts ++ puts }
+
+-- and each message that it makes need not wait from this moment on; 0 for none
+abbrev pub lasting : ℕ → Drafted → Drafted
+lasting moment d = record d { expires = moment }
 
 -- and then this frame
 abbrev pub sent : Addr → Frame → Drafted → Drafted

@@ -91,30 +91,31 @@ start_of g v next =
       ops = [];
     }
 
--- a message under a sequence number of the gateway's: since it is published, or since it was
--- retained
-abbrev pub put_under : ℕ → Bool → NewPut → ℕ → Op
-put_under g retain p n =
+-- a message under a sequence number of the gateway's, with the moment from which on it need not
+-- wait: since it is published, or since it was retained
+abbrev pub put_under : ℕ → ℕ → Bool → NewPut → ℕ → Op
+put_under g moment retain p n =
     OfPut p.client (record {
       origin = g;
       seq = n;
       topic = p.topic;
       qos = p.qos;
       retain = retain;
-      expires = 0;
+      expires = moment;
       body = p.body;
     })
 
 -- a message under a sequence number of the gateway's, as it is published: not since it was
 -- retained
-abbrev pub put_at_seq : ℕ → NewPut → ℕ → Op
-put_at_seq g p n = put_under g false p n
+abbrev pub put_at_seq : ℕ → ℕ → NewPut → ℕ → Op
+put_at_seq g moment p n = put_under g moment false p n
 
 -- the messages, each under the next sequence number of its client; one message a client
-abbrev pub with_puts : ℕ → (List ℕ → Option ℕ) → List NewPut → List Op → Option (List Op)
-with_puts g seq [] ops = Some ops
-with_puts g seq (p ∷ rest) ops =
-    option_and_then (λ n. with_puts g seq rest (ops ++ put_at_seq g p n ∷ [])) (seq p.client)
+abbrev pub with_puts : ℕ → ℕ → (List ℕ → Option ℕ) → List NewPut → List Op → Option (List Op)
+with_puts g moment seq [] ops = Some ops
+with_puts g moment seq (p ∷ rest) ops =
+    option_and_then (λ n. with_puts g moment seq rest (ops ++ put_at_seq g moment p n ∷ []))
+    (seq p.client)
 
 -- the message by which a client is handed what was retained
 abbrev pub handed_to : List ℕ → Posted → NewPut
@@ -122,16 +123,16 @@ handed_to c m = record { client = c; topic = m.topic; qos = m.qos; body = m.body
 
 -- a message that a client is handed, under a sequence number of the gateway's: since it was
 -- retained
-abbrev pub handed_at_seq : ℕ → List ℕ → Posted → ℕ → Op
-handed_at_seq g c m n = put_under g true (handed_to c m) n
+abbrev pub handed_at_seq : ℕ → ℕ → List ℕ → Posted → ℕ → Op
+handed_at_seq g moment c m n = put_under g moment true (handed_to c m) n
 
 -- what a client is handed: the first under its next sequence number, each under the number after
 -- the one before
-abbrev pub with_handed : ℕ → List ℕ → Option ℕ → List Posted → List Op → Option (List Op)
-with_handed g c next [] ops = Some ops
-with_handed g c next (m ∷ rest) ops =
+abbrev pub with_handed : ℕ → ℕ → List ℕ → Option ℕ → List Posted → List Op → Option (List Op)
+with_handed g moment c next [] ops = Some ops
+with_handed g moment c next (m ∷ rest) ops =
     option_and_then
-    (λ n. with_handed g c (one_more n) rest (ops ++ handed_at_seq g c m n ∷ [])) next
+    (λ n. with_handed g moment c (one_more n) rest (ops ++ handed_at_seq g moment c m n ∷ [])) next
 
 -- what is posted, as the gateway retains it under a clock
 abbrev pub kept_as : ℕ → Posted → ℕ → Retained
@@ -152,8 +153,9 @@ with_retain g clock (Some m) ops =
 abbrev pub numbered : ℕ → List ℕ → (List ℕ → Option ℕ) → (List ℕ → Option ℕ) → Drafted → List Op
     → Option (List Op)
 numbered g c seq clock d ops =
-    option_and_then (with_puts g seq d.puts)
-    (option_and_then (with_retain g clock d.retain) (with_handed g c (seq c) d.handed ops))
+    option_and_then (with_puts g d.expires seq d.puts)
+    (option_and_then (with_retain g clock d.retain)
+    (with_handed g d.expires c (seq c) d.handed ops))
 
 -- the acknowledgement of one put: of sequence number and origin
 abbrev pub ack_of : List ℕ → ℕ × ℕ → Op

@@ -97,6 +97,13 @@ posted_of (OfRetain t kept) = Some (record { topic = t; qos = kept.qos; body = k
 abbrev pub retained_in : List Op → List Posted
 retained_in ops = filter_map posted_of ops
 
+-- a message has this moment, from which on it need not wait
+abbrev pub HasMoment : ℕ → Op → Type 0
+HasMoment moment (OfSession c stamp counter change) = Unit {0}
+HasMoment moment (OfPut c put) = put.expires ≡ moment
+HasMoment moment (Ack c origin first last) = Unit {0}
+HasMoment moment (OfRetain t kept) = Unit {0}
+
 -- the message waits for its client; or the client acknowledges it by one of these names
 abbrev pub Waits : List Op → List ℕ → List (ℕ × ℕ) → Op → Type 0
 Waits S c acks (OfSession d stamp counter change) = Unit {0}

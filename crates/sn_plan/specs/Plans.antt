@@ -20,7 +20,7 @@ plan_without d = record { ops = []; sends = d.sends; local = d.local }
 abbrev pub plan_of_puts : ℕ → Seen → Drafted → Option Plan
 plan_of_puts g seen d =
     option_map (plan_with d)
-    (option_and_then (with_puts g (λ e. seen.seq e g) d.puts)
+    (option_and_then (with_puts g d.expires (λ e. seen.seq e g) d.puts)
     (with_retain g seen.clock d.retain []))
 
 -- Exhausted if and only if the definition has no plan; memory may run out at any time

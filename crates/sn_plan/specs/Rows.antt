@@ -7,7 +7,7 @@ use Rattle.sn_plan.specs.declared.plan.Plan.{Plan}
 use Rattle.sn_plan.specs.declared.row.Row.{Row}
 use Rattle.sn_plan.specs.declared.row.Follow.{Follow}
 use Rattle.sn_plan.specs.declared.row.Follow.TheVariants.{Nothing, Delivery}
-use Rattle.sn_plan.specs.Drafts.{Drafted, nothing, sent, moved}
+use Rattle.sn_plan.specs.Drafts.{Drafted, nothing, lasting, sent, moved}
 use Rattle.sn_local.specs.Seen.{Seen}
 use Rattle.sn_plan.specs.Plans.{plan_of, plan_of_puts}
 use Rattle.sn_plan.specs.Bound.{heard_of}
@@ -19,6 +19,10 @@ row_of follow c d = record { client = Some c; draft = d; follow = follow }
 -- a row for no client
 abbrev pub row_of_none : Drafted → Row
 row_of_none d = record { client = None; draft = d; follow = Nothing }
+
+-- and each message that it makes need not wait from this moment on; 0 for none
+abbrev pub row_lasting : ℕ → Row → Row
+row_lasting moment row = record row { draft = lasting moment row.draft }
 
 -- and then the client that is bound so far, if there is one, was heard of at this moment
 abbrev pub heard_row : Option (List ℕ) → ℕ → Row → Row

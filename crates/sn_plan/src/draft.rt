@@ -49,6 +49,7 @@ pub struct Draft {
     pub(crate) handed: Vec<Posted>,
     pub(crate) retain: Option<Posted>,
     pub(crate) puts: Vec<NewPut>,
+    pub(crate) expires: u64,
     pub(crate) sends: Vec<Send>,
     pub(crate) local: Vec<LocalChange>,
 }
@@ -64,13 +65,14 @@ impl Model for Draft {
       handed = d.handed.items;
       retain = d.retain;
       puts = d.puts.items;
+      expires = d.expires;
       sends = d.sends.items;
       local = d.local.items;
     } };
 }
 
 impl Draft {
-    ghost use Rattle.sn_plan.specs.Drafts.{nothing, changed, changed_if, acked, acked_all, sent, moved};
+    ghost use Rattle.sn_plan.specs.Drafts.{nothing, changed, changed_if, acked, acked_all, lasting, sent, moved};
     ghost use Rattle.sn_plan.specs.Drafts as spec;
 
     /// A step that does nothing.
@@ -83,6 +85,7 @@ impl Draft {
             handed: Vec::new(alloc),
             retain: None,
             puts: Vec::new(alloc),
+            expires: 0,
             sends: Vec::new(alloc),
             local: Vec::new(alloc),
         }
@@ -180,6 +183,13 @@ impl Draft {
         ensures { OnOk result (self.new ≡ spec.put_all puts.items self.old) }
     {
         extend_puts(&mut self.puts, puts)
+    }
+
+    /// And each message that it makes need not wait from this moment on, in seconds; 0 for none.
+    pub fn last_until(&mut self, expires: u64)
+        ensures { self.new ≡ lasting expires self.old }
+    {
+        self.expires = expires;
     }
 
     /// And then this frame.

@@ -264,14 +264,16 @@ impl Writer {
     }
 }
 
-/// Appends the messages, each under the next sequence number of its client.
+/// Appends the messages, each under the next sequence number of its client. All of them need not
+/// wait from one moment on.
 pub fn number_puts<R: Replica>(
     gateway: u8,
+    expires: u64,
     replica: &R,
     puts: Vec<NewPut>,
     ops: &mut Vec<Op>,
 ) -> Result<(), StepFault>
-    ensures { Becomes result ops.new.items (with_puts gateway
+    ensures { Becomes result ops.new.items (with_puts gateway expires
         (λ e. next_seq e gateway (R.kept replica.now)) puts.items ops.old.items) }
 {
     for new in puts {
@@ -290,7 +292,7 @@ pub fn number_puts<R: Replica>(
             topic,
             qos,
             retain: false,
-            expires: 0,
+            expires,
             body,
         };
         push(ops, Op::Put { client, put })?;
@@ -302,13 +304,14 @@ pub fn number_puts<R: Replica>(
 fn hand(
     alloc: Global,
     gateway: u8,
+    expires: u64,
     client: &ClientId,
     seq: u64,
     posted: Posted,
     ops: &mut Vec<Op>,
 ) -> Result<(), NoMemory>
     ensures { OnOk result (ops.new.items
-        ≡ ops.old.items ++ handed_at_seq gateway client.now posted seq ∷ []) }
+        ≡ ops.old.items ++ handed_at_seq gateway expires client.now posted seq ∷ []) }
 {
     let client = match client.copied(alloc) {
         Ok(client) => client,
@@ -324,7 +327,7 @@ fn hand(
         topic,
         qos,
         retain: true,
-        expires: 0,
+        expires,
         body,
     };
     push(ops, Op::Put { client, put })?;
@@ -336,12 +339,13 @@ fn hand(
 pub fn number_handed<R: Replica>(
     alloc: Global,
     gateway: u8,
+    expires: u64,
     replica: &R,
     client: &ClientId,
     handed: Vec<Posted>,
     ops: &mut Vec<Op>,
 ) -> Result<(), StepFault>
-    ensures { Becomes result ops.new.items (with_handed gateway client.now
+    ensures { Becomes result ops.new.items (with_handed gateway expires client.now
         (next_seq client.now gateway (R.kept replica.now)) handed.items ops.old.items) }
 {
     if handed.is_empty() {
@@ -353,7 +357,7 @@ pub fn number_handed<R: Replica>(
             drop(posted);
             return Err(StepFault::Exhausted);
         };
-        hand(alloc, gateway, client, seq, posted, ops)?;
+        hand(alloc, gateway, expires, client, seq, posted, ops)?;
         next = one_more(seq);
     }
     Ok(())

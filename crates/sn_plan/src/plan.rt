@@ -49,26 +49,28 @@ fn writer_of<R: Replica>(
 /// Appends what is retained, and then the messages.
 fn number_posts<R: Replica>(
     gateway: u8,
+    expires: u64,
     replica: &R,
     retain: Option<Posted>,
     puts: Vec<NewPut>,
     ops: &mut Vec<Op>,
 ) -> Result<(), StepFault>
     ensures { Becomes result ops.new.items (option_and_then
-        (with_puts gateway (λ e. next_seq e gateway (R.kept replica.now)) puts.items)
+        (with_puts gateway expires (λ e. next_seq e gateway (R.kept replica.now)) puts.items)
         (with_retain gateway (λ t. next_clock t (R.kept replica.now)) retain ops.old.items)) }
 {
     if let Err(fault) = number_retain(gateway, replica, retain, ops) {
         drop(puts);
         return Err(fault);
     }
-    number_puts(gateway, replica, puts, ops)
+    number_puts(gateway, expires, replica, puts, ops)
 }
 
 /// Appends what needs new numbers: what the client is handed, what is retained, the messages.
 fn number_all<R: Replica>(
     alloc: Global,
     gateway: u8,
+    expires: u64,
     replica: &R,
     client: &ClientId,
     handed: Vec<Posted>,
@@ -77,17 +79,17 @@ fn number_all<R: Replica>(
     ops: &mut Vec<Op>,
 ) -> Result<(), StepFault>
     ensures { Becomes result ops.new.items (option_and_then
-        (with_puts gateway (λ e. next_seq e gateway (R.kept replica.now)) puts.items)
+        (with_puts gateway expires (λ e. next_seq e gateway (R.kept replica.now)) puts.items)
         (option_and_then (with_retain gateway (λ t. next_clock t (R.kept replica.now)) retain)
-        (with_handed gateway client.now
+        (with_handed gateway expires client.now
         (next_seq client.now gateway (R.kept replica.now)) handed.items ops.old.items))) }
 {
-    if let Err(fault) = number_handed(alloc, gateway, replica, client, handed, ops) {
+    if let Err(fault) = number_handed(alloc, gateway, expires, replica, client, handed, ops) {
         drop(retain);
         drop(puts);
         return Err(fault);
     }
-    number_posts(gateway, replica, retain, puts, ops)
+    number_posts(gateway, expires, replica, retain, puts, ops)
 }
 
 /// The plan once the session operations are written.
@@ -110,12 +112,13 @@ fn rest_of<R: Replica>(
         handed,
         retain,
         puts,
+        expires,
         sends,
         local,
     } = draft;
     append_acks(alloc, client, acks.as_slice(), &mut ops)?;
     number_all(
-        alloc, gateway, replica, client, handed, retain, puts, &mut ops,
+        alloc, gateway, expires, replica, client, handed, retain, puts, &mut ops,
     )?;
     Ok(Plan {
         ops: Sequence::new(ops),
@@ -169,11 +172,12 @@ pub fn plan_of_puts<R: Replica>(
         handed: _,
         retain,
         puts,
+        expires,
         sends,
         local,
     } = draft;
     let mut ops = Vec::new(alloc);
-    number_posts(gateway, replica, retain, puts, &mut ops)?;
+    number_posts(gateway, expires, replica, retain, puts, &mut ops)?;
     Ok(Plan {
         ops: Sequence::new(ops),
         sends: Sequence::new(sends),
@@ -191,6 +195,7 @@ pub fn plan_without(alloc: Global, draft: Draft) -> Plan
         handed: _,
         retain: _,
         puts: _,
+        expires: _,
         sends,
         local,
     } = draft;

@@ -72,6 +72,14 @@ impl Row {
     }
 }
 
+/// A row of which each message need not wait from this moment on, in seconds; 0 for none.
+pub fn lasting_row(mut row: Row, expires: u64) -> Row
+    ensures { result ≡ spec.row_lasting expires row }
+{
+    row.draft.last_until(expires);
+    row
+}
+
 /// The row of a frame from an address that may be bound: its client was heard of.
 pub fn heard_row(
     alloc: Global,

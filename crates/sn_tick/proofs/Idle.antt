@@ -7,12 +7,14 @@ use Rattle.sn_topic.specs.Table.{Entries}
 use Rattle.sn_session.specs.declared.session.Session.{Session}
 use Rattle.sn_session.specs.declared.outbound.Outbound.{Outbound}
 use Rattle.rep_op.specs.declared.op.Put.{Put}
+use Rattle.rep_model.specs.Moments.{is_past}
 use Rattle.sn_local.specs.declared.config.Addr.{Addr}
 use Rattle.sn_local.specs.declared.local.Timer.{Timer}
 use Rattle.sn_local.specs.declared.local.WillDialog.{WillDialog}
 use Rattle.sn_local.specs.declared.local.LocalChange.TheVariants.{Heard, EndDialog}
 use Rattle.sn_plan.specs.declared.plan.Plan.{Plan}
-use Rattle.sn_plan.specs.Drafts.{Drafted, nothing, moved}
+use Rattle.sn_plan.specs.Drafts.{Drafted, nothing, lasting, moved}
+use Rattle.sn_local.specs.Lifetimes.{expires_at}
 use Rattle.sn_local.specs.Bindings.{address_of, is_stamp_of}
 use Rattle.sn_local.specs.Timers.{timer_of}
 use Rattle.sn_local.specs.Locals.{Local}
@@ -21,9 +23,10 @@ use Rattle.sn_local.specs.Seen.{Seen}
 use Rattle.sn_plan.specs.Plans.{plan_without}
 use Rattle.rep_model.specs.declared.view.ClientView.{ClientView}
 use Rattle.sn_tick.specs.declared.due.Due.{Due}
-use Rattle.sn_tick.specs.declared.due.Due.TheVariants.{Loss, Retry}
+use Rattle.sn_tick.specs.declared.due.Due.TheVariants.{Expiry, Loss, Retry}
 use Rattle.sn_exchange.specs.Exchanges.{open_exchange, is_served}
-use Rattle.sn_tick.specs.Due.{patience, is_overdue, due_exchange, due_by, due_at, due_session, due_view, due_with, or_later, first_due}
+use Rattle.sn_tick.specs.Expiry.{under_way, is_under_way, is_expired, has_expired}
+use Rattle.sn_tick.specs.Due.{patience, is_overdue, due_exchange, due_by, due_at, due_session, expiry_or_due, due_view, due_with, or_later, first_due}
 use Rattle.sn_tick.specs.Ticking.{is_old, needs_timer, timer_begun, timers_begun, dialog_ended, dialogs_ended, cleaned, is_long_ago, may_advertise, advertised, plan_if_due, one_thing, tick}
 use Rattle.sn_tick.specs.Rest.{asks, is_idle}
 use Rattle.sn_tick.proofs.Calm.{some_none}
@@ -68,7 +71,7 @@ any_less p q (x ∷ xs) h none =
 
 -- ---- a tick that has nothing to do
 
-module _ (g advertise : ℕ) (field : List Addr) (predefined : Entries) (seen : Seen) (local : Local) (now : ℕ) where
+module _ (g lifetime advertise : ℕ) (field : List Addr) (predefined : Entries) (seen : Seen) (local : Local) (now : ℕ) where
   first_none : (cs : List (List ℕ)) → list_any (asks g seen local now) cs ≡ false → first_due g seen local now cs ≡ None
   first_none [] h = refl
   first_none (c ∷ cs) h =
@@ -76,7 +79,7 @@ module _ (g advertise : ℕ) (field : List Addr) (predefined : Entries) (seen : 
       let due = or_false (needs_timer g local.timers c (seen.of c)) (is_some (due_with g seen local now c)) parts.0 in
       ap (or_later (first_due g seen local now cs) c) (is_none (due_with g seen local now c) due.1) ∙ first_none cs parts.1
 
-  pub idle_tick : is_idle g advertise field seen local now ≡ true → tick g advertise field predefined seen local now ≡ Some (plan_without nothing)
+  pub idle_tick : is_idle g advertise field seen local now ≡ true → tick g lifetime advertise field predefined seen local now ≡ Some (plan_without nothing)
   idle_tick h =
       let parts = and_parts (not (may_advertise advertise field now local.advertised)) (not (list_any (is_old now) local.dialogs) && not (list_any (asks g seen local now) seen.all)) h in
       let more = and_parts (not (list_any (is_old now) local.dialogs)) (not (list_any (asks g seen local now) seen.all)) parts.1 in
@@ -89,9 +92,10 @@ module _ (g advertise : ℕ) (field : List Addr) (predefined : Entries) (seen : 
       fold_same (timer_begun g seen local.timers now) (asks g seen local now) nothing seen.all
       (λ c quiet. ap (λ b. if b then moved (Heard c now) nothing else nothing) (or_false (needs_timer g local.timers c (seen.of c)) (is_some (due_with g seen local now c)) quiet).0) none in
       let clean : cleaned g seen local now ≡ nothing = ap (timers_begun g seen local.timers now seen.all) dialogs ∙ timers in
-      ap (one_thing g advertise field predefined seen local now) clean
-      ∙ ap (λ b. if b then Some (plan_without (advertised g advertise field now nothing)) else plan_if_due g predefined seen now nothing (first_due g seen local now seen.all)) told
-      ∙ ap (plan_if_due g predefined seen now nothing) (first_none seen.all none)
+      let first : Drafted = lasting (expires_at lifetime now) nothing in
+      ap (λ (d : Drafted). one_thing g advertise field predefined seen local now (lasting (expires_at lifetime now) d)) clean
+      ∙ ap (λ b. if b then Some (plan_without (advertised g advertise field now first)) else plan_if_due g predefined seen local now first (first_due g seen local now seen.all)) told
+      ∙ ap (plan_if_due g predefined seen local now first) (first_none seen.all none)
 
 -- ---- and before
 
@@ -145,10 +149,34 @@ module _ (n m : ℕ) (before : n ≤ m) where
   session_before pending timer a (Some s) h =
       both_less (is_overdue m s timer) (is_overdue n s timer) Loss (due_at m s pending timer a) (due_at n s pending timer a) (heard_before s timer) (at_before s pending timer a) h
 
+  not_there : (e : ℕ) → nat_le e m ≡ false → nat_le e n ≡ false
+  not_there e h = grind (arith, nat_tests, before)
+
+  left_less : (x y z : Bool) → (x ≡ false → y ≡ false) → (x && z) ≡ false → (y && z) ≡ false
+  left_less true y true f h = absurd (true≢false h)
+  left_less true true false f h = refl
+  left_less true false false f h = refl
+  left_less false y z f h = ap (λ b. b && z) (f refl)
+
+  -- what expires at a moment expires at each later one
+  expired_less : (name : Option (ℕ × ℕ)) (put : Put) → is_expired m name put ≡ false → is_expired n name put ≡ false
+  expired_less name put h =
+      left_less (is_past m put) (is_past n put) (not (is_under_way name put))
+      (and_less (nat_lt 0 put.expires) (nat_le put.expires m) (nat_le put.expires n) (not_there put.expires)) h
+
+  expired_before : (pending : List Put) (a : Option Addr) (session : Option Session) → has_expired m pending a session ≡ false → has_expired n pending a session ≡ false
+  expired_before pending a session h =
+      any_less (is_expired m (under_way pending a session)) (is_expired n (under_way pending a session)) pending (expired_less (under_way pending a session)) h
+
+  or_before : (pending : List Put) (timer : Option Timer) (a : Option Addr) (session : Option Session) → expiry_or_due m pending timer a session ≡ None → expiry_or_due n pending timer a session ≡ None
+  or_before pending timer a session h =
+      both_less (has_expired m pending a session) (has_expired n pending a session) Expiry (due_session m pending timer a session) (due_session n pending timer a session)
+      (expired_before pending a session) (session_before pending timer a session) h
+
   view_before : (g : ℕ) (local : Local) (c : List ℕ) (v : ClientView) → due_view g local m c v ≡ None → due_view g local n c v ≡ None
   view_before g local c v h =
-      if_less (is_stamp_of g v.stamp) (due_session m v.pending (timer_of c local.timers) (address_of c local.bindings) v.session) (due_session n v.pending (timer_of c local.timers) (address_of c local.bindings) v.session)
-      (session_before v.pending (timer_of c local.timers) (address_of c local.bindings) v.session) h
+      if_less (is_stamp_of g v.stamp) (expiry_or_due m v.pending (timer_of c local.timers) (address_of c local.bindings) v.session) (expiry_or_due n v.pending (timer_of c local.timers) (address_of c local.bindings) v.session)
+      (or_before v.pending (timer_of c local.timers) (address_of c local.bindings) v.session) h
 
   asks_before : (g : ℕ) (seen : Seen) (local : Local) (c : List ℕ) → asks g seen local m c ≡ false → asks g seen local n c ≡ false
   asks_before g seen local c h =

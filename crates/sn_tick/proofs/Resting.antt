@@ -1,13 +1,17 @@
--- Where nothing is due with a client at one address, nothing is due at any, and without one.
-use Rattle.std.proofs.Common.{◌≡◌, ℕ, ◌-◌, ◌||◌, Bool, true, false, not, if◌then◌else◌, nat_le, nat_lt, List, [], length, Option, Some, None, is_some, refl, ap, ◌∙◌, true≢false}
+-- If nothing is due with a client at one address, nothing is due at any, and without one. If no moment is there, nothing expires.
+use Rattle.std.proofs.Common.{◌≡◌, ℕ, ◌-◌, ◌&&◌, ◌||◌, Bool, true, false, not, if◌then◌else◌, nat_le, nat_lt, List, [], ◌∷◌, length, Option, Some, None, is_some, refl, ap, ◌∙◌, true≢false}
+use Rattle.std.specs.List.{list_any}
+use Rattle.std.proofs.lemmas.Bool.{or_parts}
 use Rattle.sn_session.specs.declared.session.Session.{Session}
 use Rattle.sn_session.specs.declared.outbound.Outbound.{Outbound}
 use Rattle.rep_op.specs.declared.op.Put.{Put}
+use Rattle.rep_model.specs.Moments.{is_past}
 use Rattle.sn_local.specs.declared.config.Addr.{Addr}
 use Rattle.sn_local.specs.declared.local.Timer.{Timer}
-use Rattle.sn_tick.specs.declared.due.Due.TheVariants.{Loss, Retry, Delivery}
+use Rattle.sn_tick.specs.declared.due.Due.TheVariants.{Expiry, Loss, Retry, Delivery}
 use Rattle.sn_exchange.specs.Exchanges.{open_exchange, is_served, is_awake}
-use Rattle.sn_tick.specs.Due.{is_overdue, due_exchange, due_by, due_at, due_session}
+use Rattle.sn_tick.specs.Expiry.{under_way, is_under_way, is_expired}
+use Rattle.sn_tick.specs.Due.{is_overdue, due_exchange, due_by, due_at, due_session, expiry_or_due}
 use Rattle.sn_tick.proofs.Calm.{some_none}
 
 -- what is nothing by the test
@@ -51,3 +55,21 @@ module _ (now : ℕ) (pending : List Put) (timer : Option Timer) (a : Addr) wher
   pub at_rest : (session : Option Session) → due_session now pending timer (Some a) session ≡ None → (o : Option Addr) → due_session now pending timer o session ≡ None
   at_rest None e o = refl
   at_rest (Some s) e o = else_none (is_overdue now s timer) Loss (due_at now s pending timer (Some a)) (due_at now s pending timer o) (same_at s o) e
+
+-- ---- expiries
+
+both_not : (a b : Bool) → a ≡ false → b ≡ false → (a || b) ≡ false
+both_not true b e f = absurd (true≢false e)
+both_not false b e f = f
+
+-- if no moment is there, nothing expires
+pub none_expires : (now : ℕ) (name : Option (ℕ × ℕ)) (pending : List Put) → list_any (is_past now) pending ≡ false → list_any (is_expired now name) pending ≡ false
+none_expires now name [] h = refl
+none_expires now name (put ∷ rest) h =
+    let parts = or_parts (is_past now put) (list_any (is_past now) rest) h in
+    both_not (is_expired now name put) (list_any (is_expired now name) rest) (ap (λ b. b && not (is_under_way name put)) parts.0) (none_expires now name rest parts.1)
+
+pub all_quiet : (now : ℕ) (pending : List Put) (timer : Option Timer) (a : Option Addr) (session : Option Session) → list_any (is_past now) pending ≡ false
+    → due_session now pending timer a session ≡ None → expiry_or_due now pending timer a session ≡ None
+all_quiet now pending timer a session none rest =
+    ap (λ b. if b then Some Expiry else due_session now pending timer a session) (none_expires now (under_way pending a session) pending none) ∙ rest

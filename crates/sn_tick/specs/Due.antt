@@ -1,4 +1,5 @@
 -- What time asks for: which client is due, and for what (MQTT-SN 1.2 sections 6.11, 6.13 and 6.14).
+-- A message that need not wait any more is due as well.
 -- Moments and durations are in seconds.
 use Rattle.std.specs.Prelude.{ℕ, ◌+◌, ◌-◌, ◌*◌, ◌/◌, Bool, false, ◌&&◌, ◌||◌, if◌then◌else◌, nat_lt, nat_le, List, [], ◌∷◌, length, Option, Some, None}
 use Rattle.sn_session.specs.declared.session.Session.{Session}
@@ -14,8 +15,9 @@ use Rattle.sn_local.specs.Locals.{Local}
 use Rattle.sn_plan.specs.Others.{is_up}
 use Rattle.sn_tick.specs.declared.due.TheConstants.{RETRY_AFTER, MAX_TRIES}
 use Rattle.sn_tick.specs.declared.due.Due.{Due}
-use Rattle.sn_tick.specs.declared.due.Due.TheVariants.{Loss, Retry, Delivery}
+use Rattle.sn_tick.specs.declared.due.Due.TheVariants.{Expiry, Loss, Retry, Delivery}
 use Rattle.sn_exchange.specs.Exchanges.{open_exchange, is_served, is_awake}
+use Rattle.sn_tick.specs.Expiry.{has_expired}
 
 -- how long a moment is ago, in seconds; 0 if the clock went back to before it
 abbrev pub elapsed : ℕ → ℕ → ℕ
@@ -68,14 +70,21 @@ due_session now pending timer a None = None
 due_session now pending timer a (Some s) =
     if is_overdue now s timer then Some Loss else due_at now s pending timer a
 
+-- an expiry goes before all that is due by the session
+abbrev pub expiry_or_due : ℕ → List Put → Option Timer → Option Addr → Option Session → Option Due
+expiry_or_due now pending timer a session =
+    if has_expired now pending a session then Some Expiry
+    else due_session now pending timer a session
+
 -- what is due with a client by its view; nothing if another gateway owns it
 abbrev pub due_view : ℕ → Local → ℕ → List ℕ → ClientView → Option Due
 due_view g local now c v =
     if is_stamp_of g v.stamp
-    then due_session now v.pending (timer_of c local.timers) (address_of c local.bindings) v.session
+    then expiry_or_due now v.pending (timer_of c local.timers) (address_of c local.bindings)
+    v.session
     else None
 
--- what is due with a client that the gateway owns: its loss, one more try, or Delivery
+-- what is due with a client that the gateway owns: an expiry, its loss, one more try, or Delivery
 abbrev pub due_with : ℕ → Seen → Local → ℕ → List ℕ → Option Due
 due_with g seen local now c = due_view g local now c (seen.of c)
 

@@ -1,3 +1,4 @@
 pub mod Due
+pub mod Expiry
 pub mod Rest
 pub mod Ticking

@@ -15,22 +15,24 @@ use Rattle.sn_local.specs.declared.local.WillDialog.{WillDialog}
 use Rattle.sn_local.specs.declared.local.LocalChange.TheVariants.{Unbind, Heard, Retried, EndDialog, Advertised}
 use Rattle.sn_plan.specs.declared.plan.Plan.{Plan}
 use Rattle.sn_plan.specs.declared.row.Row.{Row}
-use Rattle.sn_plan.specs.Drafts.{Drafted, nothing, changed, put_all, retain_if, sent, moved}
+use Rattle.sn_plan.specs.Drafts.{Drafted, nothing, changed, put_all, retain_if, lasting, sent, moved}
 use Rattle.sn_local.specs.Seen.{Seen}
 use Rattle.sn_plan.specs.Plans.{plan_of, plan_without}
 use Rattle.sn_local.specs.Bindings.{is_stamp_of}
 use Rattle.sn_local.specs.Timers.{timer_of}
 use Rattle.sn_local.specs.Locals.{Local}
+use Rattle.sn_local.specs.Lifetimes.{expires_at}
 use Rattle.sn_plan.specs.Bound.{session_of}
 use Rattle.sn_plan.specs.Others.{can_wake}
 use Rattle.sn_plan.specs.Rows.{row_of}
 use Rattle.sn_plan.specs.declared.row.Follow.TheVariants as follows
 use Rattle.sn_tick.specs.declared.ticking.TheConstants.{DIALOG_SECONDS}
 use Rattle.sn_tick.specs.declared.due.Due.{Due}
-use Rattle.sn_tick.specs.declared.due.Due.TheVariants.{Loss, Retry, Delivery}
+use Rattle.sn_tick.specs.declared.due.Due.TheVariants.{Expiry, Loss, Retry, Delivery}
 use Rattle.sn_publish.specs.Recipients.{puts_of_will}
 use Rattle.sn_publish.specs.Retaining.{retained_of_will}
 use Rattle.sn_exchange.specs.Following.{deliver_next}
+use Rattle.sn_tick.specs.Expiry.{expire_all}
 use Rattle.sn_tick.specs.Due.{elapsed, first_due}
 
 -- the CONNECT of a will dialog is a minute ago
@@ -109,28 +111,34 @@ lost seen c s d =
 abbrev pub retried : ℕ → Drafted → List ℕ → Row
 retried now d c = row_of follows.Resend c (moved (Retried c now) d)
 
--- the plan of what is due with a client: it is lost; or there is one try more, and Resend; or
--- Delivery
-abbrev pub plan_due : ℕ → Entries → Seen → ℕ → Drafted → List ℕ → Due → Option Plan
-plan_due g predefined seen now d c Loss = plan_of g c seen (lost seen c (session_of seen c) d)
-plan_due g predefined seen now d c (Retry a) =
+-- the plan of what is due with a client: what expires of it is acknowledged, and nothing is sent;
+-- or it is lost; or there is one try more, and Resend; or Delivery
+abbrev pub plan_due : ℕ → Entries → Seen → Local → ℕ → Drafted → List ℕ → Due → Option Plan
+plan_due g predefined seen local now d c Expiry = plan_of g c seen (expire_all seen local now c d)
+plan_due g predefined seen local now d c Loss =
+    plan_of g c seen (lost seen c (session_of seen c) d)
+plan_due g predefined seen local now d c (Retry a) =
     deliver_next g predefined seen a now (retried now d c)
-plan_due g predefined seen now d c (Delivery a) =
+plan_due g predefined seen local now d c (Delivery a) =
     deliver_next g predefined seen a now (row_of follows.Delivery c d)
 
 -- the plan of what is due with the client that was found; without one, of what every tick does
-abbrev pub plan_if_due : ℕ → Entries → Seen → ℕ → Drafted → Option (List ℕ × Due) → Option Plan
-plan_if_due g predefined seen now d None = Some (plan_without d)
-plan_if_due g predefined seen now d (Some found) = plan_due g predefined seen now d found.0 found.1
+abbrev pub plan_if_due : ℕ → Entries → Seen → Local → ℕ → Drafted → Option (List ℕ × Due)
+    → Option Plan
+plan_if_due g predefined seen local now d None = Some (plan_without d)
+plan_if_due g predefined seen local now d (Some found) =
+    plan_due g predefined seen local now d found.0 found.1
 
 -- one thing a tick: ADVERTISE; else what is due with the least client that is due; else nothing
 abbrev pub one_thing : ℕ → ℕ → List Addr → Entries → Seen → Local → ℕ → Drafted → Option Plan
 one_thing g advertise field predefined seen local now d =
     if may_advertise advertise field now local.advertised
     then Some (plan_without (advertised g advertise field now d))
-    else plan_if_due g predefined seen now d (first_due g seen local now seen.all)
+    else plan_if_due g predefined seen local now d (first_due g seen local now seen.all)
 
--- the plan of a tick: what every tick does, and one thing
-abbrev pub tick : ℕ → ℕ → List Addr → Entries → Seen → Local → ℕ → Option Plan
-tick g advertise field predefined seen local now =
-    one_thing g advertise field predefined seen local now (cleaned g seen local now)
+-- the plan of a tick: what every tick does, and one thing. Each message that it makes has the
+-- moment at which the lifetime is over, if there is one.
+abbrev pub tick : ℕ → ℕ → ℕ → List Addr → Entries → Seen → Local → ℕ → Option Plan
+tick g lifetime advertise field predefined seen local now =
+    one_thing g advertise field predefined seen local now
+    (lasting (expires_at lifetime now) (cleaned g seen local now))

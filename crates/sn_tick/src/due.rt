@@ -1,5 +1,5 @@
 //! What time asks for: which client is due, and for what (MQTT-SN 1.2 sections 6.11, 6.13 and
-//! 6.14).
+//! 6.14). Messages that need not wait any more are due as well.
 
 ghost use Rattle.std.specs.Prelude.{◌≡◌, ◌≤◌, Option, None, IfOk, IsTrue};
 ghost use Rattle.std.specs.Option.{option_copied};
@@ -8,8 +8,9 @@ ghost use Rattle.sn_local.specs.declared.config.Addr.{Addr as Address};
 ghost use Rattle.sn_local.specs.Seen.{seen_of};
 ghost use Rattle.sn_tick.specs.Due as spec;
 
+use super::expiry::{any_past, has_expired};
 use octets::NoMemory;
-use rep_model::{ClientView, Replica};
+use rep_model::{ClientView, Puts, Replica};
 use rep_ops::{ClientId, Put};
 use sn_exchange::{is_awake, is_served, open_exchange};
 use sn_local::{Addr, Dialogs, Timer, is_stamp_of};
@@ -26,6 +27,8 @@ pub const MAX_TRIES: u8 = 4;
 /// What is due with a client.
 #[derive(Clone, Copy, PartialEq, Eq)]
 pub enum Due {
+    /// Messages need not wait any more: they are acknowledged, and nothing is sent.
+    Expiry,
     /// It is lost: nothing was heard of it for too long.
     Loss,
     /// The frame of its open exchange is to be sent again, to this address.
@@ -174,6 +177,37 @@ fn is_at_rest(now: u64, pending: &[Put], timer: Option<&Timer>, session: &Option
     due_session(now, pending, timer, Some(anywhere), session).is_none()
 }
 
+/// What is due with a client of this session; an expiry goes before anything else.
+fn expiry_or_due(
+    now: u64,
+    pending: &Puts,
+    timer: Option<&Timer>,
+    address: Option<Addr>,
+    session: &Option<Session>,
+) -> Option<Due>
+    ensures { result ≡ spec.expiry_or_due now pending.now (option_copied timer.entry) address
+        session.now }
+{
+    if has_expired(now, pending, address, session) {
+        return Some(Due::Expiry);
+    }
+    due_session(now, pending.as_slice(), timer, address, session)
+}
+
+/// Whether nothing expires of a client of this session, and nothing else is due with it, wherever
+/// it may be.
+fn is_quiet(now: u64, pending: &Puts, timer: Option<&Timer>, session: &Option<Session>) -> bool
+    ensures { IsTrue result → (a : Option Address)
+        → spec.expiry_or_due now pending.now (option_copied timer.entry) a session.now ≡ None }
+{
+    let past = any_past(now, pending);
+    if past {
+        return false;
+    }
+    let puts = pending.as_slice();
+    is_at_rest(now, puts, timer, session)
+}
+
 /// What is due with a client of this view. Its address is looked up only where something may be
 /// due.
 pub(crate) fn due_view(
@@ -189,12 +223,12 @@ pub(crate) fn due_view(
         return None;
     }
     let timer = dialogs.timer_of(client);
-    let pending = view.pending.as_slice();
-    if is_at_rest(now, pending, timer, &view.session) {
+    let pending = &view.pending;
+    if is_quiet(now, pending, timer, &view.session) {
         return None;
     }
     let address = dialogs.address_of(client);
-    due_session(now, pending, timer, address, &view.session)
+    expiry_or_due(now, pending, timer, address, &view.session)
 }
 
 /// The first client that is due, and for what.

@@ -1,4 +1,5 @@
-//! Tick: what a gateway does as time goes by (MQTT-SN 1.2 sections 6.1, 6.3, 6.11 and 6.13).
+//! Tick: what a gateway does as time goes by (MQTT-SN 1.2 sections 6.1, 6.3, 6.11 and 6.13), and
+//! when messages need not wait any more.
 
 ghost use Rattle.std.specs.Prelude.{◌≡◌, if◌then◌else◌, Some, fold, IfOk, OnOk};
 ghost use Rattle.rep_model.specs.Views as views;
@@ -7,17 +8,27 @@ ghost use Rattle.sn_plan.specs.Drafts.{moved};
 ghost use Rattle.sn_plan.specs.Others.{can_wake};
 ghost use Rattle.sn_local.specs.Seen.{seen_of};
 ghost use Rattle.sn_plan.specs.Plans.{Gives};
+ghost use Rattle.sn_plan.specs.Plans as plans;
+ghost use Rattle.sn_plan.specs.Bound as bound;
+ghost use Rattle.sn_exchange.specs.Following as following;
+ghost use Rattle.sn_tick.specs.Expiry as expiry;
 ghost use Rattle.sn_tick.specs.Ticking.{dialog_ended, dialogs_ended, timers_begun, advertised_to};
 ghost use Rattle.sn_tick.specs.Ticking as spec;
 
 use super::due::{Due, elapsed, first_due};
+use super::expiry::expire_all;
 use octets::NoMemory;
 use rep_model::{ClientView, Replica};
 use rep_ops::ClientId;
 use sn_exchange::deliver_next;
 use sn_frame::Frame;
-use sn_local::{Addr, Config, Dialogs, LocalChange, StepFault, WillDialog, is_stamp_of};
-use sn_plan::{Draft, Follow, NewPut, Plan, Posted, Row, is_up, plan_of, plan_without, session_or};
+use sn_local::{
+    Addr, Config, Dialogs, LocalChange, StepFault, WillDialog, expires_at, is_stamp_of,
+};
+use sn_plan::{
+    Draft, Follow, NewPut, Plan, Posted, Row, is_up, plan_of, plan_without, session_or, unseen,
+    view_or,
+};
 use sn_publish::{puts_of_will, retained_of_will};
 use sn_session::{Presence, Session, SessionOp, Will};
 use std::alloc::Global;
@@ -281,17 +292,55 @@ fn lose<R: Replica>(
     Ok(())
 }
 
+/// And then all messages of the client that expire are acknowledged.
+fn expire<R: Replica>(
+    alloc: Global,
+    replica: &R,
+    dialogs: &Dialogs,
+    now: u64,
+    client: &ClientId,
+    draft: &mut Draft,
+) -> Result<(), NoMemory>
+    ensures { OnOk result (draft.new ≡ expiry.expire_all (seen_of (R.kept replica.now))
+        dialogs.now.local now client.now draft.old) }
+{
+    let nobody = unseen(alloc);
+    let view = view_or(replica, client, &nobody);
+    let expired = expire_all(draft, dialogs, now, client, view);
+    drop(nobody);
+    expired
+}
+
+/// The plan of an expiry: all messages of the client whose moment is there are acknowledged, but
+/// the one that it is in the middle of. Nothing is sent.
+fn plan_expiry<R: Replica>(
+    alloc: Global,
+    config: &Config,
+    replica: &R,
+    dialogs: &Dialogs,
+    now: u64,
+    mut draft: Draft,
+    client: &ClientId,
+) -> Result<Plan, StepFault>
+    ensures { Gives result (plans.plan_of config.now.gateway client.now
+        (seen_of (R.kept replica.now)) (expiry.expire_all (seen_of (R.kept replica.now))
+        dialogs.now.local now client.now draft)) }
+{
+    expire(alloc, replica, dialogs, now, client, &mut draft)?;
+    plan_of(alloc, config.gateway, replica, client, draft)
+}
+
 /// The plan of a loss.
 fn plan_loss<R: Replica>(
     alloc: Global,
     config: &Config,
     replica: &R,
-    now: u64,
     mut draft: Draft,
     client: &ClientId,
 ) -> Result<Plan, StepFault>
-    ensures { Gives result (spec.plan_due config.now.gateway config.now.predefined
-        (seen_of (R.kept replica.now)) now draft client.now Due.Loss) }
+    ensures { Gives result (plans.plan_of config.now.gateway client.now
+        (seen_of (R.kept replica.now)) (spec.lost (seen_of (R.kept replica.now)) client.now
+        (bound.session_of (seen_of (R.kept replica.now)) client.now) draft)) }
 {
     let empty = Session::empty(alloc);
     let session = session_or(replica, client, &empty);
@@ -322,8 +371,8 @@ fn plan_retry<R: Replica>(
     client: &ClientId,
     address: Addr,
 ) -> Result<Plan, StepFault>
-    ensures { Gives result (spec.plan_due config.now.gateway config.now.predefined
-        (seen_of (R.kept replica.now)) now draft client.now (Due.Retry address)) }
+    ensures { Gives result (following.deliver_next config.now.gateway config.now.predefined
+        (seen_of (R.kept replica.now)) address now (spec.retried now draft client.now)) }
 {
     let row = retried(alloc, now, draft, client)?;
     deliver_next(alloc, config, replica, address, now, row)
@@ -334,16 +383,18 @@ fn plan_due<R: Replica>(
     alloc: Global,
     config: &Config,
     replica: &R,
+    dialogs: &Dialogs,
     now: u64,
     draft: Draft,
     client: &ClientId,
     due: Due,
 ) -> Result<Plan, StepFault>
     ensures { Gives result (spec.plan_due config.now.gateway config.now.predefined
-        (seen_of (R.kept replica.now)) now draft client.now due) }
+        (seen_of (R.kept replica.now)) dialogs.now.local now draft client.now due) }
 {
     match due {
-        Due::Loss => plan_loss(alloc, config, replica, now, draft, client),
+        Due::Expiry => plan_expiry(alloc, config, replica, dialogs, now, draft, client),
+        Due::Loss => plan_loss(alloc, config, replica, draft, client),
         Due::Retry(address) => plan_retry(alloc, config, replica, now, draft, client, address),
         Due::Delivery(address) => {
             let row = Row::new(alloc, Follow::Delivery, client, draft)?;
@@ -357,16 +408,19 @@ fn plan_if_due<R: Replica>(
     alloc: Global,
     config: &Config,
     replica: &R,
+    dialogs: &Dialogs,
     now: u64,
     draft: Draft,
     found: Option<(ClientId, Due)>,
 ) -> Result<Plan, StepFault>
     ensures { Gives result (spec.plan_if_due config.now.gateway config.now.predefined
-        (seen_of (R.kept replica.now)) now draft found) }
+        (seen_of (R.kept replica.now)) dialogs.now.local now draft found) }
 {
     match found {
         None => Ok(plan_without(alloc, draft)),
-        Some((client, due)) => plan_due(alloc, config, replica, now, draft, &client, due),
+        Some((client, due)) => {
+            plan_due(alloc, config, replica, dialogs, now, draft, &client, due)
+        }
     }
 }
 
@@ -388,13 +442,13 @@ fn one_thing<R: Replica>(
         return Ok(plan_without(alloc, draft));
     }
     let found = first_due(alloc, config.gateway, replica, dialogs, now)?;
-    plan_if_due(alloc, config, replica, now, draft, found)
+    plan_if_due(alloc, config, replica, dialogs, now, draft, found)
 }
 
 /// A tick: will dialogs of a minute end, clients without a timer get one, and then one thing is
 /// done. The gateway advertises itself where that is due; else it does what is due with the least
-/// client with which something is due: it is lost, or the frame of its open exchange is sent again,
-/// or messages are.
+/// client with which something is due: what need not wait any more is acknowledged, or it is lost,
+/// or the frame of its open exchange is sent again, or messages are.
 pub fn tick<R: Replica>(
     alloc: Global,
     config: &Config,
@@ -402,9 +456,12 @@ pub fn tick<R: Replica>(
     dialogs: &Dialogs,
     now: u64,
 ) -> Result<Plan, StepFault>
-    ensures { Gives result (spec.tick config.now.gateway config.now.advertise config.now.field
-        config.now.predefined (seen_of (R.kept replica.now)) dialogs.now.local now) }
+    ensures { Gives result (spec.tick config.now.gateway config.now.lifetime config.now.advertise
+        config.now.field config.now.predefined (seen_of (R.kept replica.now)) dialogs.now.local
+        now) }
 {
-    let draft = cleaned(alloc, config.gateway, replica, dialogs, now)?;
+    let mut draft = cleaned(alloc, config.gateway, replica, dialogs, now)?;
+    let moment = expires_at(config.lifetime, now);
+    draft.last_until(moment);
     one_thing(alloc, config, replica, dialogs, now, draft)
 }

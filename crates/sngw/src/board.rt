@@ -104,6 +104,8 @@ pub struct Field {
     pub known: Vec<(u8, u64)>,
     /// The second of the gateway's clock.
     pub second: u64,
+    /// The moment of that second.
+    pub moment: u64,
 }
 
 /// What is counted of the running gateway.

@@ -6,7 +6,7 @@ use gw_link::{Link, Origin, Phase, Report, Stage, Trouble};
 use gw_main::options::Settings;
 use gw_relay::next_pause;
 use gw_run::{MOST_ACCEPTED, Pool};
-use gw_wire::{address, moment};
+use gw_wire::{address, second};
 use sn_local::Addr;
 use std::alloc::Global;
 use std::io::{Eprint, Print};
@@ -226,7 +226,7 @@ where
         said.err.say(rt, outage_line(alloc));
     }
     for _ in 0..MOST_LINES {
-        match pool.relay.report(rt, moment(rt)) {
+        match pool.relay.report(rt, second(rt)) {
             None => return,
             Some(report) => said.err.say(rt, trouble_line(alloc, report)),
         }

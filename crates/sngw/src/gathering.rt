@@ -6,7 +6,7 @@ use gw_link::{LinkNumbers, Origin};
 use gw_main::options::Settings;
 use gw_report::{Glimpse, Health, Report, Sample, Seen};
 use gw_run::MOST_ACCEPTED;
-use gw_wire::millisecond;
+use gw_wire::{date, millisecond};
 use octets::Sequence;
 use rep_ops::ClientId;
 use std::alloc::Global;
@@ -96,18 +96,10 @@ pub(crate) fn no_report(alloc: Global) -> Report {
     }
 }
 
-/// The second since 1970; 0 if the system does not tell.
-fn second_since_1970<T: Clock>(rt: &T) -> u64 {
-    match rt.since_1970() {
-        Ok(since) => since.as_secs(),
-        Err(_) => 0,
-    }
-}
-
 /// Nothing was gathered.
 pub(crate) fn none_gathered<T: Clock>(rt: &T, alloc: Global) -> Gathered {
     let now = millisecond(rt);
-    let start = second_since_1970(rt);
+    let start = date(rt);
     Gathered {
         began: now,
         start,
@@ -340,6 +332,7 @@ fn take_clients(alloc: Global, gathered: &mut Gathered, report: &mut Report, fie
         clients,
         known,
         second,
+        moment,
     } = field;
     drop(mem::replace(&mut gathered.known, known));
     let passed = second.saturating_sub(gathered.second);
@@ -348,7 +341,7 @@ fn take_clients(alloc: Global, gathered: &mut Gathered, report: &mut Report, fie
         &mut seen,
         report.clients.as_slice(),
         clients,
-        second,
+        moment,
         passed,
     ) {
         gathered.second = second;
@@ -367,18 +360,18 @@ fn put_clients(gathered: &mut Gathered, report: &mut Report, seen: Vec<Seen>) {
     gathered.is_new = true;
 }
 
-/// Puts the clients of a glance after others, with what earlier ones add to them. Whether there was
-/// memory for all.
+/// Puts the clients of a glance of this moment after others, with what earlier ones add to them.
+/// Whether there was memory for all.
 fn see_all(
     seen: &mut Vec<Seen>,
     old: &[Seen],
     clients: Vec<Glimpse>,
-    second: u64,
+    moment: u64,
     passed: u64,
 ) -> bool {
     let mut is_whole = true;
     for glimpse in clients {
-        if !see(seen, seen_now(old, glimpse, second, passed)) {
+        if !see(seen, seen_now(old, glimpse, moment, passed)) {
             is_whole = false;
         }
     }
@@ -390,12 +383,12 @@ fn see(seen: &mut Vec<Seen>, one: Seen) -> bool {
     seen.push(one).is_ok()
 }
 
-/// A client, with what earlier glances add to it.
-fn seen_now(old: &[Seen], glimpse: Glimpse, second: u64, passed: u64) -> Seen {
+/// A client at this moment, with what earlier glances add to it.
+fn seen_now(old: &[Seen], glimpse: Glimpse, moment: u64, passed: u64) -> Seen {
     let since = since_of(old, &glimpse, passed);
     let silence = match glimpse.local {
         None => None,
-        Some(local) => Some(second.saturating_sub(local.heard)),
+        Some(local) => Some(moment.saturating_sub(local.heard)),
     };
     Seen {
         glimpse,

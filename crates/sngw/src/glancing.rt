@@ -69,10 +69,12 @@ where
     D: Disk + Drop,
 {
     note_gateways(rt, alloc, settings, shared);
+    let second = shared.pool.clock.second();
     let mut field = Field {
         clients: Vec::new(alloc),
         known: Vec::new(alloc),
-        second: shared.pool.clock.second(),
+        second,
+        moment: shared.pool.clock.moment_of(second),
     };
     if find_gateways(&shared.board, &mut field)
         && look_at_all(rt, alloc, shift, &mut field, stage)

@@ -13,7 +13,7 @@ use gw_link::Trouble;
 use gw_main::options::Settings;
 use gw_page::entry;
 use gw_report::{Alarm, Detail, Event, Note, Report, Seen, Warning, What};
-use gw_wire::{millisecond, moment};
+use gw_wire::{millisecond, second};
 use octets::Sequence;
 use rep_ops::ClientId;
 use sn_flow::MAX_CLIENTS;
@@ -257,7 +257,7 @@ fn find_troubles<T: Wait + Clock + Print + Eprint>(
         warn(news, Warning::NothingSent);
     }
     for _ in 0..MOST_TROUBLES {
-        let Some(told) = shared.pool.relay.report(rt, moment(rt)) else {
+        let Some(told) = shared.pool.relay.report(rt, second(rt)) else {
             return;
         };
         if is_printed {

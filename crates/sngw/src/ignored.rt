@@ -7,7 +7,7 @@ use std::io::Write;
 use toml::{Table, Value};
 
 /// The keys that mean something.
-const KEYS: [Key; 15] = [
+const KEYS: [Key; 16] = [
     Key::Gateway,
     Key::Listen,
     Key::Link,
@@ -15,6 +15,7 @@ const KEYS: [Key; 15] = [
     Key::Workers,
     Key::Steps,
     Key::Advertise,
+    Key::Lifetime,
     Key::Field,
     Key::Peers,
     Key::Predefined,

@@ -81,6 +81,17 @@ impl Late {
         }
     }
 
+    /// The one that came late, if one did, comes at this moment: its own was by another date.
+    pub(crate) fn come_at(&mut self, moment: u64) {
+        if let Some(arrival) = self.arrival.take() {
+            self.arrival = Some(Arrival {
+                from: arrival.from,
+                size: arrival.size,
+                moment,
+            });
+        }
+    }
+
     /// This one came late. It stands in the front of the buffer.
     pub(crate) fn keep(&mut self, arrival: Arrival, buffer: &[u8]) {
         if copy_front(self.bytes.as_mut_slice(), buffer, arrival.size) {

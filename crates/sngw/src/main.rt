@@ -16,6 +16,7 @@
 //! - `stop`: why the program ends early (`Stop`).
 //! - `running`: shifts one after the other.
 //! - `lines`: lines that are printed beside the work.
+//! - `dates`: the date of the machine, by which moments go.
 //! - `keeping`: when the journal is written anew, and when a gateway that cannot write tries again.
 //! - `doors`: how links are made: peers are dialled, others are accepted.
 //! - `working`: the threads of one shift.
@@ -33,6 +34,7 @@ mod admission;
 mod board;
 mod callers;
 mod counting;
+mod dates;
 mod doors;
 mod gathering;
 mod glancing;
@@ -50,6 +52,7 @@ mod watcher;
 mod words;
 mod working;
 
+use crate::dates::hold_lifetime;
 use crate::lines::{Lines, Output, Said};
 use crate::reading::settings_at;
 use crate::running::run;
@@ -59,6 +62,7 @@ use file_disk::{FileDisk, FileDiskFault};
 use gw_main::begin;
 use gw_main::options::Settings;
 use gw_node::Node;
+use gw_wire::date;
 use jr_disk::{Disk, Slot};
 use rep_state::Folded;
 use std::alloc::Global;
@@ -191,8 +195,8 @@ where
     let shifts = asked.shifts;
     drop(asked);
     match settings {
-        Ok(settings) => {
-            let done = start_by(rt, alloc, &settings, shifts, said, out, err);
+        Ok(mut settings) => {
+            let done = start_by(rt, alloc, &mut settings, shifts, said, out, err);
             drop(settings);
             done
         }
@@ -200,11 +204,12 @@ where
     }
 }
 
-/// Opens a gateway by its settings, and works so many shifts.
+/// Opens a gateway by its settings, and works so many shifts. While the machine has no date, it is
+/// opened without a lifetime.
 fn start_by<T, O: Write, E: Write>(
     rt: &T,
     alloc: Global,
-    settings: &Settings,
+    settings: &mut Settings,
     shifts: u64,
     said: Said<'_>,
     out: &mut O,
@@ -216,12 +221,31 @@ where
     T::Dir: Send,
 {
     match disk_at(rt, alloc, settings, err) {
-        Ok(disk) => match opened(alloc, settings, disk, out, err) {
-            Some(node) => work(rt, alloc, settings, node, shifts, said),
-            None => Err(Stop::Opening),
-        },
+        Ok(disk) => {
+            let today = date(rt);
+            match opened_on(alloc, settings, disk, today, out, err) {
+                Some(node) => work(rt, alloc, settings, node, shifts, today, said),
+                None => Err(Stop::Opening),
+            }
+        }
         Err(stop) => Err(stop),
     }
+}
+
+/// The gateway of these settings on its disk, without a lifetime if the machine has no date today.
+/// `None` if it cannot be opened, which is printed.
+fn opened_on<O: Write, E: Write>(
+    alloc: Global,
+    settings: &mut Settings,
+    disk: FileDisk,
+    today: u64,
+    out: &mut O,
+    err: &mut E,
+) -> Option<Node<Folded, FileDisk>> {
+    let lifetime = hold_lifetime(settings, today, err);
+    let node = opened(alloc, settings, disk, out, err);
+    settings.lifetime = lifetime;
+    node
 }
 
 /// The gateway of these settings on its disk. `None` if it cannot be opened, which is printed.
@@ -235,13 +259,14 @@ fn opened<O: Write, E: Write>(
     begin::<Folded, FileDisk, O, E>(alloc, settings, disk, out, err).ok()
 }
 
-/// Works so many shifts of a gateway.
+/// Works so many shifts of a gateway, which was opened at this date.
 fn work<T>(
     rt: &T,
     alloc: Global,
     settings: &Settings,
     node: Node<Folded, FileDisk>,
     shifts: u64,
+    today: u64,
     said: Said<'_>,
 ) -> Result<(), Stop>
 where
@@ -253,7 +278,7 @@ where
         drop(node);
         return Ok(());
     }
-    run(rt, alloc, settings, node, shifts, said)
+    run(rt, alloc, settings, node, shifts, today, said)
 }
 
 /// The words of the command line. `None` if memory ran out.

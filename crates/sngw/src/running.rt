@@ -2,6 +2,7 @@
 
 use crate::admission::Admission;
 use crate::board::{Board, Number, Shared};
+use crate::dates::{begin_dates, by_date};
 use crate::doors::{Door, doors_of, keep_all};
 use crate::keeping::{Keeper, is_written};
 use crate::late::{Inlet, Late};
@@ -28,13 +29,15 @@ use std::thread::Threads;
 use std::time::{Clock, Duration};
 use std::{mem, thread};
 
-/// Works so many shifts. The sockets are open from before the first to after the last.
+/// Works so many shifts with a gateway that was opened at this date. The sockets are open from
+/// before the first to after the last.
 pub(crate) fn run<T, R, D>(
     rt: &T,
     alloc: Global,
     settings: &Settings,
     node: Node<R, D>,
     shifts: u64,
+    opened_at: u64,
     said: Said<'_>,
 ) -> Result<(), Stop>
 where
@@ -46,6 +49,7 @@ where
     D: Disk + Drop + Send,
 {
     let mut opened = open_all(rt, alloc, settings)?;
+    begin_dates(rt, &opened.shared.pool.clock, opened_at);
     let place = Mutex::new(Some(node));
     let over = Stage::new(0, 0);
     let worked = run_beside(
@@ -329,21 +333,61 @@ where
             return Ok(());
         };
         know_clients(alloc, settings, &node, inlet, shared.pool.clock.second());
-        let mut worked = work(rt, alloc, settings, node, inlet, shared, number)?;
-        let ended = end_shift(
+        let worked = work(rt, alloc, settings, node, inlet, shared, number)?;
+        end_in_place(
             rt,
             alloc,
             settings,
-            &mut worked,
+            place,
+            worked,
             inlet,
             shared,
             number + 1,
             &mut keeper,
             said,
-        );
-        put_back(rt, place, worked.node);
-        ended?;
+        )?;
     }
+    Ok(())
+}
+
+/// Ends the shift of this number, from 1 on, and puts the gateway back into its place. If the date
+/// was set meanwhile, the gateway is opened anew by it first.
+fn end_in_place<T, R, D>(
+    rt: &T,
+    alloc: Global,
+    settings: &Settings,
+    place: &Mutex<Option<Node<R, D>>>,
+    mut worked: Worked<R, D>,
+    inlet: &mut Inlet,
+    shared: &Shared,
+    number: u64,
+    keeper: &mut Keeper<'_>,
+    said: Said<'_>,
+) -> Result<(), Stop>
+where
+    T: Wait + Clock + Print + Eprint + Files<File = File>,
+    R: Replica,
+    D: Disk + Drop,
+{
+    let steps = worked.steps;
+    let ended = end_shift(
+        rt,
+        alloc,
+        settings,
+        &mut worked,
+        inlet,
+        shared,
+        number,
+        keeper,
+        said,
+    );
+    if let Err(stop) = ended {
+        put_back(rt, place, worked.node);
+        return Err(stop);
+    }
+    let node = by_date(rt, alloc, worked.node, inlet, shared, settings.lifetime, said)?;
+    put_back(rt, place, node);
+    note_turn(rt, shared, number, steps);
     Ok(())
 }
 
@@ -374,9 +418,7 @@ where
     begin_anew(rt, alloc, &worked.node, &shared.pool, worked.tended, said);
     let line = format!(in alloc; "shift {number} steps {steps}");
     said.out.say(rt, line.ok());
-    let done = go_on(rt, alloc, worked, inlet, shared, keeper, said);
-    note_turn(rt, shared, number, steps);
-    done
+    go_on(rt, alloc, worked, inlet, shared, keeper, said)
 }
 
 /// Counts a shift that is over, and how long it took since it had begun to close.
@@ -609,7 +651,7 @@ where
 }
 
 /// Says how the gateway stands. If memory runs out the line is left out.
-fn tell<T, R, D>(rt: &T, alloc: Global, node: &Node<R, D>, said: Said<'_>)
+pub(crate) fn tell<T, R, D>(rt: &T, alloc: Global, node: &Node<R, D>, said: Said<'_>)
 where
     T: Wait + Print + Eprint,
     R: Replica,

@@ -110,7 +110,7 @@ impl<'a, T: Wait + Clock, W: Wire, P: Post> Watched<'a, T, W, P> {
         ensures datagrams { (self.new.arrivals ≡ self.old.arrivals)
             × (self.new.drops ≡ self.old.drops) }
     {
-        let second = arrival.moment;
+        let second = self.shared.pool.clock.second();
         let verdict = self.admission.verdict(self.alloc, second, datagram);
         match verdict {
             Verdict::Comes => false,
@@ -121,18 +121,18 @@ impl<'a, T: Wait + Clock, W: Wire, P: Post> Watched<'a, T, W, P> {
             }
             Verdict::TurnedAway(code) => {
                 self.shared.board.note_came(datagram);
-                self.turn_away(arrival, code);
+                self.turn_away(arrival, second, code);
                 true
             }
         }
     }
 
-    /// Answers the CONNECT of a client that is not let in.
-    fn turn_away(&self, arrival: &Arrival, code: u8) {
+    /// Answers, in this second, the CONNECT of a client that is not let in.
+    fn turn_away(&self, arrival: &Arrival, second: u64, code: u8) {
         let answer = [3, 5, code];
         let is_sent = self.mouth.send(arrival.from, &answer).is_ok();
         self.shared.board.note_sent(&answer, is_sent);
-        if code == CONGESTION && self.admission.is_old(arrival.moment) {
+        if code == CONGESTION && self.admission.is_old(second) {
             self.stage.close(self.rt);
         }
     }

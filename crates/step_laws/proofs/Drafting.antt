@@ -38,13 +38,14 @@ use Rattle.sn_plan.specs.declared.plan.Plan.{Plan}
 use Rattle.sn_plan.specs.declared.row.Row.{Row}
 use Rattle.sn_plan.specs.declared.row.Follow.{Follow}
 use Rattle.sn_plan.specs.declared.row.Follow.TheVariants as follows
-use Rattle.sn_plan.specs.Drafts.{Drafted, nothing, changed, changed_if, moved, session_after}
+use Rattle.sn_plan.specs.Drafts.{Drafted, nothing, changed, changed_if, lasting, moved, session_after}
+use Rattle.sn_local.specs.Lifetimes.{expires_at}
 use Rattle.sn_local.specs.Seen.{Seen, seen_of}
 use Rattle.sn_plan.specs.Plans.{plan_without}
-use Rattle.sn_local.specs.Bindings.{client_at, is_stamp_of}
+use Rattle.sn_local.specs.Bindings.{client_at, is_stamp_of, address_of}
 use Rattle.sn_local.specs.Locals.{Local}
 use Rattle.sn_plan.specs.Bound.{bound_to, session_of}
-use Rattle.sn_plan.specs.Rows.{row_of, row_of_none, heard_row}
+use Rattle.sn_plan.specs.Rows.{row_of, row_of_none, row_lasting, heard_row}
 use Rattle.sn_plan.specs.Asking.{retain_asked}
 use Rattle.sn_plan.specs.Own.{IsOneEach, IsApart, IsOfDraft}
 use Rattle.sn_plan.proofs.Made.{Made, made, SameMade, no_puts, no_handed}
@@ -68,6 +69,7 @@ use Rattle.sn_exchange.specs.Following.{peer_at, followed_by, followed_for, foll
 use Rattle.sn_deliver.specs.Serving.{publish_of, publish_in_at, pubrel_of, ack_of}
 use Rattle.sn_deliver.specs.Waking.{claimed, has_nothing, woken_by, woken_if, woken, wake_of, wake}
 use Rattle.sn_deliver.specs.Steps.{row_for, step}
+use Rattle.sn_tick.specs.Expiry.{under_way, is_expired, expiry_acked, expire_all}
 use Rattle.sn_tick.specs.Due.{elapsed, first_due}
 use Rattle.sn_tick.specs.Ticking.{dialog_ended, dialogs_ended, needs_timer, timer_begun, cleaned, may_advertise, advertised, will_puts, lost, plan_due, plan_if_due, tick}
 use Rattle.step_laws.proofs.Keeping.{fold_keeps}
@@ -84,74 +86,93 @@ choose_none : (b : Bool) (x y : Drafted) → MakesNone x → MakesNone y → Mak
 choose_none true x y h k = h
 choose_none false x y h k = k
 
-choose_stop : (b : Bool) (x y : Stop) (d : Drafted) → SameMade x.1 d → SameMade y.1 d → SameMade (if b then x else y).1 d
+-- what a draft makes, and the moment of its messages
+abbrev MadeUntil : Type 0
+MadeUntil = Made × ℕ
+
+-- the draft makes what the other makes, of the same moment
+abbrev SameKept : Drafted → Drafted → Type 0
+SameKept e d = ◌≡◌ {A = MadeUntil} (made e, e.expires) (made d, d.expires)
+
+choose_kept : (b : Bool) (x y d : Drafted) → SameKept x d → SameKept y d → SameKept (if b then x else y) d
+choose_kept true x y d h k = h
+choose_kept false x y d h k = k
+
+choose_stop : (b : Bool) (x y : Stop) (d : Drafted) → SameKept x.1 d → SameKept y.1 d → SameKept (if b then x else y).1 d
 choose_stop true x y d h k = h
 choose_stop false x y d h k = k
+
+changed_kept : (change : Option SessionOp) (d : Drafted) → SameKept (changed_if change d) d
+changed_kept None d = refl
+changed_kept (Some change) d = refl
 
 changed_puts : (change : Option SessionOp) (d : Drafted) → SameMade (changed_if change d) d
 changed_puts None d = refl
 changed_puts (Some change) d = refl
 
--- ---- what follows a row makes no message
+-- ---- what follows a row makes no message, and changes no moment
 
 module _ (predefined : Entries) (peer : Peer) (s : Session) where
-  none_puts : (d : Drafted) → SameMade (none_left peer s d) d
-  none_puts d = choose_same (is_awake s.presence) _ d d refl refl
+  none_kept : (d : Drafted) → SameKept (none_left peer s d) d
+  none_kept d = choose_kept (is_awake s.presence) _ d d refl refl
 
-  register_puts : (put : Put) (found : Option ToldId) (d : Drafted) → SameMade (register_first peer s put found d).1 d
-  register_puts put None d = refl
-  register_puts put (Some found) d = changed_puts found.change d
+  register_kept : (put : Put) (found : Option ToldId) (d : Drafted) → SameKept (register_first peer s put found d).1 d
+  register_kept put None d = refl
+  register_kept put (Some found) d = changed_kept found.change d
 
-  form_puts : (put : Put) (form : Option Form) (d : Drafted) → SameMade (deliver_by peer s put form d).1 d
-  form_puts put None d = register_puts put (id_to_tell s put.topic) d
-  form_puts put (Some form) d = choose_stop (put.qos == 0) _ _ d refl refl
+  form_kept : (put : Put) (form : Option Form) (d : Drafted) → SameKept (deliver_by peer s put form d).1 d
+  form_kept put None d = register_kept put (id_to_tell s put.topic) d
+  form_kept put (Some form) d = choose_stop (put.qos == 0) _ _ d refl refl
 
-  stop_puts : (more : Drafted → Drafted) (stop : Stop) (d : Drafted) → ((e : Drafted) → SameMade (more e) e) → SameMade stop.1 d → SameMade (and_then more stop) d
-  stop_puts more (true, e) d keeps h = h
-  stop_puts more (false, e) d keeps h = keeps e ∙ h
+  stop_kept : (more : Drafted → Drafted) (stop : Stop) (d : Drafted) → ((e : Drafted) → SameKept (more e) e) → SameKept stop.1 d → SameKept (and_then more stop) d
+  stop_kept more (true, e) d keeps h = h
+  stop_kept more (false, e) d keeps h = keeps e ∙ h
 
-  deliver_puts : (pending : List Put) (d : Drafted) → SameMade (deliver predefined peer s pending d) d
-  deliver_puts [] d = none_puts d
-  deliver_puts (put ∷ rest) d =
-      stop_puts (deliver predefined peer s rest) (deliver_by peer s put (form_of predefined s put.topic) d) d (λ e. deliver_puts rest e) (form_puts put (form_of predefined s put.topic) d)
+  deliver_kept : (pending : List Put) (d : Drafted) → SameKept (deliver predefined peer s pending d) d
+  deliver_kept [] d = none_kept d
+  deliver_kept (put ∷ rest) d =
+      stop_kept (deliver predefined peer s rest) (deliver_by peer s put (form_of predefined s put.topic) d) d (λ e. deliver_kept rest e) (form_kept put (form_of predefined s put.topic) d)
 
-  left_puts : (pending : List Put) (d : Drafted) → SameMade (deliver_left predefined peer s pending d) d
-  left_puts pending d = deliver_puts (left d.acks pending) d
+  left_kept : (pending : List Put) (d : Drafted) → SameKept (deliver_left predefined peer s pending d) d
+  left_kept pending d = deliver_kept (left d.acks pending) d
 
-  deliver_if_puts : (pending : List Put) (d : Drafted) → SameMade (deliver_if predefined peer s pending d) d
-  deliver_if_puts pending d = choose_same (is_served s.presence && is_none (open_exchange s d.acks pending)) _ d d (left_puts pending d) refl
+  deliver_if_kept : (pending : List Put) (d : Drafted) → SameKept (deliver_if predefined peer s pending d) d
+  deliver_if_kept pending d = choose_kept (is_served s.presence && is_none (open_exchange s d.acks pending)) _ d d (left_kept pending d) refl
 
-  register_by_puts : (put : Put) (msg_id : ℕ) (entry : Option TopicEntry) (d : Drafted) → SameMade (register_by peer s put msg_id entry d).1 d
-  register_by_puts put msg_id None d = refl
-  register_by_puts put msg_id (Some entry) d = refl
+  register_by_kept : (put : Put) (msg_id : ℕ) (entry : Option TopicEntry) (d : Drafted) → SameKept (register_by peer s put msg_id entry d).1 d
+  register_by_kept put msg_id None d = refl
+  register_by_kept put msg_id (Some entry) d = refl
 
-  register_again_puts : (msg_id : ℕ) (put : Option Put) (d : Drafted) → SameMade (register_again peer s msg_id put d).1 d
-  register_again_puts msg_id None d = refl
-  register_again_puts msg_id (Some put) d = register_by_puts put msg_id (topic_named put.topic s.topics) d
+  register_again_kept : (msg_id : ℕ) (put : Option Put) (d : Drafted) → SameKept (register_again peer s msg_id put d).1 d
+  register_again_kept msg_id None d = refl
+  register_again_kept msg_id (Some put) d = register_by_kept put msg_id (topic_named put.topic s.topics) d
 
-  publish_by_puts : (put : Put) (msg_id : ℕ) (form : Option Form) (d : Drafted) → SameMade (publish_by peer s put msg_id form d).1 d
-  publish_by_puts put msg_id None d = refl
-  publish_by_puts put msg_id (Some form) d = refl
+  publish_by_kept : (put : Put) (msg_id : ℕ) (form : Option Form) (d : Drafted) → SameKept (publish_by peer s put msg_id form d).1 d
+  publish_by_kept put msg_id None d = refl
+  publish_by_kept put msg_id (Some form) d = refl
 
-  publish_again_puts : (msg_id : ℕ) (put : Option Put) (d : Drafted) → SameMade (publish_again predefined peer s msg_id put d).1 d
-  publish_again_puts msg_id None d = refl
-  publish_again_puts msg_id (Some put) d = publish_by_puts put msg_id (form_again predefined s put.topic) d
+  publish_again_kept : (msg_id : ℕ) (put : Option Put) (d : Drafted) → SameKept (publish_again predefined peer s msg_id put d).1 d
+  publish_again_kept msg_id None d = refl
+  publish_again_kept msg_id (Some put) d = publish_by_kept put msg_id (form_again predefined s put.topic) d
 
-  resend_in_puts : (msg_id : ℕ) (phase : Phase) (put : Option Put) (d : Drafted) → SameMade (resend_in predefined peer s msg_id phase put d).1 d
-  resend_in_puts msg_id Registering put d = register_again_puts msg_id put d
-  resend_in_puts msg_id Published put d = publish_again_puts msg_id put d
-  resend_in_puts msg_id Released put d = refl
+  resend_in_kept : (msg_id : ℕ) (phase : Phase) (put : Option Put) (d : Drafted) → SameKept (resend_in predefined peer s msg_id phase put d).1 d
+  resend_in_kept msg_id Registering put d = register_again_kept msg_id put d
+  resend_in_kept msg_id Published put d = publish_again_kept msg_id put d
+  resend_in_kept msg_id Released put d = refl
 
-  resend_puts : (pending : List Put) (x : Option Exchange) (d : Drafted) → SameMade (resend_if predefined peer s pending x d) d
-  resend_puts pending None d = deliver_if_puts pending d
-  resend_puts pending (Some x) d =
-      stop_puts (deliver_left predefined peer s pending) (resend_in predefined peer s x.msg_id x.phase (put_left d.acks pending (message_of x)) d) d
-      (λ e. left_puts pending e) (resend_in_puts x.msg_id x.phase (put_left d.acks pending (message_of x)) d)
+  resend_kept : (pending : List Put) (x : Option Exchange) (d : Drafted) → SameKept (resend_if predefined peer s pending x d) d
+  resend_kept pending None d = deliver_if_kept pending d
+  resend_kept pending (Some x) d =
+      stop_kept (deliver_left predefined peer s pending) (resend_in predefined peer s x.msg_id x.phase (put_left d.acks pending (message_of x)) d) d
+      (λ e. left_kept pending e) (resend_in_kept x.msg_id x.phase (put_left d.acks pending (message_of x)) d)
+
+followed_by_kept : (predefined : Entries) (peer : Peer) (s : Session) (pending : List Put) (d : Drafted) (follow : Follow) → SameKept (followed_by predefined peer s pending d follow) d
+followed_by_kept predefined peer s pending d follows.Nothing = refl
+followed_by_kept predefined peer s pending d follows.Delivery = deliver_if_kept predefined peer (session_after s d) pending d
+followed_by_kept predefined peer s pending d follows.Resend = resend_kept predefined peer (session_after s d) pending (open_exchange (session_after s d) d.acks pending) d
 
 pub followed_by_made : (predefined : Entries) (peer : Peer) (s : Session) (pending : List Put) (d : Drafted) (follow : Follow) → SameMade (followed_by predefined peer s pending d follow) d
-followed_by_made predefined peer s pending d follows.Nothing = refl
-followed_by_made predefined peer s pending d follows.Delivery = deliver_if_puts predefined peer (session_after s d) pending d
-followed_by_made predefined peer s pending d follows.Resend = resend_puts predefined peer (session_after s d) pending (open_exchange (session_after s d) d.acks pending) d
+followed_by_made predefined peer s pending d follow = ap (λ (m : MadeUntil). m.0) (followed_by_kept predefined peer s pending d follow)
 
 pub followed_by_puts : (predefined : Entries) (peer : Peer) (s : Session) (pending : List Put) (d : Drafted) (follow : Follow) → (followed_by predefined peer s pending d follow).puts ≡ d.puts
 followed_by_puts predefined peer s pending d follow = ap (λ (m : Made). m.0) (followed_by_made predefined peer s pending d follow)
@@ -159,9 +180,16 @@ followed_by_puts predefined peer s pending d follow = ap (λ (m : Made). m.0) (f
 pub followed_by_handed : (predefined : Entries) (peer : Peer) (s : Session) (pending : List Put) (d : Drafted) (follow : Follow) → (followed_by predefined peer s pending d follow).handed ≡ d.handed
 followed_by_handed predefined peer s pending d follow = ap (λ (m : Made). m.1) (followed_by_made predefined peer s pending d follow)
 
+followed_for_kept : (predefined : Entries) (seen : Seen) (a : Addr) (now : ℕ) (d : Drafted) (follow : Follow) (client : Option (List ℕ)) → SameKept (followed_for predefined seen a now d follow client) d
+followed_for_kept predefined seen a now d follow None = refl
+followed_for_kept predefined seen a now d follow (Some c) = followed_by_kept predefined (peer_at a c now) (session_of seen c) (seen.of c).pending d follow
+
 pub followed_for_made : (predefined : Entries) (seen : Seen) (a : Addr) (now : ℕ) (d : Drafted) (follow : Follow) (client : Option (List ℕ)) → SameMade (followed_for predefined seen a now d follow client) d
-followed_for_made predefined seen a now d follow None = refl
-followed_for_made predefined seen a now d follow (Some c) = followed_by_made predefined (peer_at a c now) (session_of seen c) (seen.of c).pending d follow
+followed_for_made predefined seen a now d follow client = ap (λ (m : MadeUntil). m.0) (followed_for_kept predefined seen a now d follow client)
+
+-- what follows changes no moment
+pub followed_for_expires : (predefined : Entries) (seen : Seen) (a : Addr) (now : ℕ) (d : Drafted) (follow : Follow) (client : Option (List ℕ)) → (followed_for predefined seen a now d follow client).expires ≡ d.expires
+followed_for_expires predefined seen a now d follow client = ap (λ (m : MadeUntil). m.1) (followed_for_kept predefined seen a now d follow client)
 
 pub followed_for_puts : (predefined : Entries) (seen : Seen) (a : Addr) (now : ℕ) (d : Drafted) (follow : Follow) (client : Option (List ℕ)) → (followed_for predefined seen a now d follow client).puts ≡ d.puts
 followed_for_puts predefined seen a now d follow client = ap (λ (m : Made). m.0) (followed_for_made predefined seen a now d follow client)
@@ -405,10 +433,15 @@ row_one g predefined S local a (frames.RegAck topic_id msg_id code) now = none_r
 row_one g predefined S local a (frames.PingReq client) now = none_row (row_for g predefined (seen_of S) local a (frames.PingReq client) now) (wake_made g (seen_of S) local a client now)
 row_one g predefined S local a frame now = none_row (row_for g predefined (seen_of S) local a frame now) (other-made g local a frame now)
 
-pub step-drafted : (g : ℕ) (predefined : Entries) (S : List Op) (local : Local) (a : Addr) (frame : Frame) (now : ℕ) (plan : Plan) → step g predefined (seen_of S) local a frame now ≡ Some plan → IsOfDraft g (seen_of S) plan
+-- a moment makes no message
+lasting_one : (moment : ℕ) (d : Drafted) → IsApart d → IsApart (lasting moment d)
+lasting_one moment d h = record { one_each = h.one_each; alone = h.alone }
+
+pub step-drafted : (g lifetime : ℕ) (predefined : Entries) (S : List Op) (local : Local) (a : Addr) (frame : Frame) (now : ℕ) (plan : Plan) → step g lifetime predefined (seen_of S) local a frame now ≡ Some plan → IsOfDraft g (seen_of S) plan
 unfolding step
-step-drafted g predefined S local a frame now plan e =
-    next-drafted g predefined (seen_of S) a now (row_for g predefined (seen_of S) local a frame now) plan (row_one g predefined S local a frame now) e
+step-drafted g lifetime predefined S local a frame now plan e =
+    next-drafted g predefined (seen_of S) a now (row_lasting (expires_at lifetime now) (row_for g predefined (seen_of S) local a frame now)) plan
+    (lasting_one (expires_at lifetime now) (row_for g predefined (seen_of S) local a frame now).draft (row_one g predefined S local a frame now)) e
 
 -- ---- a tick
 
@@ -427,14 +460,34 @@ cleaned_made g seen local now =
     fold_keeps (timer_begun g seen local.timers now) made (begun_puts g seen local.timers now) seen.all (dialogs_ended now local.dialogs nothing)
     ∙ fold_keeps (dialog_ended now) made (ended_puts now) local.dialogs nothing
 
-module _ (g : ℕ) (predefined : Entries) (S : List Op) (now : ℕ) (plan : Plan) (d : Drafted) (same : SameMade d nothing) where
+expired_puts : (now : ℕ) (name : Option (ℕ × ℕ)) (d : Drafted) (put : Put) → SameMade (expiry_acked now name d put) d
+expired_puts now name d put = choose_same (is_expired now name put) _ d d refl refl
+
+-- an expiry makes no message, and changes no moment
+pub expired_made : (seen : Seen) (local : Local) (now : ℕ) (c : List ℕ) (d : Drafted) → SameMade (expire_all seen local now c d) d
+expired_made seen local now c d =
+    fold_keeps (expiry_acked now (under_way (seen.of c).pending (address_of c local.bindings) (seen.of c).session)) made
+    (expired_puts now (under_way (seen.of c).pending (address_of c local.bindings) (seen.of c).session)) (seen.of c).pending d
+
+expired_moment : (now : ℕ) (name : Option (ℕ × ℕ)) (d : Drafted) (put : Put) → SameKept (expiry_acked now name d put) d
+expired_moment now name d put = choose_kept (is_expired now name put) _ d d refl refl
+
+pub expired_expires : (seen : Seen) (local : Local) (now : ℕ) (c : List ℕ) (d : Drafted) → (expire_all seen local now c d).expires ≡ d.expires
+expired_expires seen local now c d =
+    fold_keeps (expiry_acked now (under_way (seen.of c).pending (address_of c local.bindings) (seen.of c).session)) (λ (e : Drafted). e.expires)
+    (λ e put. ap (λ (m : MadeUntil). m.1) (expired_moment now (under_way (seen.of c).pending (address_of c local.bindings) (seen.of c).session) e put)) (seen.of c).pending d
+
+module _ (g : ℕ) (predefined : Entries) (S : List Op) (local : Local) (now : ℕ) (plan : Plan) (d : Drafted) (same : SameMade d nothing) where
   none : d.puts ≡ []
   none = no_puts d same
 
   bare : d.handed ≡ []
   bare = no_handed d same
 
-  due-drafted : (c : List ℕ) (due : Due) → plan_due g predefined (seen_of S) now d c due ≡ Some plan → IsOfDraft g (seen_of S) plan
+  due-drafted : (c : List ℕ) (due : Due) → plan_due g predefined (seen_of S) local now d c due ≡ Some plan → IsOfDraft g (seen_of S) plan
+  due-drafted c dues.Expiry e =
+      row-drafted g (seen_of S) (row_of follows.Nothing c (expire_all (seen_of S) local now c d)) plan
+      (none_one (expire_all (seen_of S) local now c d) (expired_made (seen_of S) local now c d ∙ same)) e
   due-drafted c dues.Loss e =
       row-drafted g (seen_of S) (row_of follows.Nothing c (lost (seen_of S) c (session_of (seen_of S) c) d)) plan
       (record {
@@ -444,7 +497,7 @@ module _ (g : ℕ) (predefined : Entries) (S : List Op) (now : ℕ) (plan : Plan
   due-drafted c (dues.Retry a) e = next-drafted g predefined (seen_of S) a now (row_of follows.Resend c (moved (Retried c now) d)) plan (none_one (moved (Retried c now) d) same) e
   due-drafted c (dues.Delivery a) e = next-drafted g predefined (seen_of S) a now (row_of follows.Delivery c d) plan (none_one d same) e
 
-  if_due-drafted : (found : Option (List ℕ × Due)) → plan_if_due g predefined (seen_of S) now d found ≡ Some plan → IsOfDraft g (seen_of S) plan
+  if_due-drafted : (found : Option (List ℕ × Due)) → plan_if_due g predefined (seen_of S) local now d found ≡ Some plan → IsOfDraft g (seen_of S) plan
   if_due-drafted None e = without-drafted g (seen_of S) d plan e
   if_due-drafted (Some found) e = due-drafted found.0 found.1 e
 
@@ -453,10 +506,10 @@ module _ (g : ℕ) (predefined : Entries) (S : List Op) (now : ℕ) (plan : Plan
   either-drafted true advertised found h k e = h e
   either-drafted false advertised found h k e = k e
 
-pub tick-drafted : (g advertise : ℕ) (field : List Addr) (predefined : Entries) (S : List Op) (local : Local) (now : ℕ) (plan : Plan) → tick g advertise field predefined (seen_of S) local now ≡ Some plan → IsOfDraft g (seen_of S) plan
-tick-drafted g advertise field predefined S local now plan e =
-    let d = cleaned g (seen_of S) local now in
-    either-drafted g predefined S now plan d (cleaned_made g (seen_of S) local now) (may_advertise advertise field now local.advertised)
-    (Some (plan_without (advertised g advertise field now d))) (plan_if_due g predefined (seen_of S) now d (first_due g (seen_of S) local now (clients S)))
+pub tick-drafted : (g lifetime advertise : ℕ) (field : List Addr) (predefined : Entries) (S : List Op) (local : Local) (now : ℕ) (plan : Plan) → tick g lifetime advertise field predefined (seen_of S) local now ≡ Some plan → IsOfDraft g (seen_of S) plan
+tick-drafted g lifetime advertise field predefined S local now plan e =
+    let d : Drafted = lasting (expires_at lifetime now) (cleaned g (seen_of S) local now) in
+    either-drafted g predefined S local now plan d (cleaned_made g (seen_of S) local now) (may_advertise advertise field now local.advertised)
+    (Some (plan_without (advertised g advertise field now d))) (plan_if_due g predefined (seen_of S) local now d (first_due g (seen_of S) local now (clients S)))
     (without-drafted g (seen_of S) (advertised g advertise field now d) plan)
-    (if_due-drafted g predefined S now plan d (cleaned_made g (seen_of S) local now) (first_due g (seen_of S) local now (clients S))) e
+    (if_due-drafted g predefined S local now plan d (cleaned_made g (seen_of S) local now) (first_due g (seen_of S) local now (clients S))) e

@@ -1,5 +1,5 @@
 -- Ticks of one moment come to an end.
-use Rattle.std.proofs.Common.{◌≡◌, ℕ, suc, ◌+◌, ◌*◌, ◌-◌, ◌<◌, ◌≤◌, Bool, true, false, ◌&&◌, ◌||◌, if◌then◌else◌, nat_lt, nat_le, is_some, List, [], ◌∷◌, ◌++◌, length, Option, Some, None, IfSome, refl, sym, ap, ◌∙◌, subst, true≢false, inl, inr, arith, le_trans, le-add_right, not-le_of_lt, append-nil}
+use Rattle.std.proofs.Common.{◌≡◌, ℕ, suc, ◌+◌, ◌*◌, ◌-◌, ◌<◌, ◌≤◌, Bool, true, false, ◌&&◌, ◌||◌, if◌then◌else◌, nat_lt, nat_le, is_some, List, [], ◌∷◌, ◌++◌, length, Option, Some, None, IfSome, refl, sym, ap, ◌∙◌, subst, true≢false, inl, inr, arith, le_trans, le_of_eq, le-add_right, not-le_of_lt, append-nil}
 use Rattle.std.proofs.lemmas.Bool.{or_parts, or_cases}
 use Rattle.std.proofs.lemmas.Bool.Decides.{nat_tests}
 use Rattle.std.proofs.lemmas.List.Sums.{fold-append}
@@ -15,27 +15,29 @@ use Rattle.sn_local.specs.declared.local.LocalChange.{LocalChange}
 use Rattle.sn_local.specs.declared.local.LocalChange.TheVariants.{Advertised}
 use Rattle.sn_plan.specs.declared.plan.Plan.{Plan}
 use Rattle.sn_local.specs.Advertising.{advertised_change, advertised_after}
-use Rattle.sn_local.specs.Bindings.{bindings_after}
-use Rattle.sn_plan.specs.Drafts.{Drafted}
+use Rattle.sn_local.specs.Bindings.{bindings_after, is_stamp_of, address_of}
+use Rattle.sn_plan.specs.Drafts.{Drafted, lasting}
 use Rattle.sn_plan.specs.Flush.{AreFlush}
 use Rattle.sn_local.specs.Locals.{Local, after_all}
+use Rattle.sn_local.specs.Lifetimes.{expires_at}
 use Rattle.sn_plan.specs.Others.{can_wake}
 use Rattle.sn_local.specs.Seen.{seen_of}
 use Rattle.sn_plan.specs.Plans.{plan_without}
 use Rattle.sn_local.specs.Timers.{timer_of, timers_after}
 use Rattle.row_laws.proofs.Stepping.{step-flush}
 use Rattle.sn_tick.specs.declared.due.Due.{Due}
-use Rattle.sn_tick.specs.declared.due.Due.TheVariants.{Loss, Retry, Delivery}
-use Rattle.sn_tick.specs.Due.{due_view, due_with, or_later, first_due}
+use Rattle.sn_tick.specs.declared.due.Due.TheVariants.{Expiry, Loss, Retry, Delivery}
+use Rattle.sn_tick.specs.Expiry.{has_expired}
+use Rattle.sn_tick.specs.Due.{due_session, due_view, due_with, or_later, first_due}
 use Rattle.sn_tick.specs.Ticking.{cleaned, may_advertise, advertised_to, advertised, plan_due, plan_if_due, tick}
 use Rattle.step_laws.specs.Ticks.{Ticked, AreTicks, busy, does_something, set_behind, local_behind}
-use Rattle.sn_tick.proofs.Calm.{some_none, and_false, one_more}
-use Rattle.step_laws.proofs.Counting.{IsAmong, contains-among, count, count-fewer}
+use Rattle.sn_tick.proofs.Calm.{none_some, some_none, and_false, one_more}
+use Rattle.step_laws.proofs.Counting.{IsAmong, contains-among, count, weigh, weigh-some}
 use Rattle.step_laws.proofs.Drafting.{tick-drafted}
 use Rattle.step_laws.proofs.Keeping.{fold_keeps}
-use Rattle.step_laws.proofs.Locally.{IsClean, cleaned-clean}
-use Rattle.step_laws.proofs.Lowering.{due-same, first-found, first-same, is_up_in, is_due_in, work, work-whole, times, told-lowers, rests-lowers, view-behind, clients-behind}
-use Rattle.step_laws.proofs.Stepping.{due-lowers}
+use Rattle.step_laws.proofs.Locally.{IsClean, lasting-clean, cleaned-clean}
+use Rattle.step_laws.proofs.Lowering.{due-same, else-same, past-same, weight_of, weighs-due, weighs-past, first-found, first-same, is_up_in, weight_in, work, work-whole, times, told-lowers, rests-lowers, view-behind, clients-behind}
+use Rattle.step_laws.proofs.Stepping.{due-lowers, expired-lowers}
 use Rattle.step_laws.proofs.Timing.{Alike, still_bound}
 
 -- ---- a tick without operations
@@ -67,8 +69,15 @@ module _ (g now : ℕ) (S delta : List Op) (none : Same delta []) (local : Local
     up_yet : (x : List ℕ) → is_up_in g advertise field now (S ++ delta) x ≡ true → is_up_in g advertise field now S x ≡ true
     up_yet x h = sym (ap (λ (v : ClientView). can_wake v.session) (same_view x)) ∙ h
 
-    still_due : (x : List ℕ) → is_due_in g advertise field now (S ++ delta) (after_all local changes) x ≡ true → is_due_in g advertise field now S local x ≡ true
-    still_due x h = sym (ap is_some (same_due x)) ∙ h
+    -- what is left to do with each is what it was
+    still_due : (x : List ℕ) → weight_in g advertise field now (S ++ delta) (after_all local changes) x ≤ weight_in g advertise field now S local x
+    still_due x =
+        le_of_eq
+        (λ i. weight_of
+        (is_some (else-same g now x (view x S) (view x (S ++ delta)) local (after_all local changes)
+        (ap (λ (v : ClientView). v.stamp) (same_view x)) (ap (λ (v : ClientView). v.pending) (same_view x)) (ap (λ (v : ClientView). v.session) (same_view x)) still.bindings (still.timers x) i))
+        (past-same g now x (view x S) (view x (S ++ delta)) local (after_all local changes)
+        (ap (λ (v : ClientView). v.stamp) (same_view x)) (ap (λ (v : ClientView). v.pending) (same_view x)) (ap (λ (v : ClientView). v.session) (same_view x)) still.bindings i))
 
 -- ---- ADVERTISE
 
@@ -106,12 +115,12 @@ one_and m n h = omega arith
 
 -- ---- each tick
 
-module _ (g advertise : ℕ) (field : List Addr) (predefined : Entries) (now : ℕ) (S : List Op) (local : Local) where
+module _ (g lifetime advertise : ℕ) (field : List Addr) (predefined : Entries) (now : ℕ) (S : List Op) (local : Local) where
   abbrev first : Drafted
-  first = cleaned g (seen_of S) local now
+  first = lasting (expires_at lifetime now) (cleaned g (seen_of S) local now)
 
   clean : IsClean now local first
-  clean = cleaned-clean now local g (seen_of S)
+  clean = lasting-clean now local (expires_at lifetime now) (cleaned g (seen_of S) local now) (cleaned-clean now local g (seen_of S))
 
   abbrev left_after : Plan → List Op → ℕ
   left_after plan delta = work g advertise field now (S ++ delta) (after_all local plan.local)
@@ -146,17 +155,22 @@ module _ (g advertise : ℕ) (field : List Addr) (predefined : Entries) (now : �
       clean.kept.advertised
 
   client_lowers : AreFlush g S → (plan : Plan) (delta : List Op) → Same delta plan.ops → (c : List ℕ) (reason : Due) → IsAmong c (clients S) → due_with g (seen_of S) local now c ≡ Some reason
-      → plan_due g predefined (seen_of S) now first c reason ≡ Some plan → left_after plan delta < left_before
-  client_lowers flush plan delta same c Loss among due e = due-lowers g advertise field predefined now S local first clean c among (flush c) plan delta same Loss due e
-  client_lowers flush plan delta same c (Retry a) among due e = due-lowers g advertise field predefined now S local first clean c among (flush c) plan delta same (Retry a) due e
-  client_lowers flush plan delta same c (Delivery a) among due e = due-lowers g advertise field predefined now S local first clean c among (flush c) plan delta same (Delivery a) due e
+      → plan_due g predefined (seen_of S) local now first c reason ≡ Some plan → left_after plan delta < left_before
+  client_lowers flush plan delta same c Expiry among due e =
+      expired-lowers g advertise field predefined now S local first clean c among (flush c) plan delta same due e
+  client_lowers flush plan delta same c Loss among due e =
+      due-lowers g advertise field predefined now S local first clean c among (flush c) plan delta same Loss (λ (is : Some Expiry ≡ Some Loss). cc) due e
+  client_lowers flush plan delta same c (Retry a) among due e =
+      due-lowers g advertise field predefined now S local first clean c among (flush c) plan delta same (Retry a) (λ (is : Some Expiry ≡ Some (Retry a)). cc) due e
+  client_lowers flush plan delta same c (Delivery a) among due e =
+      due-lowers g advertise field predefined now S local first clean c among (flush c) plan delta same (Delivery a) (λ (is : Some Expiry ≡ Some (Delivery a)). cc) due e
 
   abbrev Lowers : Bool → Plan → List Op → Type 0
   Lowers does plan delta = left_after plan delta + (if does then 1 else 0) ≤ left_before
 
   by_cases : AreFlush g S → (plan : Plan) (delta : List Op) → Same delta plan.ops → (time : Bool) → may_advertise advertise field now local.advertised ≡ time
       → (found : Option (List ℕ × Due)) → IfSome found (λ one. IsAmong one.0 (clients S) × (due_with g (seen_of S) local now one.0 ≡ Some one.1))
-      → (if time then Some (plan_without (advertised g advertise field now first)) else plan_if_due g predefined (seen_of S) now first found) ≡ Some plan
+      → (if time then Some (plan_without (advertised g advertise field now first)) else plan_if_due g predefined (seen_of S) local now first found) ≡ Some plan
       → Lowers (time || is_some found) plan delta
   by_cases flush plan delta same true is found known e =
       let one : plan_without (advertised g advertise field now first) ≡ plan = same_Some (plan_without (advertised g advertise field now first)) plan e in
@@ -172,7 +186,7 @@ module _ (g advertise : ℕ) (field : List Addr) (predefined : Entries) (now : �
   by_cases flush plan delta same false is (Some found) known e =
       at_once (left_after plan delta) left_before (client_lowers flush plan delta same found.0 found.1 known.0 known.1 e)
 
-  lowers : AreFlush g S → (plan : Plan) (delta : List Op) → Same delta plan.ops → tick g advertise field predefined (seen_of S) local now ≡ Some plan
+  lowers : AreFlush g S → (plan : Plan) (delta : List Op) → Same delta plan.ops → tick g lifetime advertise field predefined (seen_of S) local now ≡ Some plan
       → Lowers (does_something g advertise field (seen_of S) local now) plan delta
   lowers flush plan delta same e =
       by_cases flush plan delta same (may_advertise advertise field now local.advertised) refl (first_due g (seen_of S) local now (clients S))
@@ -180,11 +194,11 @@ module _ (g advertise : ℕ) (field : List Addr) (predefined : Entries) (now : �
 
   -- where nothing is to be done, nothing is to be done after the tick either
   nothing_left : (plan : Plan) (delta : List Op) → Same delta plan.ops → may_advertise advertise field now local.advertised ≡ false → first_due g (seen_of S) local now (clients S) ≡ None
-      → tick g advertise field predefined (seen_of S) local now ≡ Some plan → does_something g advertise field (seen_of (S ++ delta)) (after_all local plan.local) now ≡ false
+      → tick g lifetime advertise field predefined (seen_of S) local now ≡ Some plan → does_something g advertise field (seen_of (S ++ delta)) (after_all local plan.local) now ≡ false
   nothing_left plan delta same no_time no_client e =
       let quiet : Some (plan_without first) ≡ Some plan =
-      sym (ap (λ b. if b then Some (plan_without (advertised g advertise field now first)) else plan_if_due g predefined (seen_of S) now first (first_due g (seen_of S) local now (clients S))) no_time
-      ∙ ap (plan_if_due g predefined (seen_of S) now first) no_client) ∙ e in
+      sym (ap (λ b. if b then Some (plan_without (advertised g advertise field now first)) else plan_if_due g predefined (seen_of S) local now first (first_due g (seen_of S) local now (clients S))) no_time
+      ∙ ap (plan_if_due g predefined (seen_of S) local now first) no_client) ∙ e in
       let one : plan_without first ≡ plan = same_Some (plan_without first) plan quiet in
       let none : Same delta [] = subst (Same delta) (ap (λ (p : Plan). p.ops) (sym one)) same in
       subst (λ (xs : List LocalChange). does_something g advertise field (seen_of (S ++ delta)) (after_all local xs) now ≡ false) (ap (λ (p : Plan). p.local) one)
@@ -200,13 +214,6 @@ none_found None e = refl
 none_found (Some x) e = absurd (true≢false e)
 
 -- ---- all ticks
-
-above_zero : (m n : ℕ) → m < n → 0 < n
-above_zero m n h = omega arith
-
--- one of these passes the test at least
-some_due : {X : Type 0} (test : X → Bool) (c : X) (cs : List X) → IsAmong c cs → test c ≡ true → 0 < count test cs
-some_due test c cs among is = above_zero (count (λ _. false) cs) (count test cs) (count-fewer test (λ _. false) (λ _ e. absurd (true≢false (sym e))) c is refl cs among)
 
 at_least_one : (a b c : ℕ) → 0 < b → 0 < a + b + c
 at_least_one a b c h = omega arith
@@ -226,16 +233,28 @@ is_true true h = refl
 is_true false h = absurd (h refl)
 
 module _ (g advertise : ℕ) (field : List Addr) (now : ℕ) where
+  -- something is left to do with a client with which something is due
+  due_weighs : (S : List Op) (local : Local) (c : List ℕ) (owned past : Bool) (later : Option Due) (reason : Due) → (if owned then (if past then Some Expiry else later) else None) ≡ Some reason
+      → 0 < weight_of (is_some (if owned then later else None)) (owned && past)
+  due_weighs S local c true true later reason e = weighs-past (is_some later) true refl
+  due_weighs S local c true false None reason e = absurd (none_some reason e)
+  due_weighs S local c true false (Some other) reason e = weighs-due true false refl
+  due_weighs S local c false past later reason e = absurd (none_some reason e)
+
   found_due : (S : List Op) (local : Local) (found : Option (List ℕ × Due)) → IfSome found (λ one. IsAmong one.0 (clients S) × (due_with g (seen_of S) local now one.0 ≡ Some one.1))
-      → is_some found ≡ true → 0 < count (is_due_in g advertise field now S local) (clients S)
+      → is_some found ≡ true → 0 < weigh (weight_in g advertise field now S local) (clients S)
   found_due S local None known is = absurd (true≢false (sym is))
-  found_due S local (Some found) known is = some_due (is_due_in g advertise field now S local) found.0 (clients S) known.0 (ap is_some known.1)
+  found_due S local (Some found) known is =
+      weigh-some (weight_in g advertise field now S local) found.0
+      (due_weighs S local found.0 (is_stamp_of g (view found.0 S).stamp) (has_expired now (view found.0 S).pending (address_of found.0 local.bindings) (view found.0 S).session)
+      (due_session now (view found.0 S).pending (timer_of found.0 local.timers) (address_of found.0 local.bindings) (view found.0 S).session) found.1 known.1)
+      (clients S) known.0
 
   -- where a tick does something, something is left to do
   something_left : (S : List Op) (local : Local) → does_something g advertise field (seen_of S) local now ≡ true → 0 < work g advertise field now S local
   something_left S local is =
-      let ups : ℕ = count (is_up_in g advertise field now S) (clients S) * (length (clients S) + 1) in
-      let dues : ℕ = count (is_due_in g advertise field now S local) (clients S) in
+      let ups : ℕ = count (is_up_in g advertise field now S) (clients S) * (3 * (length (clients S) + 1)) in
+      let dues : ℕ = weigh (weight_in g advertise field now S local) (clients S) in
       elim (or_cases (may_advertise advertise field now local.advertised) (is_some (first_due g (seen_of S) local now (clients S))) is) [
         | inl time ↦ at_least_time ups dues (times g advertise field now local) (subst (λ b. 0 < (if b then 1 else 0)) (sym time) (omega arith))
         | inr found ↦ at_least_one ups dues (times g advertise field now local)
@@ -261,9 +280,9 @@ module _ (g advertise : ℕ) (field : List Addr) (now : ℕ) where
         | false ↦ λ is. ap (due_view g local now c) (unnamed-unseen c S is)
       ] refl
 
-module _ (g advertise : ℕ) (field : List Addr) (predefined : Entries) (now : ℕ) where
+module _ (g lifetime advertise : ℕ) (field : List Addr) (predefined : Entries) (now : ℕ) where
   -- what is done and what is left is no more than there was
-  all_at_most : (ticks : List Ticked) (S : List Op) (local : Local) → AreFlush g S → AreTicks g advertise field predefined now S local ticks
+  all_at_most : (ticks : List Ticked) (S : List Op) (local : Local) → AreFlush g S → AreTicks g lifetime advertise field predefined now S local ticks
       → busy g advertise field now S local ticks + work g advertise field now (set_behind S ticks) (local_behind local ticks) ≤ work g advertise field now S local
   all_at_most [] S local flush h = at_zero (work g advertise field now S local)
   all_at_most (t ∷ rest) S local flush h =
@@ -271,34 +290,34 @@ module _ (g advertise : ℕ) (field : List Addr) (predefined : Entries) (now : �
       (work g advertise field now (set_behind (S ++ t.delta) rest) (local_behind (after_all local t.plan.local) rest))
       (work g advertise field now (S ++ t.delta) (after_all local t.plan.local)) (work g advertise field now S local)
       (all_at_most rest (S ++ t.delta) (after_all local t.plan.local)
-      (step-flush g S t.plan (tick-drafted g advertise field predefined S local now t.plan h.0) t.delta h.1 flush) h.2)
-      (lowers g advertise field predefined now S local flush t.plan t.delta h.1 h.0)
+      (step-flush g S t.plan (tick-drafted g lifetime advertise field predefined S local now t.plan h.0) t.delta h.1 flush) h.2)
+      (lowers g lifetime advertise field predefined now S local flush t.plan t.delta h.1 h.0)
 
-  all_of_it : (S : List Op) (local : Local) (ticks : List Ticked) → AreFlush g S → AreTicks g advertise field predefined now S local ticks
-      → busy g advertise field now S local ticks + work g advertise field now (set_behind S ticks) (local_behind local ticks) ≤ (length (clients S) + 1) * (length (clients S) + 1)
+  all_of_it : (S : List Op) (local : Local) (ticks : List Ticked) → AreFlush g S → AreTicks g lifetime advertise field predefined now S local ticks
+      → busy g advertise field now S local ticks + work g advertise field now (set_behind S ticks) (local_behind local ticks) ≤ 3 * ((length (clients S) + 1) * (length (clients S) + 1))
   all_of_it S local ticks flush h = le_trans (all_at_most ticks S local flush h) (work-whole g advertise field now S local)
 
-  pub ticks-bound : (S : List Op) (local : Local) (ticks : List Ticked) → AreFlush g S → AreTicks g advertise field predefined now S local ticks
-      → busy g advertise field now S local ticks ≤ (length (clients S) + 1) * (length (clients S) + 1)
+  pub ticks-bound : (S : List Op) (local : Local) (ticks : List Ticked) → AreFlush g S → AreTicks g lifetime advertise field predefined now S local ticks
+      → busy g advertise field now S local ticks ≤ 3 * ((length (clients S) + 1) * (length (clients S) + 1))
   ticks-bound S local ticks flush h =
       le_trans (le-add_right (busy g advertise field now S local ticks) (work g advertise field now (set_behind S ticks) (local_behind local ticks))) (all_of_it S local ticks flush h)
 
   one_rests : (S : List Op) (local : Local) (plan : Plan) (delta : List Op) → does_something g advertise field (seen_of S) local now ≡ false
-      → tick g advertise field predefined (seen_of S) local now ≡ Some plan → Same delta plan.ops
+      → tick g lifetime advertise field predefined (seen_of S) local now ≡ Some plan → Same delta plan.ops
       → does_something g advertise field (seen_of (S ++ delta)) (after_all local plan.local) now ≡ false
   one_rests S local plan delta quiet e same =
       let parts = or_parts (may_advertise advertise field now local.advertised) (is_some (first_due g (seen_of S) local now (clients S))) quiet in
-      nothing_left g advertise field predefined now S local plan delta same parts.0 (none_found (first_due g (seen_of S) local now (clients S)) parts.1) e
+      nothing_left g lifetime advertise field predefined now S local plan delta same parts.0 (none_found (first_due g (seen_of S) local now (clients S)) parts.1) e
 
   -- once there is nothing to do, there is nothing to do after more ticks
-  pub ticks-rest : (S : List Op) (local : Local) (ticks : List Ticked) → AreTicks g advertise field predefined now S local ticks → does_something g advertise field (seen_of S) local now ≡ false
+  pub ticks-rest : (S : List Op) (local : Local) (ticks : List Ticked) → AreTicks g lifetime advertise field predefined now S local ticks → does_something g advertise field (seen_of S) local now ≡ false
       → does_something g advertise field (seen_of (set_behind S ticks)) (local_behind local ticks) now ≡ false
   ticks-rest S local [] h quiet = quiet
   ticks-rest S local (t ∷ rest) h quiet =
       ticks-rest (S ++ t.delta) (after_all local t.plan.local) rest h.2 (one_rests S local t.plan t.delta quiet h.0 h.1)
 
   -- where there is something to do after them, all of them did something
-  all_busy : (S : List Op) (local : Local) (ticks : List Ticked) → AreTicks g advertise field predefined now S local ticks
+  all_busy : (S : List Op) (local : Local) (ticks : List Ticked) → AreTicks g lifetime advertise field predefined now S local ticks
       → does_something g advertise field (seen_of (set_behind S ticks)) (local_behind local ticks) now ≡ true → length ticks ≤ busy g advertise field now S local ticks
   all_busy S local [] h is = omega arith
   all_busy S local (t ∷ rest) h is =
@@ -307,11 +326,11 @@ module _ (g advertise : ℕ) (field : List Addr) (predefined : Entries) (now : �
       subst (λ b. length (t ∷ rest) ≤ (if b then 1 else 0) + busy g advertise field now (S ++ t.delta) (after_all local t.plan.local) rest) (sym here)
       (one_and (length rest) (busy g advertise field now (S ++ t.delta) (after_all local t.plan.local) rest) (all_busy (S ++ t.delta) (after_all local t.plan.local) rest h.2 is))
 
-  pub ticks-end : (S : List Op) (local : Local) (ticks : List Ticked) → AreFlush g S → AreTicks g advertise field predefined now S local ticks
-      → (length (clients S) + 1) * (length (clients S) + 1) ≤ length ticks
+  pub ticks-end : (S : List Op) (local : Local) (ticks : List Ticked) → AreFlush g S → AreTicks g lifetime advertise field predefined now S local ticks
+      → 3 * ((length (clients S) + 1) * (length (clients S) + 1)) ≤ length ticks
       → does_something g advertise field (seen_of (set_behind S ticks)) (local_behind local ticks) now ≡ false
   ticks-end S local ticks flush h long =
       is_false (does_something g advertise field (seen_of (set_behind S ticks)) (local_behind local ticks) now)
       (λ is. one_more_than (length ticks) (busy g advertise field now S local ticks) (work g advertise field now (set_behind S ticks) (local_behind local ticks))
-      ((length (clients S) + 1) * (length (clients S) + 1)) (all_busy S local ticks h is)
+      (3 * ((length (clients S) + 1) * (length (clients S) + 1))) (all_busy S local ticks h is)
       (something_left g advertise field now (set_behind S ticks) (local_behind local ticks) is) (all_of_it S local ticks flush h) long)

@@ -19,6 +19,7 @@ use Rattle.sn_local.specs.Timers.{started}
 use Rattle.sn_flow.proofs.Rows.{s1, seven, bound_seven, first_take}
 use Rattle.sn_exchange.specs.Following.{deliver_next}
 use Rattle.sn_deliver.specs.Serving.{publish_in, ack_in}
+use Rattle.sn_deliver.specs.Steps.{step}
 use Rattle.sn_tick.specs.Ticking.{tick}
 use Rattle.step_laws.specs.Ticks.{Ticked, AreTicks, busy, does_something, set_behind, local_behind}
 
@@ -50,7 +51,7 @@ unfolding gapless write planned
 unconnected = refl
 
 -- and the next tick sends it, and is done with it
-sent_once : tick 1 0 [] [] (seen_of (asks_for_ab ++ OfPut s1 (x_on_ab 0) ∷ [])) there 2
+sent_once : tick 1 0 0 [] [] (seen_of (asks_for_ab ++ OfPut s1 (x_on_ab 0) ∷ [])) there 2
     ≡ Some (record {
       ops = Ack s1 1 1 1 ∷ [];
       sends = record { to = seven; bytes = 8 ∷ 0x0c ∷ 2 ∷ 0x61 ∷ 0x62 ∷ 0 ∷ 0 ∷ 0x78 ∷ [] } ∷ [];
@@ -58,6 +59,40 @@ sent_once : tick 1 0 [] [] (seen_of (asks_for_ab ++ OfPut s1 (x_on_ab 0) ∷ [])
     })
 unfolding gapless write planned
 sent_once = refl
+
+-- the message has a moment, from which on it need not wait
+abbrev lasts_until_33 : Put
+lasts_until_33 = record (x_on_ab 1) { expires = 33 }
+
+-- a second before it, the next tick sends it
+sent_before : tick 1 30 0 [] [] (seen_of (asks_for_ab ++ OfPut s1 lasts_until_33 ∷ [])) there 32
+    ≡ Some (record {
+      ops = at 2 (Outbound (Some (record { origin = 1; seq = 1; msg_id = 1; phase = Published })) 2) ∷ [];
+      sends = record { to = seven; bytes = 8 ∷ 0x0c ∷ 0x22 ∷ 0x61 ∷ 0x62 ∷ 0 ∷ 1 ∷ 0x78 ∷ [] } ∷ [];
+      local = Sent s1 32 ∷ [];
+    })
+unfolding gapless write planned
+sent_before = refl
+
+-- at that moment it is acknowledged, and nothing is sent
+expired : tick 1 30 0 [] [] (seen_of (asks_for_ab ++ OfPut s1 lasts_until_33 ∷ [])) there 33
+    ≡ Some (record { ops = Ack s1 1 1 1 ∷ []; sends = []; local = [] })
+unfolding gapless write planned
+expired = refl
+
+-- but while the client is in the middle of it, it stays: nothing is done
+abbrev in_the_middle : List Op
+in_the_middle = asks_for_ab ++ OfPut s1 lasts_until_33 ∷ at 2 (Outbound (Some (record { origin = 1; seq = 1; msg_id = 1; phase = Published })) 2) ∷ []
+
+let_be : tick 1 30 0 [] [] (seen_of in_the_middle) (record bound_seven { timers = started s1 32 ∷ [] }) 33 ≡ Some (record { ops = []; sends = []; local = [] })
+unfolding gapless write planned
+let_be = refl
+
+-- a message that a step makes lasts for the lifetime
+lasts : step 1 30 [] (seen_of asks_for_ab) bound_seven (record { host = 0; port = 99 }) (frames.Publish (record { bits = 0x62 }) 0x6162 0 (codes "x")) 3
+    ≡ Some (record { ops = OfPut s1 (record (x_on_ab 0) { expires = 33 }) ∷ []; sends = []; local = [] })
+unfolding gapless write planned step
+lasts = refl
 
 -- PUBLISH at quality of service 2 by the client itself: it gets the message later, the message id is received, PUBREC
 published_twice : deliver_next 1 [] (seen_of asks_for_ab) seven 2 (publish_in [] (seen_of asks_for_ab) bound_seven seven 0x42 0x6162 5 (codes "x") 2)
@@ -80,7 +115,7 @@ abbrev waits_for_tb : List Op
 waits_for_tb = first_take ∷ at 1 (Subscribe (codes "t/#") 1) ∷ OfPut s1 h_on_tb ∷ []
 
 -- a tick registers the topic
-registers : tick 1 0 [] [] (seen_of waits_for_tb) there 2
+registers : tick 1 0 0 [] [] (seen_of waits_for_tb) there 2
     ≡ Some (record {
       ops = at 2 (Register 1 (codes "t/b") false) ∷ at 3 (exchange_one 1) ∷ [];
       sends = record { to = seven; bytes = 9 ∷ 0x0a ∷ 0 ∷ 1 ∷ 0 ∷ 1 ∷ codes "t/b" } ∷ [];
@@ -115,7 +150,7 @@ unfolding gapless write planned
 acknowledged = refl
 
 -- without an answer for ten seconds the PUBLISH is sent again, with DUP and the same message id
-sent_again : tick 1 0 [] [] (seen_of published) (record bound_seven { timers = started s1 3 ∷ [] }) 13
+sent_again : tick 1 0 0 [] [] (seen_of published) (record bound_seven { timers = started s1 3 ∷ [] }) 13
     ≡ Some (record {
       ops = [];
       sends = record { to = seven; bytes = 8 ∷ 0x0c ∷ 0xa0 ∷ 0 ∷ 1 ∷ 0 ∷ 2 ∷ codes "H" } ∷ [];
@@ -125,7 +160,7 @@ unfolding gapless write planned
 sent_again = refl
 
 -- after four tries the client is lost
-lost_at_last : tick 1 0 [] [] (seen_of published) (record bound_seven { timers = record (started s1 3) { tries = 4 } ∷ [] }) 13
+lost_at_last : tick 1 0 0 [] [] (seen_of published) (record bound_seven { timers = record (started s1 3) { tries = 4 } ∷ [] }) 13
     ≡ Some (record { ops = at 7 (Presence Lost 60) ∷ []; sends = []; local = Unbind s1 ∷ [] })
 unfolding gapless write planned
 lost_at_last = refl
@@ -144,7 +179,7 @@ two_ticks =
     ∷ record { plan = record { ops = []; sends = []; local = [] }; delta = [] }
     ∷ []
 
-are_ticks : AreTicks 1 0 [] [] 2 (asks_for_ab ++ OfPut s1 (x_on_ab 0) ∷ []) there two_ticks
+are_ticks : AreTicks 1 0 0 [] [] 2 (asks_for_ab ++ OfPut s1 (x_on_ab 0) ∷ []) there two_ticks
 unfolding gapless write planned
 are_ticks = (refl, same_refl (Ack s1 1 1 1 ∷ []), (refl, same_refl [], tt))
 
@@ -169,7 +204,7 @@ busy_moment =
 abbrev tried_enough : Local
 tried_enough = record bound_seven { timers = record (started s1 3) { tries = 4 } ∷ [] }
 
-are_busy : AreTicks 1 5 (seven ∷ []) [] 13 published tried_enough busy_moment
+are_busy : AreTicks 1 0 5 (seven ∷ []) [] 13 published tried_enough busy_moment
 unfolding gapless write planned
 are_busy = (refl, same_refl [], (refl, same_refl (at 7 (Presence Lost 60) ∷ []), (refl, same_refl [], tt)))
 

@@ -18,7 +18,8 @@ use Rattle.sn_local.specs.declared.config.Send.{Send}
 use Rattle.sn_local.specs.declared.local.Timer.{Timer}
 use Rattle.sn_local.specs.declared.local.WillDialog.{WillDialog}
 use Rattle.sn_local.specs.declared.local.LocalChange.TheVariants.{Heard, EndDialog}
-use Rattle.sn_plan.specs.Drafts.{Drafted, nothing, changed, changed_if, acked, sent, moved, session_after}
+use Rattle.sn_plan.specs.Drafts.{Drafted, nothing, changed, changed_if, acked, lasting, sent, moved, session_after}
+use Rattle.sn_local.specs.Lifetimes.{expires_at}
 use Rattle.sn_local.specs.Seen.{Seen}
 use Rattle.sn_plan.specs.Plans.{plan_without}
 use Rattle.sn_local.specs.Locals.{Local}
@@ -119,12 +120,13 @@ cleaned_sends g seen local now =
     ∙ fold_keeps (dialog_ended now) (λ d. d.sends) (dialog_sends now) local.dialogs nothing
 
 pub tick-quiet : TickIsQuiet
-tick-quiet g advertise field predefined seen local now no_advertise no_client = (
-  plan_without (cleaned g seen local now),
-  ap (λ (b : Bool). if b then Some (plan_without (advertised g advertise field now (cleaned g seen local now))) else plan_if_due g predefined seen now (cleaned g seen local now) (first_due g seen local now seen.all)) no_advertise
-      ∙ ap (plan_if_due g predefined seen now (cleaned g seen local now)) no_client,
-  (refl, cleaned_sends g seen local now),
-)
+tick-quiet g lifetime advertise field predefined seen local now no_advertise no_client =
+    let first : Drafted = lasting (expires_at lifetime now) (cleaned g seen local now) in (
+      plan_without first,
+      ap (λ (b : Bool). if b then Some (plan_without (advertised g advertise field now first)) else plan_if_due g predefined seen local now first (first_due g seen local now seen.all)) no_advertise
+          ∙ ap (plan_if_due g predefined seen local now first) no_client,
+      (refl, cleaned_sends g seen local now),
+    )
 
 -- ---- Delivery
 

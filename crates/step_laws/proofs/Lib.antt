@@ -5,6 +5,7 @@ mod Counting
 pub mod Drafting
 mod Ending
 mod Examples
+pub mod Expiring
 pub mod Keeping
 mod Locally
 mod Lowering

@@ -14,7 +14,7 @@ use Rattle.sn_local.specs.declared.config.Addr.{Addr}
 use Rattle.sn_local.specs.declared.local.WillDialog.{WillDialog}
 use Rattle.sn_local.specs.declared.local.LocalChange.{LocalChange}
 use Rattle.sn_local.specs.declared.local.LocalChange.TheVariants.{Heard, Sent, Resent, Retried, EndDialog}
-use Rattle.sn_plan.specs.Drafts.{Drafted, nothing, changed_if, moved, session_after}
+use Rattle.sn_plan.specs.Drafts.{Drafted, nothing, changed_if, lasting, moved, session_after}
 use Rattle.sn_local.specs.Seen.{Seen}
 use Rattle.sn_local.specs.Bindings.{is_stamp_of}
 use Rattle.sn_plan.specs.Bound.{session_of}
@@ -132,6 +132,9 @@ none_is (Some x) e = absurd (true≢false (sym e))
 module _ (now : ℕ) (local : Local) where
   clean_moved : (change : LocalChange) (d : Drafted) → IsClean now local d → AreKept now local Anyone (d.local ++ change ∷ []) → IsClean now local (moved change d)
   clean_moved change d h kept = record { changes = h.changes; acks = h.acks; handed = h.handed; puts = h.puts; kept = kept }
+
+  pub lasting-clean : (moment : ℕ) (d : Drafted) → IsClean now local d → IsClean now local (lasting moment d)
+  lasting-clean moment d h = record { changes = h.changes; acks = h.acks; handed = h.handed; puts = h.puts; kept = h.kept }
 
   clean_if : (b : Bool) (x d : Drafted) → (b ≡ true → IsClean now local x) → IsClean now local d → IsClean now local (if b then x else d)
   clean_if true x d h k = h refl

@@ -1,5 +1,5 @@
 -- How much a gateway has left to do at a moment, and what makes it less.
-use Rattle.std.proofs.Common.{◌≡◌, ℕ, ◌+◌, ◌*◌, ◌<◌, ◌≤◌, Bool, true, false, if◌then◌else◌, is_some, List, [], ◌∷◌, ◌++◌, length, Option, Some, None, IfSome, refl, sym, ap, ◌∙◌, subst, true≢false, inl, inr, arith, le_of_eq}
+use Rattle.std.proofs.Common.{◌≡◌, ℕ, ◌+◌, ◌*◌, ◌<◌, ◌≤◌, Bool, true, false, ◌&&◌, if◌then◌else◌, is_some, List, [], ◌∷◌, ◌++◌, length, Option, Some, None, IfSome, refl, sym, ap, ◌∙◌, subst, true≢false, inl, inr, arith, le_of_eq}
 use Rattle.std.proofs.lemmas.Bool.{and_parts}
 use Rattle.sn_session.specs.declared.presence.Presence.{Presence}
 use Rattle.sn_session.specs.declared.presence.Presence.TheVariants.{Active, Asleep, Awake, Disconnected, Lost}
@@ -17,15 +17,17 @@ use Rattle.sn_local.specs.Bindings.{is_stamp_of, address_of}
 use Rattle.sn_local.specs.Timers.{timer_of}
 use Rattle.sn_local.specs.Locals.{Local}
 use Rattle.sn_plan.specs.Others.{is_up, can_wake}
-use Rattle.sn_local.specs.Seen.{Seen, seen_of}
+use Rattle.sn_local.specs.Seen.{Seen}
 use Rattle.row_laws.proofs.Known.{same-behind}
 use Rattle.sn_tick.specs.declared.due.Due.{Due}
-use Rattle.sn_tick.specs.declared.due.Due.TheVariants.{Loss}
+use Rattle.sn_tick.specs.declared.due.Due.TheVariants.{Expiry, Loss}
 use Rattle.sn_exchange.specs.Exchanges.{open_exchange, is_served}
-use Rattle.sn_tick.specs.Due.{is_silent, is_overdue, due_by, due_at, due_session, due_view, due_with, or_later, first_due}
+use Rattle.sn_tick.specs.Expiry.{has_expired}
+use Rattle.sn_tick.specs.Due.{is_silent, is_overdue, due_by, due_at, due_session, expiry_or_due, due_view, due_with, or_later, first_due}
 use Rattle.sn_tick.specs.Ticking.{may_advertise}
-use Rattle.sn_tick.proofs.Calm.{first_of, none_some}
-use Rattle.step_laws.proofs.Counting.{count, IsAmong, count-most, count-fewer, count-whole, less_up, less_due, less_time, no_more, all_left_to_do}
+use Rattle.sn_tick.proofs.Calm.{first_of, second_of, none_some}
+use Rattle.step_laws.proofs.Expiring.{never-expiry}
+use Rattle.step_laws.proofs.Counting.{count, IsAmong, count-most, count-fewer, count-whole, weigh, weigh-most, weigh-less, weigh-whole, less_up, less_due, less_time, no_more, all_left_to_do, below_three}
 use Rattle.step_laws.proofs.Timing.{Alike, due-alike}
 
 -- ---- with which clients something is due
@@ -47,7 +49,7 @@ module _ (now : ℕ) (s : Session) (pending : List Put) (reason : Due) where
   at_up o (Some a) e =
       served_up s.presence (first_of (is_served s.presence) (due_by now s pending a o (open_exchange s [] pending)) None (Some reason) (none_some reason) e).0
 
-  -- something is due only with a client that is Active, Asleep or Awake
+  -- by its session something is due only with a client that is Active, Asleep or Awake
   due_up : (o : Option Timer) (a : Option Addr) → due_session now pending o a (Some s) ≡ Some reason → is_up s.presence ≡ true
   due_up o a e =
       elim (is_overdue now s o) as (λ b. is_overdue now s o ≡ b → (if b then Some Loss else due_at now s pending o a) ≡ Some reason → is_up s.presence ≡ true) [
@@ -55,7 +57,16 @@ module _ (now : ℕ) (s : Session) (pending : List Put) (reason : Due) where
         | false ↦ λ _ is. at_up o a is
       ] refl e
 
--- what is known of a client with which something is due
+-- what is due with a client by its session, if the gateway owns it
+abbrev pub due_else : ℕ → Local → ℕ → List ℕ → ClientView → Option Due
+due_else g local now c v =
+    if is_stamp_of g v.stamp then due_session now v.pending (timer_of c local.timers) (address_of c local.bindings) v.session else None
+
+-- something of a client expires, and the gateway owns it
+abbrev pub expires_of : ℕ → Local → ℕ → List ℕ → ClientView → Bool
+expires_of g local now c v = is_stamp_of g v.stamp && has_expired now v.pending (address_of c local.bindings) v.session
+
+-- what is known of a client with which something is due by its session
 pub record IsDue (g : ℕ) (now : ℕ) (local : Local) (c : List ℕ) (v : ClientView) (reason : Due) : Type 0 where
   pub owned : is_stamp_of g v.stamp ≡ true
   pub session : Session
@@ -74,19 +85,53 @@ session_due g now local c v reason (Some s) owned is due = record {
   due = due;
 }
 
-pub is-due : (g now : ℕ) (local : Local) (c : List ℕ) (v : ClientView) (reason : Due) → due_view g local now c v ≡ Some reason → IsDue g now local c v reason
-is-due g now local c v reason e =
-    let found = first_of (is_stamp_of g v.stamp) (due_session now v.pending (timer_of c local.timers) (address_of c local.bindings) v.session) None (Some reason) (none_some reason) e in
-    session_due g now local c v reason v.session found.0 refl found.1
+pub is-due : (g now : ℕ) (local : Local) (c : List ℕ) (v : ClientView) (reason : Due) → ¬ (Some Expiry ≡ Some reason) → due_view g local now c v ≡ Some reason → IsDue g now local c v reason
+is-due g now local c v reason other e =
+    let found = first_of (is_stamp_of g v.stamp) (expiry_or_due now v.pending (timer_of c local.timers) (address_of c local.bindings) v.session) None (Some reason) (none_some reason) e in
+    let later = second_of (has_expired now v.pending (address_of c local.bindings) v.session) (Some Expiry) (due_session now v.pending (timer_of c local.timers) (address_of c local.bindings) v.session) (Some reason) other found.1 in
+    session_due g now local c v reason v.session found.0 refl later.1
+
+-- what is known of a client of which something expires
+pub record IsPast (g : ℕ) (now : ℕ) (local : Local) (c : List ℕ) (v : ClientView) : Type 0 where
+  pub owned : is_stamp_of g v.stamp ≡ true
+  pub past : has_expired now v.pending (address_of c local.bindings) v.session ≡ true
+
+past_of : (past : Bool) (o : Option Due) → ¬ (o ≡ Some Expiry) → (if past then Some Expiry else o) ≡ Some Expiry → past ≡ true
+past_of true o never e = refl
+past_of false o never e = absurd (never e)
+
+pub is-past : (g now : ℕ) (local : Local) (c : List ℕ) (v : ClientView) → due_view g local now c v ≡ Some Expiry → IsPast g now local c v
+is-past g now local c v e =
+    let found = first_of (is_stamp_of g v.stamp) (expiry_or_due now v.pending (timer_of c local.timers) (address_of c local.bindings) v.session) None (Some Expiry) (none_some Expiry) e in
+    record {
+      owned = found.0;
+      past = past_of (has_expired now v.pending (address_of c local.bindings) v.session) (due_session now v.pending (timer_of c local.timers) (address_of c local.bindings) v.session)
+          (never-expiry now v.pending (timer_of c local.timers) (address_of c local.bindings) v.session) found.1;
+    }
 
 -- views and local states that are alike for a client: the same is due
 pub due-same : (g now : ℕ) (c : List ℕ) (v w : ClientView) (local after : Local) → w.stamp ≡ v.stamp → w.pending ≡ v.pending → w.session ≡ v.session
     → after.bindings ≡ local.bindings → Alike now (timer_of c local.timers) (timer_of c after.timers)
     → due_view g after now c w ≡ due_view g local now c v
 due-same g now c v w local after stamp pending session bindings alike =
+    (λ i. if is_stamp_of g (stamp i) then expiry_or_due now (pending i) (timer_of c after.timers) (address_of c (bindings i)) (session i) else None)
+    ∙ ap (λ (o : Option Due). if is_stamp_of g v.stamp then (if has_expired now v.pending (address_of c local.bindings) v.session then Some Expiry else o) else None)
+    (due-alike now v.pending (timer_of c local.timers) (timer_of c after.timers) (address_of c local.bindings) v.session alike)
+
+-- and so by the session alone
+pub else-same : (g now : ℕ) (c : List ℕ) (v w : ClientView) (local after : Local) → w.stamp ≡ v.stamp → w.pending ≡ v.pending → w.session ≡ v.session
+    → after.bindings ≡ local.bindings → Alike now (timer_of c local.timers) (timer_of c after.timers)
+    → due_else g after now c w ≡ due_else g local now c v
+else-same g now c v w local after stamp pending session bindings alike =
     (λ i. if is_stamp_of g (stamp i) then due_session now (pending i) (timer_of c after.timers) (address_of c (bindings i)) (session i) else None)
     ∙ ap (λ (o : Option Due). if is_stamp_of g v.stamp then o else None)
     (due-alike now v.pending (timer_of c local.timers) (timer_of c after.timers) (address_of c local.bindings) v.session alike)
+
+-- and the same expires
+pub past-same : (g now : ℕ) (c : List ℕ) (v w : ClientView) (local after : Local) → w.stamp ≡ v.stamp → w.pending ≡ v.pending → w.session ≡ v.session
+    → after.bindings ≡ local.bindings → expires_of g after now c w ≡ expires_of g local now c v
+past-same g now c v w local after stamp pending session bindings =
+    λ i. is_stamp_of g (stamp i) && has_expired now (pending i) (address_of c (bindings i)) (session i)
 
 module _ (g : ℕ) (seen : Seen) (local : Local) (now : ℕ) where
   abbrev IsFound : List (List ℕ) → List ℕ × Due → Type 0
@@ -118,18 +163,53 @@ fewer_times true true e f = absurd (true≢false f)
 fewer_times true false e f = omega arith
 fewer_times false b e f = absurd (true≢false (sym e))
 
+-- what a client weighs: two if something is due with it by its session, and one if something of it expires
+abbrev pub weight_of : Bool → Bool → ℕ
+weight_of due past = (if due then 2 else 0) + (if past then 1 else 0)
+
+pub three-at-most : (due past : Bool) → weight_of due past ≤ 3
+three-at-most true true = omega arith
+three-at-most true false = omega arith
+three-at-most false true = omega arith
+three-at-most false false = omega arith
+
+-- what was due by the session is not due any more, whatever expires then
+pub done-weighs : (before past : Bool) → weight_of false past < weight_of true before
+done-weighs true true = omega arith
+done-weighs true false = omega arith
+done-weighs false true = omega arith
+done-weighs false false = omega arith
+
+-- what expired does not any more, and nothing else is due but what was
+pub expired-weighs : (due before : Bool) → (due ≡ true → before ≡ true) → weight_of due false < weight_of before true
+expired-weighs true true h = omega arith
+expired-weighs true false h = absurd (true≢false (sym (h refl)))
+expired-weighs false true h = omega arith
+expired-weighs false false h = omega arith
+
+pub weighs-due : (due past : Bool) → due ≡ true → 0 < weight_of due past
+weighs-due true true e = omega arith
+weighs-due true false e = omega arith
+weighs-due false past e = absurd (true≢false (sym e))
+
+pub weighs-past : (due past : Bool) → past ≡ true → 0 < weight_of due past
+weighs-past true true e = omega arith
+weighs-past false true e = omega arith
+weighs-past due false e = absurd (true≢false (sym e))
+
 module _ (g advertise : ℕ) (field : List Addr) (now : ℕ) where
   abbrev pub is_up_in : List Op → List ℕ → Bool
   is_up_in S c = can_wake (view c S).session
 
-  abbrev pub is_due_in : List Op → Local → List ℕ → Bool
-  is_due_in S local c = is_some (due_with g (seen_of S) local now c)
+  -- what is left to do with a client at this moment
+  abbrev pub weight_in : List Op → Local → List ℕ → ℕ
+  weight_in S local c = weight_of (is_some (due_else g local now c (view c S))) (expires_of g local now c (view c S))
 
   abbrev pub times : Local → ℕ
   times local = if may_advertise advertise field now local.advertised then 1 else 0
 
   abbrev pub work_over : List (List ℕ) → List Op → Local → ℕ
-  work_over cs S local = count (is_up_in S) cs * (length cs + 1) + count (is_due_in S local) cs + times local
+  work_over cs S local = count (is_up_in S) cs * (3 * (length cs + 1)) + weigh (weight_in S local) cs + times local
 
   -- each client can still be lost, and make something due with every other; with some of them something is due; and it may be time
   -- for ADVERTISE
@@ -140,10 +220,14 @@ module _ (g advertise : ℕ) (field : List Addr) (now : ℕ) where
   one_at_most true = omega arith
   one_at_most false = omega arith
 
-  pub work-whole : (S : List Op) (local : Local) → work S local ≤ (length (clients S) + 1) * (length (clients S) + 1)
+  few_weigh : (S : List Op) (local : Local) (cs : List (List ℕ)) → weigh (weight_in S local) cs ≤ 3 * length cs
+  few_weigh S local cs =
+      weigh-whole (weight_in S local) (λ c. three-at-most (is_some (due_else g local now c (view c S))) (expires_of g local now c (view c S))) cs
+
+  pub work-whole : (S : List Op) (local : Local) → work S local ≤ 3 * ((length (clients S) + 1) * (length (clients S) + 1))
   work-whole S local =
-      all_left_to_do (length (clients S)) (count (is_up_in S) (clients S)) (count (is_due_in S local) (clients S)) (times local)
-      (count-whole (is_up_in S) (clients S)) (count-whole (is_due_in S local) (clients S)) (one_at_most (may_advertise advertise field now local.advertised))
+      all_left_to_do (length (clients S)) (count (is_up_in S) (clients S)) (weigh (weight_in S local) (clients S)) (times local)
+      (count-whole (is_up_in S) (clients S)) (few_weigh S local (clients S)) (one_at_most (may_advertise advertise field now local.advertised))
 
   module _ (S after : List Op) (local then_local : Local) (same : clients after ≡ clients S) (up : (x : List ℕ) → is_up_in after x ≡ true → is_up_in S x ≡ true) where
     over : work after then_local ≡ work_over (clients S) after then_local
@@ -157,39 +241,40 @@ module _ (g advertise : ℕ) (field : List Addr) (now : ℕ) where
         → work after then_local < work S local
     lost-lowers c among was is told =
         subst (λ n. n < work S local) (sym over)
-        (less_up (length (clients S)) (count (is_up_in S) (clients S)) (count (is_up_in after) (clients S)) (count (is_due_in S local) (clients S)) (count (is_due_in after then_local) (clients S))
+        (less_up (3 * (length (clients S) + 1)) (count (is_up_in S) (clients S)) (count (is_up_in after) (clients S)) (weigh (weight_in S local) (clients S)) (weigh (weight_in after then_local) (clients S))
         (times local) (times then_local)
-        (count-fewer (is_up_in S) (is_up_in after) up c was is (clients S) among) (count-whole (is_due_in after then_local) (clients S)) (times_same told))
+        (count-fewer (is_up_in S) (is_up_in after) up c was is (clients S) among)
+        (below_three (length (clients S)) (weigh (weight_in after then_local) (clients S)) (few_weigh after then_local (clients S))) (times_same told))
 
-    -- something was due with a client and is not any more
-    pub done-lowers : (c : List ℕ) → IsAmong c (clients S) → ((x : List ℕ) → is_due_in after then_local x ≡ true → is_due_in S local x ≡ true)
-        → is_due_in S local c ≡ true → is_due_in after then_local c ≡ false → then_local.advertised ≡ local.advertised
+    -- less is left to do with a client, and no more with any
+    pub done-lowers : (c : List ℕ) → IsAmong c (clients S) → ((x : List ℕ) → weight_in after then_local x ≤ weight_in S local x)
+        → weight_in after then_local c < weight_in S local c → then_local.advertised ≡ local.advertised
         → work after then_local < work S local
-    done-lowers c among due was is told =
+    done-lowers c among due less told =
         subst (λ n. n < work S local) (sym over)
-        (less_due (length (clients S)) (count (is_up_in S) (clients S)) (count (is_up_in after) (clients S)) (count (is_due_in S local) (clients S)) (count (is_due_in after then_local) (clients S))
+        (less_due (3 * (length (clients S) + 1)) (count (is_up_in S) (clients S)) (count (is_up_in after) (clients S)) (weigh (weight_in S local) (clients S)) (weigh (weight_in after then_local) (clients S))
         (times local) (times then_local)
-        (count-most (is_up_in S) (is_up_in after) up (clients S)) (count-fewer (is_due_in S local) (is_due_in after then_local) due c was is (clients S) among) (times_same told))
+        (count-most (is_up_in S) (is_up_in after) up (clients S)) (weigh-less (weight_in S local) (weight_in after then_local) due c less (clients S) among) (times_same told))
 
     -- it was time for ADVERTISE and is not any more
-    pub told-lowers : ((x : List ℕ) → is_due_in after then_local x ≡ true → is_due_in S local x ≡ true)
+    pub told-lowers : ((x : List ℕ) → weight_in after then_local x ≤ weight_in S local x)
         → may_advertise advertise field now local.advertised ≡ true → may_advertise advertise field now then_local.advertised ≡ false
         → work after then_local < work S local
     told-lowers due was is =
         subst (λ n. n < work S local) (sym over)
-        (less_time (length (clients S)) (count (is_up_in S) (clients S)) (count (is_up_in after) (clients S)) (count (is_due_in S local) (clients S)) (count (is_due_in after then_local) (clients S))
+        (less_time (3 * (length (clients S) + 1)) (count (is_up_in S) (clients S)) (count (is_up_in after) (clients S)) (weigh (weight_in S local) (clients S)) (weigh (weight_in after then_local) (clients S))
         (times local) (times then_local)
-        (count-most (is_up_in S) (is_up_in after) up (clients S)) (count-most (is_due_in S local) (is_due_in after then_local) due (clients S))
+        (count-most (is_up_in S) (is_up_in after) up (clients S)) (weigh-most (weight_in S local) (weight_in after then_local) due (clients S))
         (fewer_times (may_advertise advertise field now local.advertised) (may_advertise advertise field now then_local.advertised) was is))
 
     -- nothing more is due
-    pub rests-lowers : ((x : List ℕ) → is_due_in after then_local x ≡ true → is_due_in S local x ≡ true) → then_local.advertised ≡ local.advertised
+    pub rests-lowers : ((x : List ℕ) → weight_in after then_local x ≤ weight_in S local x) → then_local.advertised ≡ local.advertised
         → work after then_local ≤ work S local
     rests-lowers due told =
         subst (λ n. n ≤ work S local) (sym over)
-        (no_more (length (clients S)) (count (is_up_in S) (clients S)) (count (is_up_in after) (clients S)) (count (is_due_in S local) (clients S)) (count (is_due_in after then_local) (clients S))
+        (no_more (3 * (length (clients S) + 1)) (count (is_up_in S) (clients S)) (count (is_up_in after) (clients S)) (weigh (weight_in S local) (clients S)) (weigh (weight_in after then_local) (clients S))
         (times local) (times then_local)
-        (count-most (is_up_in S) (is_up_in after) up (clients S)) (count-most (is_due_in S local) (is_due_in after then_local) due (clients S)) (times_same told))
+        (count-most (is_up_in S) (is_up_in after) up (clients S)) (weigh-most (weight_in S local) (weight_in after then_local) due (clients S)) (times_same told))
 
 -- ---- a set with equal operations after it
 

@@ -30,7 +30,7 @@ use Rattle.sn_local.specs.Seen.{Seen}
 use Rattle.sn_plan.specs.Bound.{session_of}
 use Rattle.sn_local.specs.Timers.{timer_of, sent_at, resent_at, retried_at, timers_after}
 use Rattle.sn_tick.specs.declared.due.Due.{Due}
-use Rattle.sn_tick.specs.declared.due.Due.TheVariants.{Loss, Retry, Delivery}
+use Rattle.sn_tick.specs.declared.due.Due.TheVariants.{Expiry, Loss, Retry, Delivery}
 use Rattle.sn_exchange.specs.declared.form.Form.{Form}
 use Rattle.sn_exchange.specs.declared.peer.Peer.{Peer}
 use Rattle.sn_exchange.specs.Forms.{form_of, form_again, publication}
@@ -41,6 +41,7 @@ use Rattle.sn_tick.specs.Due.{elapsed, is_overdue, due_exchange, due_by, due_at,
 use Rattle.sn_tick.specs.Ticking.{lost}
 use Rattle.step_laws.specs.Laws.{AreApart, due_after, due_draft, TickSettles}
 use Rattle.sn_tick.proofs.Calm.{first_of, second_of, none_some, sent_found, resent_found, retried_found, one_more, sent_rests, resent_rests, sent_calm, resent_calm, retried_calm, calm_alike, calm_asleep, by_unserved, by_rest, by_empty, ends}
+use Rattle.step_laws.proofs.Expiring.{never-expiry}
 use Rattle.step_laws.proofs.Remaining.{left-none, next_left, opens, closed, named_set, registered}
 
 -- ---- Delivery
@@ -190,16 +191,16 @@ module _ (predefined : Entries) (peer : Peer) (s : Session) (pending : List Put)
 -- ---- Resend
 
 -- a draft that changes nothing and acknowledges nothing
-abbrev plain : List Posted → Option Posted → List NewPut → List Send → List LocalChange → Drafted
-plain handed retain puts sends local = record { changes = []; acks = []; handed = handed; retain = retain; puts = puts; sends = sends; local = local }
+abbrev plain : List Posted → Option Posted → List NewPut → ℕ → List Send → List LocalChange → Drafted
+plain handed retain puts moment sends local = record { changes = []; acks = []; handed = handed; retain = retain; puts = puts; expires = moment; sends = sends; local = local }
 
-to_plain : (d : Drafted) → d.changes ≡ [] → d.acks ≡ [] → d ≡ plain d.handed d.retain d.puts d.sends d.local
+to_plain : (d : Drafted) → d.changes ≡ [] → d.acks ≡ [] → d ≡ plain d.handed d.retain d.puts d.expires d.sends d.local
 to_plain d h k = ap (λ (changes : List SessionOp). record d { changes = changes }) h ∙ ap (λ (acks : List (ℕ × ℕ)). record d { changes = []; acks = acks }) k
 
-module _ (predefined : Entries) (peer : Peer) (s : Session) (pending : List Put) (timers : List Timer) (x : Exchange) (handed : List Posted) (retain : Option Posted) (puts : List NewPut) (sends : List Send) (local : List LocalChange)
+module _ (predefined : Entries) (peer : Peer) (s : Session) (pending : List Put) (timers : List Timer) (x : Exchange) (handed : List Posted) (retain : Option Posted) (puts : List NewPut) (moment : ℕ) (sends : List Send) (local : List LocalChange)
     (is_open : open_exchange s [] pending ≡ Some x) (calm : is_overdue peer.moment s (timer_of peer.client (timers_after timers local)) ≡ false) (apart : AreApart pending) where
   -- a frame that is sent again was just sent
-  again_settles : (frame : Frame) → Settled peer s pending timers (moved (Resent peer.client peer.moment) (sent peer.address frame (plain handed retain puts sends local)))
+  again_settles : (frame : Frame) → Settled peer s pending timers (moved (Resent peer.client peer.moment) (sent peer.address frame (plain handed retain puts moment sends local)))
   again_settles frame b =
       let o : Option Timer = timer_of peer.client (timers_after timers local) in
       settled_by peer.moment (left [] pending) pending
@@ -211,32 +212,32 @@ module _ (predefined : Entries) (peer : Peer) (s : Session) (pending : List Put)
       (by_rest peer.moment s pending (Some (resent_at peer.client peer.moment o)) b x is_open (λ a. resent_rests peer.moment a peer.client o)))
 
   -- an exchange that ends gives way to Delivery
-  given_settles : Settled peer s pending timers (and_then (deliver_left predefined peer s pending) (given_up s (plain handed retain puts sends local)))
+  given_settles : Settled peer s pending timers (and_then (deliver_left predefined peer s pending) (given_up s (plain handed retain puts moment sends local)))
   given_settles =
-      all_settle predefined peer s pending timers (changed (Outbound None s.next_id) (plain handed retain puts sends local)) (record s { outbound = None; next_id = s.next_id }) refl
+      all_settle predefined peer s pending timers (changed (Outbound None s.next_id) (plain handed retain puts moment sends local)) (record s { outbound = None; next_id = s.next_id }) refl
       (record { so_far = refl; presence = refl; duration = refl; topics = refl; none_open = refl; calm = calm }) apart
 
   by_entry : (put : Put) (msg_id : ℕ) (entry : Option TopicEntry)
-      → Settled peer s pending timers (and_then (deliver_left predefined peer s pending) (register_by peer s put msg_id entry (plain handed retain puts sends local)))
+      → Settled peer s pending timers (and_then (deliver_left predefined peer s pending) (register_by peer s put msg_id entry (plain handed retain puts moment sends local)))
   by_entry put msg_id None = given_settles
   by_entry put msg_id (Some entry) = again_settles (frames.Register entry.id msg_id put.topic)
 
   by_form : (put : Put) (msg_id : ℕ) (form : Option Form)
-      → Settled peer s pending timers (and_then (deliver_left predefined peer s pending) (publish_by peer s put msg_id form (plain handed retain puts sends local)))
+      → Settled peer s pending timers (and_then (deliver_left predefined peer s pending) (publish_by peer s put msg_id form (plain handed retain puts moment sends local)))
   by_form put msg_id None = given_settles
   by_form put msg_id (Some form) = again_settles (publication true put msg_id form)
 
   in_phase : (msg_id : ℕ) (phase : Phase) (put : Option Put)
-      → Settled peer s pending timers (and_then (deliver_left predefined peer s pending) (resend_in predefined peer s msg_id phase put (plain handed retain puts sends local)))
+      → Settled peer s pending timers (and_then (deliver_left predefined peer s pending) (resend_in predefined peer s msg_id phase put (plain handed retain puts moment sends local)))
   in_phase msg_id Registering None = given_settles
   in_phase msg_id Registering (Some put) = by_entry put msg_id (topic_named put.topic s.topics)
   in_phase msg_id Published None = given_settles
   in_phase msg_id Published (Some put) = by_form put msg_id (form_again predefined s put.topic)
   in_phase msg_id Released put = again_settles (frames.PubRel msg_id)
 
-  resend_settles : Settled peer s pending timers (resend_if predefined peer s pending (open_exchange s [] pending) (plain handed retain puts sends local))
+  resend_settles : Settled peer s pending timers (resend_if predefined peer s pending (open_exchange s [] pending) (plain handed retain puts moment sends local))
   resend_settles =
-      subst (λ (o : Option Exchange). Settled peer s pending timers (resend_if predefined peer s pending o (plain handed retain puts sends local))) (sym is_open)
+      subst (λ (o : Option Exchange). Settled peer s pending timers (resend_if predefined peer s pending o (plain handed retain puts moment sends local))) (sym is_open)
       (in_phase x.msg_id x.phase (put_left [] pending (message_of x)))
 
 -- ---- what was due
@@ -308,7 +309,7 @@ lost_rests now duration s pending None (Some a) = refl
 lost_rests now duration s pending (Some t) None = refl
 lost_rests now duration s pending (Some t) (Some a) = refl
 
-module _ (predefined : Entries) (seen : Seen) (now : ℕ) (c : List ℕ) (timers : List Timer) (a b : Option Addr) (handed : List Posted) (retain : Option Posted) (puts : List NewPut) (sends : List Send) (local : List LocalChange)
+module _ (predefined : Entries) (seen : Seen) (now : ℕ) (c : List ℕ) (timers : List Timer) (a b : Option Addr) (handed : List Posted) (retain : Option Posted) (puts : List NewPut) (moment : ℕ) (sends : List Send) (local : List LocalChange)
     (apart : AreApart (seen.of c).pending) where
   abbrev session : Session
   session = session_of seen c
@@ -319,25 +320,26 @@ module _ (predefined : Entries) (seen : Seen) (now : ℕ) (c : List ℕ) (timers
   abbrev timer : Option Timer
   timer = timer_of c (timers_after timers local)
 
-  delivery_settles : (to : Addr) → ToDeliver now session waiting timer → due_after now c session waiting timers b (due_draft predefined seen now c (plain handed retain puts sends local) (Delivery to)) ≡ None
+  delivery_settles : (to : Addr) → ToDeliver now session waiting timer → due_after now c session waiting timers b (due_draft predefined seen now c (plain handed retain puts moment sends local) (Delivery to)) ≡ None
   delivery_settles to h =
       subst (λ t. Settled (record { address = to; client = c; moment = now }) session waiting timers
-      (if t then deliver_left predefined (record { address = to; client = c; moment = now }) session waiting (plain handed retain puts sends local) else plain handed retain puts sends local))
+      (if t then deliver_left predefined (record { address = to; client = c; moment = now }) session waiting (plain handed retain puts moment sends local) else plain handed retain puts moment sends local))
       (sym (and_from (is_served session.presence) (is_none (open_exchange session [] waiting)) h.served (ap is_none h.none_open)))
-      (all_settle predefined (record { address = to; client = c; moment = now }) session waiting timers (plain handed retain puts sends local) session refl
+      (all_settle predefined (record { address = to; client = c; moment = now }) session waiting timers (plain handed retain puts moment sends local) session refl
       (record { so_far = refl; presence = refl; duration = refl; topics = refl; none_open = closed session waiting h.none_open; calm = h.calm }) apart)
       b
 
-  retry_settles : (to : Addr) → ToRetry now session waiting timer → due_after now c session waiting timers b (due_draft predefined seen now c (plain handed retain puts sends local) (Retry to)) ≡ None
+  retry_settles : (to : Addr) → ToRetry now session waiting timer → due_after now c session waiting timers b (due_draft predefined seen now c (plain handed retain puts moment sends local) (Retry to)) ≡ None
   retry_settles to h =
       let after : timer_of c (timers_after timers (local ++ Retried c now ∷ [])) ≡ Some (retried_at c now timer) =
       ap (timer_of c) (one_more timers local (Retried c now)) ∙ retried_found c now (timers_after timers local) timer in
-      resend_settles predefined (record { address = to; client = c; moment = now }) session waiting timers h.exchange handed retain puts sends (local ++ Retried c now ∷ []) h.is_open
+      resend_settles predefined (record { address = to; client = c; moment = now }) session waiting timers h.exchange handed retain puts moment sends (local ++ Retried c now ∷ []) h.is_open
       (ap (is_overdue now session) after ∙ retried_calm now c session timer h.calm) apart
       b
 
-  reason_settles : (reason : Due) → due_session now waiting timer a (Some session) ≡ Some reason → due_after now c session waiting timers b (due_draft predefined seen now c (plain handed retain puts sends local) reason) ≡ None
-  reason_settles Loss e = lost_rests now session.duration session (left [] waiting) (timer_of c (timers_after timers (lost seen c session (plain handed retain puts sends local)).local)) b
+  reason_settles : (reason : Due) → due_session now waiting timer a (Some session) ≡ Some reason → due_after now c session waiting timers b (due_draft predefined seen now c (plain handed retain puts moment sends local) reason) ≡ None
+  reason_settles Expiry e = absurd (never-expiry now waiting timer a (Some session) e)
+  reason_settles Loss e = lost_rests now session.duration session (left [] waiting) (timer_of c (timers_after timers (lost seen c session (plain handed retain puts moment sends local)).local)) b
   reason_settles (Retry to) e = retry_settles to (to_retry now session waiting timer a to e)
   reason_settles (Delivery to) e = delivery_settles to (to_deliver now session waiting timer a to e)
 
@@ -345,6 +347,6 @@ pub tick-settles : TickSettles
 tick-settles predefined seen now c timers a b d reason apart no_changes no_acks due =
     subst (λ (e : Drafted). due_after now c (session_of seen c) (seen.of c).pending timers b (due_draft predefined seen now c e reason) ≡ None)
     (sym (to_plain d no_changes no_acks))
-    (reason_settles predefined seen now c timers a b d.handed d.retain d.puts d.sends d.local apart reason
+    (reason_settles predefined seen now c timers a b d.handed d.retain d.puts d.expires d.sends d.local apart reason
     (ap (λ (xs : List Put). due_session now xs (timer_of c (timers_after timers d.local)) a (Some (session_of seen c))) (sym (left-none (seen.of c).pending))
     ∙ subst (λ (e : Drafted). due_after now c (session_of seen c) (seen.of c).pending timers a e ≡ Some reason) (to_plain d no_changes no_acks) due))

@@ -1,7 +1,8 @@
 -- A client is lost, or there is one more try or Delivery: what is left to do is less.
-use Rattle.std.proofs.Common.{◌≡◌, ℕ, ◌<◌, true, false, if◌then◌else◌, is_some, List, [], ◌∷◌, ◌++◌, filter, map, fold, Option, Some, None, unwrap_or, refl, sym, ap, ◌∙◌, subst, true≢false}
+use Rattle.std.proofs.Common.{◌≡◌, ℕ, ◌<◌, ◌≤◌, Bool, true, false, ◌&&◌, if◌then◌else◌, is_some, List, [], ◌∷◌, ◌++◌, filter, map, fold, Option, Some, None, unwrap_or, refl, sym, ap, ◌∙◌, subst, true≢false, le_of_eq, arith}
 use Rattle.std.specs.Option.{option_map}
 use Rattle.std.specs.List.{AllByRecursion, cons_option}
+use Rattle.std.proofs.lemmas.Bool.{and_from}
 use Rattle.sn_topic.specs.Table.{Entries}
 use Rattle.sn_session.specs.declared.presence.Presence.TheVariants.{Lost}
 use Rattle.sn_session.specs.declared.session.Session.{Session}
@@ -38,20 +39,22 @@ use Rattle.sn_local.proofs.Entries.{same_client-itself}
 use Rattle.sn_plan.proofs.Lists.{and_then-some, map-some}
 use Rattle.row_laws.proofs.Outcomes.{session-shown, others-shown}
 use Rattle.sn_tick.specs.declared.due.Due.{Due}
-use Rattle.sn_tick.specs.declared.due.Due.TheVariants.{Loss, Retry, Delivery}
+use Rattle.sn_tick.specs.declared.due.Due.TheVariants.{Expiry, Loss, Retry, Delivery}
 use Rattle.sn_exchange.specs.Exchanges.{left}
 use Rattle.sn_publish.specs.Recipients.{qos_for, message_for, puts_among, is_another}
+use Rattle.sn_tick.specs.Expiry.{has_expired, expire_all}
 use Rattle.sn_tick.specs.Due.{due_session, due_with}
 use Rattle.sn_tick.specs.Ticking.{will_puts, lost}
 use Rattle.sn_exchange.specs.Following.{peer_at}
 use Rattle.step_laws.specs.Laws.{due_after, due_draft}
 use Rattle.step_laws.proofs.Behind.{plan-left, plan-others}
-use Rattle.sn_tick.proofs.Calm.{either_none}
+use Rattle.sn_tick.proofs.Calm.{first_of, either_none, none_some, and_false}
 use Rattle.step_laws.proofs.Clients.{IsForNamed, plan-clients}
 use Rattle.step_laws.proofs.Counting.{IsAmong, among-contains}
 use Rattle.step_laws.proofs.Drafting.{filter_all, followed_by_puts, followed_by_handed}
-use Rattle.step_laws.proofs.Locally.{IsClean, IsAnother, delivery-kept, retry-kept}
-use Rattle.step_laws.proofs.Lowering.{IsDue, is-due, due-same, is_up_in, is_due_in, work, lost-lowers, done-lowers, view-behind, clients-behind}
+use Rattle.step_laws.proofs.Expiring.{expired-acked, settled-all, rests-all, never-expiry}
+use Rattle.step_laws.proofs.Locally.{IsClean, Anyone, IsAnother, delivery-kept, retry-kept}
+use Rattle.step_laws.proofs.Lowering.{due_else, expires_of, IsDue, is-due, IsPast, is-past, else-same, past-same, weight_of, done-weighs, expired-weighs, is_up_in, weight_in, work, lost-lowers, done-lowers, view-behind, clients-behind}
 use Rattle.step_laws.proofs.Pending.{pending-apart}
 use Rattle.step_laws.proofs.Remaining.{left-none}
 use Rattle.step_laws.proofs.Settling.{tick-settles}
@@ -84,6 +87,26 @@ will_named : (S : List Op) (c : List ℕ) (will : Option Will) → AllByRecursio
 will_named S c None = tt
 will_named S c (Some will) =
     among_named S will.topic will.qos will.message (filter (is_another c) (clients S)) (filter_all (λ c. is_named c S ≡ true) (is_another c) (clients S) (all_named S))
+
+-- ---- what a client weighs
+
+less_is : (m n : ℕ) → m < n → m ≤ n
+less_is m n h = omega arith
+
+less_done : (due before past then_past : Bool) → due ≡ false → before ≡ true → weight_of due then_past < weight_of before past
+less_done due before past then_past e f =
+    subst (λ b. weight_of b then_past < weight_of before past) (sym e)
+    (subst (λ b. weight_of false then_past < weight_of b past) (sym f) (done-weighs past then_past))
+
+less_expired : (due before past then_past : Bool) → then_past ≡ false → past ≡ true → (due ≡ true → before ≡ true) → weight_of due then_past < weight_of before past
+less_expired due before past then_past e f h =
+    subst (λ b. weight_of due b < weight_of before past) (sym e)
+    (subst (λ b. weight_of due false < weight_of before b) (sym f) (expired-weighs due before h))
+
+-- a reason that is there
+some_reason : (o : Option Due) → is_some o ≡ true → (reason : Due) × (o ≡ Some reason)
+some_reason None e = absurd (true≢false (sym e))
+some_reason (Some reason) e = (reason, refl)
 
 -- ---- sessions after a plan
 
@@ -138,6 +161,24 @@ module _ (g advertise : ℕ) (field : List Addr) (now : ℕ) (c : List ℕ) (S :
   pending_made : e.handed ≡ [] → e.puts ≡ [] → (view c behind).pending ≡ left e.acks (view c S).pending
   pending_made bare none = ap (λ (v : ClientView). v.pending) (view-behind S plan.ops delta same c) ∙ plan-left g c S e plan is_planned bare none
 
+  -- what is left to do with another client is what it was
+  others_weigh : e.handed ≡ [] → e.puts ≡ [] → AreKept now local (IsAnother c) e.local → (y : List ℕ) → ¬ (y ≡ c)
+      → weight_in g advertise field now behind (after_all local e.local) y ≡ weight_in g advertise field now S local y
+  others_weigh bare none kept y other =
+      λ i. weight_of
+      (is_some (else-same g now y (view y S) (view y behind) local (after_all local e.local) (stamp_stays y other) (pending_stays bare none y other) (session_stays y other) kept.bindings (kept.timers y other) i))
+      (past-same g now y (view y S) (view y behind) local (after_all local e.local) (stamp_stays y other) (pending_stays bare none y other) (session_stays y other) kept.bindings i)
+
+  -- so where less is left to do with the client, no more is with any
+  none_more : e.handed ≡ [] → e.puts ≡ [] → AreKept now local (IsAnother c) e.local
+      → weight_in g advertise field now behind (after_all local e.local) c < weight_in g advertise field now S local c
+      → (y : List ℕ) → weight_in g advertise field now behind (after_all local e.local) y ≤ weight_in g advertise field now S local y
+  none_more bare none kept less y =
+      by_client (λ x. weight_in g advertise field now behind (after_all local e.local) x ≤ weight_in g advertise field now S local x) y c
+      (λ is. subst (λ x. weight_in g advertise field now behind (after_all local e.local) x ≤ weight_in g advertise field now S local x) (sym is)
+      (less_is (weight_in g advertise field now behind (after_all local e.local) c) (weight_in g advertise field now S local c) less))
+      (λ other. le_of_eq (others_weigh bare none kept y other))
+
   -- something is done with the client, and with no other
   done_with : IsFlush g c S → IsAmong c (clients S) → (reason : Due) → IsDue g now local c (view c S) reason → e.handed ≡ [] → e.puts ≡ [] → AreKept now local (IsAnother c) e.local
       → ((b : Option Addr) → due_after now c (session_of (seen_of S) c) (view c S).pending local.timers b e ≡ None)
@@ -149,17 +190,65 @@ module _ (g advertise : ℕ) (field : List Addr) (now : ℕ) (c : List ℕ) (S :
       (λ i. due_session now (pending_made bare none i) (timer_of c M.timers) (address_of c M.bindings) (session_made flush x due.is i))
       ∙ ap (λ (o : Option Session). due_session now (left e.acks (view c S).pending) (timer_of c M.timers) (address_of c M.bindings) (Some (fold applied (unwrap_or o empty_session) e.changes))) (sym due.is)
       ∙ settled (address_of c M.bindings) in
-      let was : due_with g (seen_of S) local now c ≡ Some reason =
+      let was : due_else g local now c (view c S) ≡ Some reason =
       ap (λ b. if b then due_session now (view c S).pending (timer_of c local.timers) (address_of c local.bindings) (view c S).session else None) due.owned
       ∙ ap (due_session now (view c S).pending (timer_of c local.timers) (address_of c local.bindings)) due.is ∙ due.due in
+      let gone : due_else g M now c (view c behind) ≡ None =
+      either_none (is_stamp_of g (view c behind).stamp) (due_session now (view c behind).pending (timer_of c M.timers) (address_of c M.bindings) (view c behind).session) rest in
+      let less : weight_in g advertise field now behind M c < weight_in g advertise field now S local c =
+      less_done (is_some (due_else g M now c (view c behind))) (is_some (due_else g local now c (view c S))) (expires_of g local now c (view c S)) (expires_of g M now c (view c behind))
+      (ap is_some gone) (ap is_some was) in
       done-lowers g advertise field now S behind local M (clients_same among (subst (AllByRecursion (IsForNamed S)) (sym none) tt)) (none_up (was_up x due.is due.up))
-      c among
-      (λ y. by_client (λ y. is_due_in g advertise field now behind M y ≡ true → is_due_in g advertise field now S local y ≡ true) y c
-      (λ is _. ap (is_due_in g advertise field now S local) is ∙ ap is_some was)
-      (λ other is. sym (ap is_some (due-same g now y (view y S) (view y behind) local M (stamp_stays y other) (pending_stays bare none y other) (session_stays y other) kept.bindings (kept.timers y other))) ∙ is))
-      (ap is_some was)
-      (ap is_some (either_none (is_stamp_of g (view c behind).stamp) (due_session now (view c behind).pending (timer_of c M.timers) (address_of c M.bindings) (view c behind).session) rest))
-      kept.advertised
+      c among (none_more bare none kept less) less kept.advertised
+
+  -- messages of the client expire, and nothing else is done
+  session_kept : IsFlush g c S → e.changes ≡ [] → (view c behind).session ≡ (view c S).session
+  session_kept flush unchanged =
+      ap (λ (v : ClientView). v.session) (view-behind S plan.ops delta same c)
+      ∙ session-shown g c S e plan is_planned flush
+      ∙ ap (session_with (view c S).session) unchanged
+
+  none_up_yet : IsFlush g c S → e.changes ≡ [] → (x : List ℕ) → is_up_in g advertise field now behind x ≡ true → is_up_in g advertise field now S x ≡ true
+  none_up_yet flush unchanged x h =
+      by_client (λ x. is_up_in g advertise field now behind x ≡ true → is_up_in g advertise field now S x ≡ true) x c
+      (λ is up. ap (is_up_in g advertise field now S) is ∙ sym (ap can_wake (session_kept flush unchanged)) ∙ sym (ap (is_up_in g advertise field now behind) is) ∙ up)
+      (λ other up. sym (ap can_wake (session_stays x other)) ∙ up) h
+
+  -- what is due with it by its session then was due before
+  due_before : IsFlush g c S → IsPast g now local c (view c S) → e.changes ≡ [] → e.handed ≡ [] → e.puts ≡ [] → AreKept now local Anyone e.local
+      → ((reason : Due) → due_session now (left e.acks (view c S).pending) (timer_of c local.timers) (address_of c local.bindings) (view c S).session ≡ Some reason
+      → due_session now (view c S).pending (timer_of c local.timers) (address_of c local.bindings) (view c S).session ≡ Some reason)
+      → is_some (due_else g (after_all local e.local) now c (view c behind)) ≡ true → is_some (due_else g local now c (view c S)) ≡ true
+  due_before flush past unchanged bare none kept rests is =
+      let M : Local = after_all local e.local in
+      let found = some_reason (due_else g M now c (view c behind)) is in
+      let then_due : due_session now (view c behind).pending (timer_of c M.timers) (address_of c M.bindings) (view c behind).session ≡ Some found.0 =
+      (first_of (is_stamp_of g (view c behind).stamp) (due_session now (view c behind).pending (timer_of c M.timers) (address_of c M.bindings) (view c behind).session) None (Some found.0) (none_some found.0) found.1).1 in
+      let moved_on : due_session now (view c behind).pending (timer_of c M.timers) (address_of c M.bindings) (view c behind).session
+      ≡ due_session now (left e.acks (view c S).pending) (timer_of c local.timers) (address_of c local.bindings) (view c S).session =
+      (λ i. due_session now (pending_made bare none i) (timer_of c M.timers) (address_of c (kept.bindings i)) (session_kept flush unchanged i))
+      ∙ due-alike now (left e.acks (view c S).pending) (timer_of c local.timers) (timer_of c M.timers) (address_of c local.bindings) (view c S).session (kept.timers c tt) in
+      ap (λ b. is_some (if b then due_session now (view c S).pending (timer_of c local.timers) (address_of c local.bindings) (view c S).session else None)) past.owned
+      ∙ ap is_some (rests found.0 (sym moved_on ∙ then_due))
+
+  expired_with : IsFlush g c S → IsAmong c (clients S) → IsPast g now local c (view c S) → e.changes ≡ [] → e.handed ≡ [] → e.puts ≡ [] → AreKept now local Anyone e.local
+      → has_expired now (left e.acks (view c S).pending) (address_of c local.bindings) (view c S).session ≡ false
+      → ((reason : Due) → due_session now (left e.acks (view c S).pending) (timer_of c local.timers) (address_of c local.bindings) (view c S).session ≡ Some reason
+      → due_session now (view c S).pending (timer_of c local.timers) (address_of c local.bindings) (view c S).session ≡ Some reason)
+      → work g advertise field now behind (after_all local e.local) < work g advertise field now S local
+  expired_with flush among past unchanged bare none kept settled rests =
+      let M : Local = after_all local e.local in
+      let others : AreKept now local (IsAnother c) e.local = record { bindings = kept.bindings; advertised = kept.advertised; timers = λ x is. kept.timers x tt } in
+      let gone : expires_of g M now c (view c behind) ≡ false =
+      (λ i. is_stamp_of g (view c behind).stamp && has_expired now (pending_made bare none i) (address_of c (kept.bindings i)) (session_kept flush unchanged i))
+      ∙ ap (λ b. is_stamp_of g (view c behind).stamp && b) settled ∙ and_false (is_stamp_of g (view c behind).stamp) in
+      let was : expires_of g local now c (view c S) ≡ true =
+      and_from (is_stamp_of g (view c S).stamp) (has_expired now (view c S).pending (address_of c local.bindings) (view c S).session) past.owned past.past in
+      let less : weight_in g advertise field now behind M c < weight_in g advertise field now S local c =
+      less_expired (is_some (due_else g M now c (view c behind))) (is_some (due_else g local now c (view c S))) (expires_of g local now c (view c S)) (expires_of g M now c (view c behind))
+      gone was (due_before flush past unchanged bare none kept rests) in
+      done-lowers g advertise field now S behind local M (clients_same among (subst (AllByRecursion (IsForNamed S)) (sym none) tt)) (none_up_yet flush unchanged)
+      c among (none_more bare none others less) less kept.advertised
 
   -- the client is lost
   lost_with : IsFlush g c S → IsAmong c (clients S) → (s : Session) (duration : ℕ) → (view c S).session ≡ Some s → is_up s.presence ≡ true
@@ -208,6 +297,8 @@ module _ (g advertise : ℕ) (field : List Addr) (predefined : Entries) (now : �
   lowered : (plan : Plan) (delta : List Op) → Same delta plan.ops → (reason : Due) → IsDue g now local c (view c S) reason
       → plan_of g c (seen_of S) (due_draft predefined (seen_of S) now c d reason) ≡ Some plan
       → work g advertise field now (S ++ delta) (after_all local (due_draft predefined (seen_of S) now c d reason).local) < work g advertise field now S local
+  lowered plan delta same Expiry due e =
+      absurd (never-expiry now (view c S).pending (timer_of c local.timers) (address_of c local.bindings) (Some due.session) due.due)
   lowered plan delta same Loss due e =
       let s : Session = session_of (seen_of S) c in
       lost_with g advertise field now c S local (lost (seen_of S) c s d) plan delta e same flush among due.session s.duration due.is due.up
@@ -222,10 +313,24 @@ module _ (g advertise : ℕ) (field : List Addr) (predefined : Entries) (now : �
       (delivery-kept predefined (seen_of S) a now c local d clean.kept) (settled (Delivery a) due)
 
   -- so a tick that does what is due with the client leaves less to do
-  pub due-lowers : (plan : Plan) (delta : List Op) → Same delta plan.ops → (reason : Due) → due_with g (seen_of S) local now c ≡ Some reason
+  pub due-lowers : (plan : Plan) (delta : List Op) → Same delta plan.ops → (reason : Due) → ¬ (Some Expiry ≡ Some reason) → due_with g (seen_of S) local now c ≡ Some reason
       → plan_of g c (seen_of S) (due_draft predefined (seen_of S) now c d reason) ≡ Some plan
       → work g advertise field now (S ++ delta) (after_all local plan.local) < work g advertise field now S local
-  due-lowers plan delta same reason due e =
+  due-lowers plan delta same reason other due e =
       subst (λ (changes : List LocalChange). work g advertise field now (S ++ delta) (after_all local changes) < work g advertise field now S local)
       (sym (plan-local g c (seen_of S) (due_draft predefined (seen_of S) now c d reason) plan e))
-      (lowered plan delta same reason (is-due g now local c (view c S) reason due) e)
+      (lowered plan delta same reason (is-due g now local c (view c S) reason other due) e)
+
+  -- and so does one by which messages of the client expire
+  pub expired-lowers : (plan : Plan) (delta : List Op) → Same delta plan.ops → due_with g (seen_of S) local now c ≡ Some Expiry
+      → plan_of g c (seen_of S) (expire_all (seen_of S) local now c d) ≡ Some plan
+      → work g advertise field now (S ++ delta) (after_all local plan.local) < work g advertise field now S local
+  expired-lowers plan delta same due e =
+      let is = expired-acked (seen_of S) local now c d in
+      subst (λ (changes : List LocalChange). work g advertise field now (S ++ delta) (after_all local changes) < work g advertise field now S local)
+      (sym (plan-local g c (seen_of S) (expire_all (seen_of S) local now c d) plan e))
+      (expired_with g advertise field now c S local (expire_all (seen_of S) local now c d) plan delta e same flush among (is-past g now local c (view c S) due)
+      (ap (λ (x : Drafted). x.changes) is ∙ clean.changes) (ap (λ (x : Drafted). x.handed) is ∙ clean.handed) (ap (λ (x : Drafted). x.puts) is ∙ clean.puts)
+      (subst (AreKept now local Anyone) (sym (ap (λ (x : Drafted). x.local) is)) clean.kept)
+      (settled-all (seen_of S) local now c d clean.acks)
+      (λ reason. rests-all (seen_of S) local now c d (timer_of c local.timers) reason clean.acks))

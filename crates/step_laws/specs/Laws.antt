@@ -13,6 +13,7 @@ use Rattle.sn_frame.specs.declared.frame.Frame.TheVariants as frames
 use Rattle.sn_frame.specs.Grammar.{spelling}
 use Rattle.rep_op.specs.declared.op.Put.{Put}
 use Rattle.rep_op.specs.Orders.{name_of}
+use Rattle.rep_model.specs.Moments.{is_past}
 use Rattle.sn_local.specs.declared.config.Addr.{Addr}
 use Rattle.sn_local.specs.declared.config.Send.{Send}
 use Rattle.sn_local.specs.declared.local.Timer.{Timer}
@@ -23,6 +24,7 @@ use Rattle.sn_plan.specs.Drafts.{Drafted, sent, session_after}
 use Rattle.sn_plan.specs.Bound.{session_of}
 use Rattle.sn_local.specs.Seen.{Seen}
 use Rattle.sn_plan.specs.Rows.{row_of}
+use Rattle.sn_local.specs.Bindings.{address_of}
 use Rattle.sn_local.specs.Timers.{timer_of, timers_after}
 use Rattle.sn_local.specs.Locals.{Local}
 use Rattle.sn_exchange.specs.declared.form.Form.{Form}
@@ -30,11 +32,12 @@ use Rattle.sn_exchange.specs.declared.peer.Peer.{Peer}
 use Rattle.sn_exchange.specs.Forms.{form_of, form_again, publication, qos_bits, retain_bit}
 use Rattle.sn_session.specs.declared.outbound.Outbound.{Outbound as Exchange}
 use Rattle.sn_tick.specs.declared.due.Due.{Due}
-use Rattle.sn_tick.specs.declared.due.Due.TheVariants.{Loss, Retry, Delivery}
+use Rattle.sn_tick.specs.declared.due.Due.TheVariants.{Expiry, Loss, Retry, Delivery}
 use Rattle.sn_exchange.specs.Exchanges.{same_name, left, put_left, message_of, open_exchange}
 use Rattle.sn_exchange.specs.Delivery.{id_to_tell, deliver, then_deliver}
 use Rattle.sn_exchange.specs.Resending.{resend}
 use Rattle.sn_publish.specs.Publishing.{spread_twice}
+use Rattle.sn_tick.specs.Expiry.{under_way, is_under_way, has_expired, expire_all}
 use Rattle.sn_tick.specs.Due.{due_session, first_due}
 use Rattle.sn_exchange.specs.Following.{followed_by, followed}
 use Rattle.sn_tick.specs.Ticking.{may_advertise, lost, retried, tick}
@@ -131,11 +134,12 @@ IsQuiet plan = (plan.ops ≡ []) × (plan.sends ≡ [])
 -- a tick that finds nothing due makes nothing and sends nothing
 abbrev pub TickIsQuiet : Type 0
 TickIsQuiet =
-    (g advertise : ℕ) (field : List Addr) (predefined : Entries) (seen : Seen) (local : Local)
-    (now : ℕ)
+    (g lifetime advertise : ℕ) (field : List Addr) (predefined : Entries) (seen : Seen)
+    (local : Local) (now : ℕ)
     → may_advertise advertise field now local.advertised ≡ false
     → first_due g seen local now seen.all ≡ None
-    → (plan : Plan) × (tick g advertise field predefined seen local now ≡ Some plan) × IsQuiet plan
+    → (plan : Plan) × (tick g lifetime advertise field predefined seen local now ≡ Some plan)
+    × IsQuiet plan
 
 -- messages of names that are all different, as those that wait for a client
 abbrev pub AreApart : List Put → Type 0
@@ -153,16 +157,19 @@ due_after now c s pending timers a d =
     due_session now (left d.acks pending) (timer_of c (timers_after timers d.local)) a
     (Some (session_after s d))
 
--- what a tick does with a client after what it did first
+-- what a tick does with a client after what it did first, for a reason that the session gives: it
+-- gives no expiry, of which `expire_all` says what a tick does
 abbrev pub due_draft : Entries → Seen → ℕ → List ℕ → Drafted → Due → Drafted
+due_draft predefined seen now c d Expiry = d
 due_draft predefined seen now c d Loss = lost seen c (session_of seen c) d
 due_draft predefined seen now c d (Retry a) =
     (followed predefined seen a now (retried now d c)).draft
 due_draft predefined seen now c d (Delivery a) =
     (followed predefined seen a now (row_of follows.Delivery c d)).draft
 
--- What is due with a client is settled when a tick has done it. After that nothing is due with the
--- client at this moment, whatever its address is then.
+-- What is due with a client by its session (its loss, one more try, Delivery) is settled when a
+-- tick has done it. After that nothing is due with the client by its session at this moment,
+-- whatever its address is then.
 abbrev pub TickSettles : Type 0
 TickSettles =
     (predefined : Entries) (seen : Seen) (now : ℕ) (c : List ℕ) (timers : List Timer)
@@ -171,3 +178,37 @@ TickSettles =
     → due_after now c (session_of seen c) (seen.of c).pending timers a d ≡ Some reason
     → due_after now c (session_of seen c) (seen.of c).pending timers b
     (due_draft predefined seen now c d reason) ≡ None
+
+-- the name of a message among these that expires: its moment is there, and the client is not in the
+-- middle of it
+abbrev pub IsOfOneExpired : ℕ → List Put → Option Addr → Option Session → ℕ × ℕ → Type 0
+IsOfOneExpired now pending a session name =
+    (put : Put) × Contains pending put × (name ≡ name_of put) × (is_past now put ≡ true)
+    × (is_under_way (under_way pending a session) put ≡ false)
+
+-- what waits for a client after the acknowledgements of a tick by which messages of it expire
+abbrev pub left_by_expiry : Seen → Local → ℕ → List ℕ → Drafted → List Put
+left_by_expiry seen local now c d = left (expire_all seen local now c d).acks (seen.of c).pending
+
+-- An expiry acknowledges only messages whose moment is there, and none that the client is in the
+-- middle of. It changes no session. After it no message of the client expires at this moment, and
+-- what is due with the client by its session was due before.
+pub record ExpirySettles : Type 0 where
+  pub only : (seen : Seen) (local : Local) (now : ℕ) (c : List ℕ) (d : Drafted) (name : ℕ × ℕ)
+      → Contains (expire_all seen local now c d).acks name
+      → Contains d.acks name
+      ⊎ IsOfOneExpired now (seen.of c).pending (address_of c local.bindings) (seen.of c).session
+      name
+  pub unchanged : (seen : Seen) (local : Local) (now : ℕ) (c : List ℕ) (d : Drafted)
+      → (expire_all seen local now c d).changes ≡ d.changes
+  pub silent : (seen : Seen) (local : Local) (now : ℕ) (c : List ℕ) (d : Drafted)
+      → (expire_all seen local now c d).sends ≡ d.sends
+  pub settled : (seen : Seen) (local : Local) (now : ℕ) (c : List ℕ) (d : Drafted) → d.acks ≡ []
+      → has_expired now (left_by_expiry seen local now c d) (address_of c local.bindings)
+      (seen.of c).session ≡ false
+  pub rests : (seen : Seen) (local : Local) (now : ℕ) (c : List ℕ) (d : Drafted)
+      (timer : Option Timer) (reason : Due) → d.acks ≡ []
+      → due_session now (left_by_expiry seen local now c d) timer (address_of c local.bindings)
+      (seen.of c).session ≡ Some reason
+      → due_session now (seen.of c).pending timer (address_of c local.bindings) (seen.of c).session
+      ≡ Some reason

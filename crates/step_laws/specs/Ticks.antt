@@ -24,12 +24,13 @@ pub record Ticked : Type 0 where
 -- These are ticks of the moment now, one after the other, by a gateway with this set and this local
 -- state. Each is the tick of what the ones before it left. Ticks that are refused change nothing
 -- and are not among them.
-abbrev pub AreTicks : ℕ → ℕ → List Addr → Entries → ℕ → List Op → Local → List Ticked → Type 0
-AreTicks g advertise field predefined now S local [] = Unit {0}
-AreTicks g advertise field predefined now S local (t ∷ rest) =
-    (tick g advertise field predefined (seen_of S) local now ≡ Some t.plan)
+abbrev pub AreTicks : ℕ → ℕ → ℕ → List Addr → Entries → ℕ → List Op → Local → List Ticked → Type 0
+AreTicks g lifetime advertise field predefined now S local [] = Unit {0}
+AreTicks g lifetime advertise field predefined now S local (t ∷ rest) =
+    (tick g lifetime advertise field predefined (seen_of S) local now ≡ Some t.plan)
     × Same t.delta t.plan.ops
-    × AreTicks g advertise field predefined now (S ++ t.delta) (after_all local t.plan.local) rest
+    × AreTicks g lifetime advertise field predefined now (S ++ t.delta)
+    (after_all local t.plan.local) rest
 
 -- how many of these ticks do something
 abbrev pub busy : ℕ → ℕ → List Addr → ℕ → List Op → Local → List Ticked → ℕ

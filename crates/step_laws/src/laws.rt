@@ -19,7 +19,7 @@ ghost use Rattle.sn_tick.specs.Rest.{is_idle};
 ghost use Rattle.sn_deliver.specs.Steps.{step};
 ghost use Rattle.sn_tick.specs.Ticking.{tick};
 ghost use Rattle.step_laws.specs.Ticks.{Ticked, AreTicks, busy, does_something, set_behind, local_behind};
-ghost use Rattle.step_laws.specs.Laws.{DeliveryKeeps, OneExchange, PutsOnce, ResentWithDup, TickIsQuiet, TickSettles};
+ghost use Rattle.step_laws.specs.Laws.{DeliveryKeeps, ExpirySettles, OneExchange, PutsOnce, ResentWithDup, TickIsQuiet, TickSettles};
 
 /// Delivery acknowledges no message but those that it sends at quality of service 0, and those for
 /// whose topic no id is left. The PUBLISH of each of the first is among its frames.
@@ -54,39 +54,48 @@ pub fn tick_is_quiet()
 /// A tick that has nothing to do makes, notes and sends nothing; and where a tick of a moment has
 /// nothing to do, none of a moment before it has, as long as nothing changes.
 pub fn idle_lasts()
-    ensures nothing { (g advertise : ℕ) (field : List Addr) (predefined : Entries) (seen : Seen)
-        (local : Local) (now : ℕ) → is_idle g advertise field seen local now ≡ true
-        → tick g advertise field predefined seen local now ≡ Some (plan_without nothing) }
+    ensures nothing { (g lifetime advertise : ℕ) (field : List Addr) (predefined : Entries)
+        (seen : Seen) (local : Local) (now : ℕ) → is_idle g advertise field seen local now ≡ true
+        → tick g lifetime advertise field predefined seen local now
+        ≡ Some (plan_without nothing) }
     ensures before { (g advertise : ℕ) (field : List Addr) (seen : Seen) (local : Local)
         (earlier now : ℕ) → earlier ≤ now → is_idle g advertise field seen local now ≡ true
         → is_idle g advertise field seen local earlier ≡ true }
 {}
 
-/// What is due with a client is settled when a tick has done it: nothing is due with that client
-/// any more at the same moment.
+/// What is due with a client by its session (its loss, one more try, Delivery) is settled when a
+/// tick has done it: nothing is due with that client by its session any more at the same moment.
 pub fn tick_settles()
     ensures { TickSettles }
 {}
 
+/// An expiry acknowledges only messages whose moment is there: none before its moment, none without
+/// one, and none that a client is in the middle of. It changes no session and sends nothing. After
+/// it no message of the client expires at the same moment, and what is due with the client by its
+/// session was due before.
+pub fn expiry_settles()
+    ensures { ExpirySettles }
+{}
+
 /// Ticks of one moment come to an end. Where the set of a gateway is flush and has n clients, at
-/// most (n + 1) * (n + 1) ticks of one moment do something, however many there are; so after that
-/// many, those that are refused not counted, there is nothing to do. Once there is nothing to do,
-/// there is nothing to do after more ticks of the moment, and nothing is due with any client.
+/// most 3 * ((n + 1) * (n + 1)) ticks of one moment do something, however many there are; so after
+/// that many, those that are refused not counted, there is nothing to do. Once there is nothing to
+/// do, there is nothing to do after more ticks of the moment, and nothing is due with any client.
 pub fn ticks_end()
-    ensures bound { (g advertise : ℕ) (field : List Addr) (predefined : Entries) (now : ℕ)
+    ensures bound { (g lifetime advertise : ℕ) (field : List Addr) (predefined : Entries) (now : ℕ)
         (S : List Op) (local : Local) (ticks : List Ticked) → AreFlush g S
-        → AreTicks g advertise field predefined now S local ticks
+        → AreTicks g lifetime advertise field predefined now S local ticks
         → busy g advertise field now S local ticks
-        ≤ (length (clients S) + 1) * (length (clients S) + 1) }
-    ensures ends { (g advertise : ℕ) (field : List Addr) (predefined : Entries) (now : ℕ)
+        ≤ 3 * ((length (clients S) + 1) * (length (clients S) + 1)) }
+    ensures ends { (g lifetime advertise : ℕ) (field : List Addr) (predefined : Entries) (now : ℕ)
         (S : List Op) (local : Local) (ticks : List Ticked) → AreFlush g S
-        → AreTicks g advertise field predefined now S local ticks
-        → (length (clients S) + 1) * (length (clients S) + 1) ≤ length ticks
+        → AreTicks g lifetime advertise field predefined now S local ticks
+        → 3 * ((length (clients S) + 1) * (length (clients S) + 1)) ≤ length ticks
         → does_something g advertise field (seen_of (set_behind S ticks)) (local_behind local ticks)
         now ≡ false }
-    ensures rests { (g advertise : ℕ) (field : List Addr) (predefined : Entries) (now : ℕ)
+    ensures rests { (g lifetime advertise : ℕ) (field : List Addr) (predefined : Entries) (now : ℕ)
         (S : List Op) (local : Local) (ticks : List Ticked)
-        → AreTicks g advertise field predefined now S local ticks
+        → AreTicks g lifetime advertise field predefined now S local ticks
         → does_something g advertise field (seen_of S) local now ≡ false
         → does_something g advertise field (seen_of (set_behind S ticks)) (local_behind local ticks)
         now ≡ false }
@@ -100,11 +109,12 @@ pub fn ticks_end()
 /// loses a message but by an acknowledgement of its own, and a gateway whose set is flush never
 /// refuses for a conflict what it made itself.
 pub fn every_step()
-    ensures steps { (g : ℕ) (predefined : Entries) (S : List Op) (local : Local) (a : Addr)
-        (frame : Frame) (now : ℕ) (plan : Plan) → step g predefined (seen_of S) local a frame now
+    ensures steps { (g lifetime : ℕ) (predefined : Entries) (S : List Op) (local : Local) (a : Addr)
+        (frame : Frame) (now : ℕ) (plan : Plan)
+        → step g lifetime predefined (seen_of S) local a frame now
         ≡ Some plan → IsOfDraft g (seen_of S) plan }
-    ensures ticks { (g advertise : ℕ) (field : List Addr) (predefined : Entries) (S : List Op)
-        (local : Local) (now : ℕ) (plan : Plan)
-        → tick g advertise field predefined (seen_of S) local now ≡ Some plan
+    ensures ticks { (g lifetime advertise : ℕ) (field : List Addr) (predefined : Entries)
+        (S : List Op) (local : Local) (now : ℕ) (plan : Plan)
+        → tick g lifetime advertise field predefined (seen_of S) local now ≡ Some plan
         → IsOfDraft g (seen_of S) plan }
 {}

@@ -9,6 +9,6 @@
 mod laws;
 
 pub use laws::{
-    delivery_keeps, every_step, idle_lasts, one_exchange, puts_once, resent_with_dup,
-    tick_is_quiet, tick_settles, ticks_end,
+    delivery_keeps, every_step, expiry_settles, idle_lasts, one_exchange, puts_once,
+    resent_with_dup, tick_is_quiet, tick_settles, ticks_end,
 };

@@ -16,7 +16,7 @@ const SHORT: &str =
 
 /// All settings.
 const LONG: &str =
-    "gateway = 1\nlisten = \"127.0.0.1:1884\"\nlink = \"127.0.0.1:1885\"\njournal = \"j\"\nworkers = 3\nsteps = 9\nadvertise = 900\nfield = [\"10.0.0.1:1884\"]\npeers = [\"10.0.0.2:1885\"]\npredefined = [{ id = 5, topic = \"t/a\" }]\n";
+    "gateway = 1\nlisten = \"127.0.0.1:1884\"\nlink = \"127.0.0.1:1885\"\njournal = \"j\"\nworkers = 3\nsteps = 9\nadvertise = 900\nlifetime = 86400\nfield = [\"10.0.0.1:1884\"]\npeers = [\"10.0.0.2:1885\"]\npredefined = [{ id = 5, topic = \"t/a\" }]\n";
 
 /// Settings.
 #[derive(Drop)]
@@ -57,6 +57,7 @@ impl Shown for Settings {
         said.number("workers", self.workers as usize);
         said.number("steps", self.steps as usize);
         said.number("advertise", self.advertise as usize);
+        said.number("lifetime", self.lifetime as usize);
         said.number("field", self.field.len());
         said.number("peers", self.peers.len());
         said.number("predefined", self.predefined.entries().len());

@@ -58,6 +58,7 @@ pub(crate) fn config(said: &mut Said) -> Option<Config> {
     Some(Config {
         gateway: 1,
         advertise: 0,
+        lifetime: 0,
         field,
         predefined,
     })

@@ -63,6 +63,7 @@ fn add_message(words: &mut Words<'_>, ops: &mut Vec<Op>, client: &[u8], number: 
         topic: b"t",
         qos: QosLevel::one(),
         retain: false,
+        expires: 0,
         body: b"x",
     };
     add_put(words, ops, &messages, seq);

@@ -17,6 +17,7 @@ pub(crate) struct Messages<'a> {
     pub(crate) topic: &'a [u8],
     pub(crate) qos: QosLevel,
     pub(crate) retain: bool,
+    pub(crate) expires: u64,
     pub(crate) body: &'a [u8],
 }
 
@@ -143,7 +144,8 @@ pub(crate) fn add_session_op(
     }
 }
 
-/// `put CLIENT ORIGIN.NUMBER TOPIC QOS BODY`, or with `retained` after: a message for a client.
+/// `put CLIENT ORIGIN.NUMBER TOPIC QOS BODY`, or with `retained`, `expires SECOND` or both after: a
+/// message for a client.
 fn put(words: &mut Words<'_>, ops: &mut Vec<Op>) {
     let client = words.octets();
     let (origin, seq) = words.message_number();
@@ -153,10 +155,20 @@ fn put(words: &mut Words<'_>, ops: &mut Vec<Op>) {
         topic: words.octets(),
         qos: words.level(),
         body: words.octets(),
-        retain: words.may_end_with("retained"),
+        retain: words.takes("retained"),
+        expires: moment(words),
     };
     if words.end() {
         add_put(words, ops, &messages, seq);
+    }
+}
+
+/// The moment from which on a message need not wait; 0 if the line says none.
+fn moment(words: &mut Words<'_>) -> u64 {
+    if words.takes("expires") {
+        words.number()
+    } else {
+        0
     }
 }
 
@@ -172,6 +184,7 @@ fn puts(words: &mut Words<'_>, ops: &mut Vec<Op>) {
         qos,
         body: letters.as_slice(),
         retain: false,
+        expires: 0,
     };
     add_puts(words, ops, &messages, first, last);
     drop(letters);
@@ -215,7 +228,7 @@ fn add_put_on(
                 topic,
                 qos: messages.qos,
                 retain: messages.retain,
-                expires: 0,
+                expires: messages.expires,
                 body,
             };
             add_put_for(words, ops, messages.client, put);

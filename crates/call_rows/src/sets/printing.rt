@@ -80,7 +80,16 @@ fn print_put(page: &mut Page, put: &Put) {
     if put.retain {
         page.word("retained");
     }
+    print_moment(page, put.expires);
     page.end();
+}
+
+/// The moment from which on a message need not wait, if it has one.
+fn print_moment(page: &mut Page, expires: u64) {
+    if expires > 0 {
+        page.word("expires");
+        page.word(expires);
+    }
 }
 
 /// The line of messages that a client has.

@@ -101,15 +101,17 @@ impl<'a> Words<'a> {
         }
     }
 
-    /// Whether this word is the next, which is the last; none may be left instead.
-    pub(crate) fn may_end_with(&mut self, word: &str) -> bool {
-        if self.left() == 0 {
-            return false;
+    /// Whether this word is the next, which is read then.
+    pub(crate) fn takes(&mut self, word: &str) -> bool {
+        let place = self.read;
+        let is_next = match self.line.split(' ').nth(place) {
+            Some(next) => next == word,
+            None => false,
+        };
+        if is_next {
+            self.read = place.saturating_add(1);
         }
-        if self.word() != word {
-            self.fail(Stop::Line);
-        }
-        true
+        is_next
     }
 
     /// A number.

@@ -40,13 +40,14 @@ IsNoFrameBy bytes (refusals.Journal fault) = ⊥
 -- the plan for a frame, by what is kept
 abbrev pub planned_for : {D : Type 0} {G : Ghosts D} → State G → Addr → Frame → ℕ → Option Plan
 planned_for old from frame now =
-    step old.config.gateway old.config.predefined (seen_of old.kept) old.local from frame now
+    step old.config.gateway old.config.lifetime old.config.predefined (seen_of old.kept) old.local
+    from frame now
 
 -- the plan for a tick at this second, by what is kept
 abbrev pub ticked : {D : Type 0} {G : Ghosts D} → State G → ℕ → Option Plan
 ticked old now =
-    tick old.config.gateway old.config.advertise old.config.field old.config.predefined
-    (seen_of old.kept) old.local now
+    tick old.config.gateway old.config.lifetime old.config.advertise old.config.field
+    old.config.predefined (seen_of old.kept) old.local now
 
 -- a tick of this moment has nothing to do
 abbrev pub IsIdleAt : {D : Type 0} {G : Ghosts D} → State G → ℕ → Type 0

@@ -75,6 +75,9 @@ fn print_others(page: &mut Page, read: &Settings) {
     page.shown("workers ", &read.workers);
     page.shown(" steps ", &read.steps);
     page.shown(" advertise ", &read.advertise);
+    if read.lifetime > 0 {
+        page.shown(" lifetime ", &read.lifetime);
+    }
     print_addresses(page, " field ", read.field.as_slice());
     print_addresses(page, " peer ", read.peers.as_slice());
     page.shown(" predefined ", &read.predefined.entries().len());

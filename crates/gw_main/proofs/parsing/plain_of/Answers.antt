@@ -1,5 +1,5 @@
 use Rattle.std.proofs.lemmas.Result.{err_from_is_err_and}
-use Rattle.gw_main.proofs.Firsts.{bad_gateway, bad_listen, bad_link, bad_journal, bad_workers, bad_steps, bad_advertise}
+use Rattle.gw_main.proofs.Firsts.{bad_gateway, bad_listen, bad_link, bad_journal, bad_workers, bad_steps, bad_advertise, bad_lifetime}
 use Rattle.toml.specs.View.{table_view}
 use Rattle.gw_main.proofs.parsing.plain_of.Goals as goal
 
@@ -37,3 +37,8 @@ pub returns-in_err-advertise-clause-err : goal.returns-in_err-advertise-clause-e
 returns-in_err-advertise-clause-err c =
     let p = err_from_is_err_and c.from_residual-in_err-advertise.result c.from_residual-in_err-advertise.ensures.1 in
     rw (p.1, p.2) (bad_advertise (table_view c.args.table.now) _ _ _ _ _ _ c.in_err-advertise.field-0.0 c.in_ok-gateway.ensures.ok c.in_ok-listen.ensures.ok c.in_ok-link.ensures.ok c.in_ok-journal.ensures.ok c.in_ok-workers.ensures.ok c.in_ok-steps.ensures.ok c.in_err-advertise.ensures.err)
+
+pub returns-in_err-lifetime-clause-err : goal.returns-in_err-lifetime-clause-err
+returns-in_err-lifetime-clause-err c =
+    let p = err_from_is_err_and c.from_residual-in_err-lifetime.result c.from_residual-in_err-lifetime.ensures.1 in
+    rw (p.1, p.2) (bad_lifetime (table_view c.args.table.now) _ _ _ _ _ _ _ c.in_err-lifetime.field-0.0 c.in_ok-gateway.ensures.ok c.in_ok-listen.ensures.ok c.in_ok-link.ensures.ok c.in_ok-journal.ensures.ok c.in_ok-workers.ensures.ok c.in_ok-steps.ensures.ok c.in_ok-advertise.ensures.ok c.in_err-lifetime.ensures.err)

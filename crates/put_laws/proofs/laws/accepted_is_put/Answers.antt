@@ -8,8 +8,8 @@ pub returns : goal.returns
 returns c = record {
   frames = step-messages;
   ticks = tick-messages;
-  puback = λ g predefined seen local a flags topic msg_id body now plan t m is. puback-put g predefined seen local a flags topic msg_id body now plan is t m;
-  pubrec = λ g predefined seen local a flags topic msg_id body now plan m is. pubrec-put g predefined seen local a flags topic msg_id body now plan is m;
+  puback = λ g lifetime predefined seen local a flags topic msg_id body now plan t m is. puback-put g lifetime predefined seen local a flags topic msg_id body now plan is t m;
+  pubrec = λ g lifetime predefined seen local a flags topic msg_id body now plan m is. pubrec-put g lifetime predefined seen local a flags topic msg_id body now plan is m;
   recipients = for-recipients;
   wills = for-will;
   once = gateway-once;

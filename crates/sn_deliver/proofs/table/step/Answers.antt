@@ -3,4 +3,4 @@ use Rattle.sn_deliver.proofs.table.step.Goals as goal
 
 pub returns : goal.returns
 unfolding step
-returns g c = rw c.in_ok-row.ensures at c.deliver_next.ensures
+returns g c = rw (c.lasting_row-lasting.ensures, c.expires_at-moment.ensures, c.in_ok-row.ensures) at c.deliver_next.ensures

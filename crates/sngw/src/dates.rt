@@ -1,0 +1,124 @@
+//! The date of the machine, by which the gateway's moments go.
+//!
+//! Messages have moments from which on they need not wait, and other gateways judge them: so
+//! moments are dates. They are taken from the date when the program starts. From then on they go by
+//! a clock that nobody sets. If the date is found far from them after a shift, the gateway is
+//! opened anew by it: its timers are of the moments before.
+
+ghost use Rattle.std.specs.Prelude.{◌≡◌, if◌then◌else◌};
+ghost use Rattle.gw_wire.specs.Clock as clocks;
+
+use crate::board::{Number, Shared};
+use crate::late::Inlet;
+use crate::lines::Said;
+use crate::running::tell;
+use crate::stop::Stop;
+use gw_main::number_of;
+use gw_main::options::Settings;
+use gw_node::Node;
+use gw_wire::{FieldClock, date, is_astray, is_date};
+use jr_disk::Disk;
+use rep_model::Replica;
+use std::alloc::Global;
+use std::io::{Eprint, Print, Write};
+use std::sync::Wait;
+use std::time::Clock;
+
+/// What is said if messages get no lifetime, since the machine has no date.
+const UNDATED: &str = "date: before 2026: messages get no lifetime until it is set";
+
+/// The lifetime of messages at this date, in seconds: none before the date was set.
+fn lifetime_at(lifetime: u32, date: u64) -> u32
+    ensures { result ≡ (if clocks.is_date date then lifetime else 0) }
+{
+    if is_date(date) { lifetime } else { 0 }
+}
+
+/// Takes the lifetime out of settings if the machine has no date, and says so. Gives the lifetime
+/// that they had.
+pub(crate) fn hold_lifetime<E: Write>(settings: &mut Settings, today: u64, err: &mut E) -> u32 {
+    let lifetime = settings.lifetime;
+    settings.lifetime = lifetime_at(lifetime, today);
+    if settings.lifetime != lifetime {
+        let _ = writeln!(err, "{UNDATED}");
+    }
+    lifetime
+}
+
+/// Moments go by the date from now on. No thread looks at the clock yet. If the machine had no date
+/// when the gateway was opened, or has none now, they go by that of the opening: so the gateway is
+/// opened again once one is set.
+pub(crate) fn begin_dates<T: Clock>(rt: &T, clock: &FieldClock, opened: u64) {
+    let today = date(rt);
+    let are_dates = is_date(opened) && is_date(today);
+    clock.set(if are_dates { today } else { opened });
+}
+
+/// A gateway after a shift. If the date is far from the moment, it is opened anew by the date, with
+/// this lifetime, and the links are closed. A datagram that came late comes by the date as well.
+/// While the gateway is halted it is let be: its disk may fail. So it is if the date cannot be
+/// read, and is 0. The moment is that of the last look in the shift: whoever looks next finds
+/// whether the gateway stood still since then.
+pub(crate) fn by_date<T, R, D>(
+    rt: &T,
+    alloc: Global,
+    node: Node<R, D>,
+    inlet: &mut Inlet,
+    shared: &Shared,
+    lifetime: u32,
+    said: Said<'_>,
+) -> Result<Node<R, D>, Stop>
+where
+    T: Wait + Clock + Print + Eprint,
+    R: Replica,
+    D: Disk + Drop,
+{
+    let today = date(rt);
+    let moment = shared.pool.clock.moment();
+    if node.is_halted() || today == 0 || !is_astray(moment, today) {
+        return Ok(node);
+    }
+    said.err.say(rt, line_of(alloc, moment, today));
+    let lasts = lifetime_at(lifetime, today);
+    if lasts != lifetime {
+        said.err.say(rt, String::from_str(alloc, UNDATED).ok());
+    }
+    shared.pool.clock.set(today);
+    let opened = opened_with(alloc, node, lasts)?;
+    shared.board.add(Number::ReopenedBetween);
+    shared.pool.close_all(rt);
+    inlet.late.come_at(shared.pool.clock.moment());
+    tell(rt, alloc, &opened, said);
+    Ok(opened)
+}
+
+/// The line that says how far the date is from the moment. `None` if memory runs out.
+fn line_of(alloc: Global, moment: u64, today: u64) -> Option<String> {
+    let ahead = today.saturating_sub(moment);
+    let back = moment.saturating_sub(today);
+    let line = if ahead > 0 {
+        format!(in alloc; "date: {ahead} seconds later than the gateway's: it is opened again")
+    } else {
+        format!(in alloc; "date: {back} seconds earlier than the gateway's: it is opened again")
+    };
+    line.ok()
+}
+
+/// A gateway that is opened anew, with this lifetime.
+fn opened_with<R: Replica, D: Disk + Drop>(
+    alloc: Global,
+    node: Node<R, D>,
+    lifetime: u32,
+) -> Result<Node<R, D>, Stop> {
+    let (mut config, disk) = node.into_parts();
+    config.lifetime = lifetime;
+    match Node::open(alloc, config, disk) {
+        Ok(opened) => Ok(opened),
+        Err((disk, fault)) => {
+            drop(disk);
+            let number = number_of(&fault);
+            drop(fault);
+            Err(Stop::Reopening(number))
+        }
+    }
+}
