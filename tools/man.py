@@ -16,7 +16,7 @@ PAGES = {
     "sngw": (8, "a gateway of MQTT-SN 1.2 that is also the broker", [
         ("OPERATE.md", [
             "Command line", "Settings", "What it prints", "Watching", "When something is wrong", "Shifts",
-            "Stopping it", "Disks", "When a disk fails", "Links", "A number is used once",
+            "Stopping it", "The date", "Disks", "When a disk fails", "Links", "A number is used once",
             "What is not protected", "Reporting a fault"])]),
     "sn_client": (1, "a client of MQTT-SN 1.2 for a person at a terminal", [("TRY.md", ["Commands and options", "What it prints", "Exit status"])]),
     "gw_sim": (1, "plays scripts at simulated MQTT-SN gateways", [("SIMULATOR.md", None)]),
