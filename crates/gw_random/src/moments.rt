@@ -51,11 +51,9 @@ fn second_of(event: &Event) -> Option<u64> {
 
 /// The moment that a step of this second gives its messages; 0 for none.
 fn expires_of(gateway: u8, now: u64) -> u64 {
-    let lifetime = u64::from(lifetime_of(gateway));
-    if lifetime == 0 {
-        0
-    } else {
-        now.saturating_add(lifetime)
+    match u64::from(lifetime_of(gateway)) {
+        0 => 0,
+        lifetime => now.checked_add(lifetime).unwrap_or(0),
     }
 }
 

@@ -65,7 +65,8 @@ pub fn tick_all<T: Wait + Clock, R: Replica, D: Disk + Drop, P: Post, S: Drop>(
 
 /// Ticks where the clock has not ticked in this second. If the machine, a sync or a shift's end
 /// held the gateway up for seconds, nothing could be sent, or more has come than it has read, it
-/// reads first what clients have sent meanwhile. Before it serves it does not tick.
+/// reads first what clients have sent meanwhile. Before it serves it does not tick. If the date was
+/// set, the shift closes: after it moments go by the new date.
 #[tactic(auto, using(crate::proofs::Clock::clock_none))]
 fn tick_in_turn<T: Wait + Clock, R: Replica, D: Disk + Drop, P: Post, S: Drop>(
     rt: &T,
@@ -87,17 +88,21 @@ fn tick_in_turn<T: Wait + Clock, R: Replica, D: Disk + Drop, P: Post, S: Drop>(
         stage.wait(rt, Phase::Serving, TIME_TO_READ);
         return (pass, None);
     };
+    if pool.clock.has_leapt(rt) {
+        stage.close(rt);
+        return (pass, None);
+    }
     if pool.listening.is_on() || pool.is_behind(second) || !pool.may_tick(second) {
         return (pass, None);
     }
-    let (pass, end) = tick_out(rt, alloc, shift, pass, stage, post, &pool.clock);
+    let (pass, end) = tick_out(rt, alloc, shift, pass, stage, post, &pool.clock, second);
     if end == Some(End::Full) {
         pool.tick_again(second);
     }
     (pass, end)
 }
 
-/// Ticks once at the moment that the clock found last, while it stands still: nothing more is due,
+/// Ticks once at the moment that the clock found last, while it stands still: little more is due,
 /// but a gateway that is halted is opened anew.
 #[tactic(auto, using(crate::proofs::Clock::clock_none))]
 fn tick_still<T: Wait, R: Replica, D: Disk + Drop, P: Post>(
@@ -118,8 +123,8 @@ fn tick_still<T: Wait, R: Replica, D: Disk + Drop, P: Post>(
     }
 }
 
-/// Ticks until a tick gives nothing. If the gateway stood still between two ticks, the round is
-/// over: the next one takes clients for lost only by what was read since.
+/// Ticks at this second until a tick gives nothing. If the gateway stood still between two ticks,
+/// the round is over: the next one takes clients for lost only by what was read since.
 #[tactic(auto, using(crate::proofs::Clock::clock_later, crate::proofs::Clock::clock_none))]
 fn tick_out<T: Wait + Clock, R: Replica, D: Disk + Drop, P: Post>(
     rt: &T,
@@ -129,15 +134,16 @@ fn tick_out<T: Wait + Clock, R: Replica, D: Disk + Drop, P: Post>(
     stage: &Stage,
     post: &P,
     clock: &FieldClock,
+    second: u64,
 ) -> (Pass, Option<End>)
     ensures { AddsOfClock pass result.1 result.0 }
 {
+    let moment = clock.moment_of(second);
     let mut pass = pass;
     for _ in 0..MOST_TICKS {
-        let Some(second) = clock.look(rt) else {
+        if clock.look(rt).is_none() {
             return (pass, None);
-        };
-        let moment = clock.moment_of(second);
+        }
         let (after, ticked) = tick_once(rt, alloc, shift, pass, stage, post, moment);
         pass = after;
         match ticked {

@@ -118,6 +118,8 @@ pub struct FieldClock {
     /// How many seconds since 1970 had passed when the field's time began, by the date that was
     /// set; modulo 2^64, since that may be before 1970.
     began: AtomicU64,
+    /// How many milliseconds were lost when that was set.
+    lost_before: AtomicU64,
 }
 
 impl FieldClock {
@@ -128,6 +130,7 @@ impl FieldClock {
             lost: AtomicU64::new(0),
             time: AtomicU64::new(0),
             began: AtomicU64::new(0),
+            lost_before: AtomicU64::new(0),
         }
     }
 
@@ -167,6 +170,23 @@ impl FieldClock {
     pub fn set(&self, date: u64) {
         self.began
             .store(date.wrapping_sub(self.second()), Ordering::SeqCst);
+        self.lost_before
+            .store(self.lost.load(Ordering::SeqCst), Ordering::SeqCst);
+    }
+
+    /// Whether the date is far from what the machine's own clock makes of it: it was set since
+    /// moments go by it, or the machine was suspended. While the gateway stood still, both went on.
+    /// Not if the date cannot be read.
+    pub fn has_leapt<C: Clock>(&self, clock: &C) -> bool {
+        let today = date(clock);
+        today > 0 && is_astray(self.unbroken(), today)
+    }
+
+    /// The moment that it would be if the gateway had not stood still since moments go by the date.
+    fn unbroken(&self) -> u64 {
+        let lost = self.lost.load(Ordering::SeqCst);
+        let since = lost.saturating_sub(self.lost_before.load(Ordering::SeqCst));
+        self.moment().saturating_add(since / 1_000)
     }
 
     /// What the last look found, for the thread that looks.

@@ -117,34 +117,29 @@ fn joined(room: Vec<Put>, mut waiting: Vec<Put>, news: Vec<Put>) -> Vec<Put>
     merge(room, VecDeque::from_vec(waiting), VecDeque::from_vec(news))
 }
 
-/// By how many seconds a moment may go before all others unseen: whoever looks for what is past
-/// then looks in vain for as long at most, and dropping messages one by one looks at all of them
-/// once in so many seconds of moments.
-const SLACK_SECONDS: u64 = 60;
-
 /// Whether the message with the least moment may be among those that were dropped: so many are left
 /// of so many. If that moment is the last one of all, it is none.
 fn may_be_gone(left: usize, count: usize, soonest: u64) -> bool {
     left < count && soonest < u64::MAX
 }
 
-/// Whether the first of these messages has no moment, or one that is much later than this.
-fn is_much_later(left: &[Put], soonest: u64) -> bool {
+/// Whether the first of these messages has no moment, or one that is later than this.
+fn is_later(left: &[Put], soonest: u64) -> bool {
     match left.first() {
         None => true,
-        Some(first) => first.expires == 0 || soonest.saturating_add(SLACK_SECONDS) < first.expires,
+        Some(first) => first.expires == 0 || soonest < first.expires,
     }
 }
 
 /// These messages, of which none has a moment before this one, and which were so many before some
-/// were dropped. If the one with that moment may be gone, and the first that is left waits for much
-/// longer, all are looked at.
+/// were dropped. If the one with that moment may be gone, all are looked at: messages that were
+/// made in one second are so dropped one by one without a look at the others.
 fn puts_of(left: Vec<Put>, count: usize, soonest: u64) -> Puts
     requires { AllLast soonest left.items }
     ensures { result ≡ left.items }
 {
     let gone = may_be_gone(left.len(), count, soonest);
-    let again = gone && is_much_later(left.as_slice(), soonest);
+    let again = gone && is_later(left.as_slice(), soonest);
     if again {
         Puts::new(left)
     } else {

@@ -83,8 +83,8 @@ where
     if lasts != lifetime {
         said.err.say(rt, String::from_str(alloc, UNDATED).ok());
     }
-    shared.pool.clock.set(today);
     let opened = opened_with(alloc, node, lasts)?;
+    begin_dates(rt, &shared.pool.clock, today);
     shared.board.add(Number::ReopenedBetween);
     shared.pool.close_all(rt);
     inlet.late.come_at(shared.pool.clock.moment());
@@ -94,14 +94,12 @@ where
 
 /// The line that says how far the date is from the moment. `None` if memory runs out.
 fn line_of(alloc: Global, moment: u64, today: u64) -> Option<String> {
-    let ahead = today.saturating_sub(moment);
-    let back = moment.saturating_sub(today);
-    let line = if ahead > 0 {
-        format!(in alloc; "date: {ahead} seconds later than the gateway's: it is opened again")
+    let (way, apart) = if today > moment {
+        ("later", today.saturating_sub(moment))
     } else {
-        format!(in alloc; "date: {back} seconds earlier than the gateway's: it is opened again")
+        ("earlier", moment.saturating_sub(today))
     };
-    line.ok()
+    format!(in alloc; "date: {apart} seconds {way} than the gateway's: it is opened again").ok()
 }
 
 /// A gateway that is opened anew, with this lifetime.

@@ -327,6 +327,7 @@ where
 {
     let mut keeper = Keeper::of(settings.journal.as_str());
     write_first(rt, alloc, place, inlet, shared, &mut keeper, said)?;
+    begin_dates(rt, &shared.pool.clock, shared.pool.clock.moment());
     listen_first(rt, settings, &shared.pool);
     for number in 0..shifts {
         let Some(node) = place.lock(rt).take() else {
