@@ -386,7 +386,15 @@ where
         put_back(rt, place, worked.node);
         return Err(stop);
     }
-    let node = by_date(rt, alloc, worked.node, inlet, shared, settings.lifetime, said)?;
+    let node = by_date(
+        rt,
+        alloc,
+        worked.node,
+        inlet,
+        shared,
+        settings.lifetime,
+        said,
+    )?;
     put_back(rt, place, node);
     note_turn(rt, shared, number, steps);
     Ok(())
