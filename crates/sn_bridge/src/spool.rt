@@ -121,6 +121,7 @@ fn config_of(alloc: Global) -> Result<Config, Stop> {
         advertise: 0,
         field: Sequence::empty(alloc),
         predefined,
+        lifetime: 0,
     })
 }
 
