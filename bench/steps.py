@@ -51,9 +51,9 @@ def subscribe(port: int, topic: bytes, qos: int) -> str:
     return at(port, 0, frame(0x12, bytes([qos << 5 | 2, 0, 1]) + topic))
 
 
-def publish(port: int, topic: bytes, qos: int, message: int, more: int = 0) -> str:
+def publish(port: int, topic: bytes, qos: int, message: int, more: int = 0, now: int = 1) -> str:
     """PUBLISH by a short name, with a message of 16 octets and more flags (section 5.4.12)."""
-    return at(port, 1, frame(0x0C, bytes([qos << 5 | 2 | more]) + topic + (message % 65535 + 1).to_bytes(2, "big") + b"sixteen octets !"))
+    return at(port, now, frame(0x0C, bytes([qos << 5 | 2 | more]) + topic + (message % 65535 + 1).to_bytes(2, "big") + b"sixteen octets !"))
 
 
 def puback(port: int, topic: bytes, message: int) -> str:
@@ -332,15 +332,28 @@ def bench_tick(bench: Bench, asked: argparse.Namespace) -> None:
     told(bench, "a tick behind each PINGREQ, which forgets what was remembered", "at 10 clients", f"at {asked.clients:,}", pairs, 0)
 
 
+# how many seconds lie between two messages of which the first has expired
+APART = 4
+
+
+def lasting(bench: Bench, setup: list, now: int) -> float:
+    """What a tick takes at this second with which nothing is due, after a PINGREQ, which forgets what was remembered."""
+    turns = 20000
+    without = bench.fixed([Case(setup, [at(PUBLISHER, now, PING)] * turns, ponged(PUBLISHER))], 3)[0]
+    return bench.fixed([Case(setup, [at(PUBLISHER, now, PING), f"tick 1 {now}"] * turns, "quiet")], 3)[0] * 2 - without
+
+
 def bench_lifetimes(bench: Bench, asked: argparse.Namespace) -> None:
-    count, waiting, turns, pairs = asked.clients, min(asked.waiting, 1000), 20000, []
+    count, waiting = asked.clients, min(asked.waiting, 1000)
     crowd = [line for client in range(count) for line in sleeper(client, b"ab")] + publisher(count)
-    for first in ([], ["lifetime 1 4294967295"]):
-        setup = first + crowd + [publish(PUBLISHER, b"ab", 1, message) for message in range(waiting)]
-        without = bench.fixed([Case(setup, [at(PUBLISHER, 2, PING)] * turns, ponged(PUBLISHER))], 3)[0]
-        pairs.append(bench.fixed([Case(setup, [at(PUBLISHER, 2, PING), "tick 1 2"] * turns, "quiet")], 3)[0] * 2 - without)
+    wait = crowd + [publish(PUBLISHER, b"ab", 1, message) for message in range(waiting)]
+    apart = [publish(PUBLISHER, b"ab", 1, message, 0, APART * message) for message in range(waiting + 1)]
+    life = APART * (waiting + 1)
+    expired = [f"lifetime 1 {life}"] + crowd + apart + [f"tick 1 {life}"] * count
+    plain = lasting(bench, wait, 2)
     what = f"a tick after each PINGREQ, while {waiting:,} messages wait for each of {count:,} clients"
-    told(bench, what, "without a lifetime", "with one", pairs, 1.1)
+    told(bench, what, "without a lifetime", "with one", [plain, lasting(bench, ["lifetime 1 4294967295"] + wait, 2)], 1.1)
+    told(bench, what, "without", "after one more of each has expired", [plain, lasting(bench, expired, life + 1)], 1.1)
 
 
 def bench_spread(bench: Bench, asked: argparse.Namespace) -> None:
