@@ -19,6 +19,7 @@ The parts, all where none is named, with about the seconds that each takes. An u
   slow      15  a shift does not wait for what the network has not taken yet; it needs root, tc, and net.core.wmem_max of 376832
   dates     75  30 clients with a keep-alive of ten seconds ping each two; the date goes a day ahead, a day back, and both again: no client is lost, no will is told,
                 no message expires, and each step is told in a line; eight days ahead what has a lifetime of seven expires
+  paused    35  a date that goes 70 seconds back behind a gateway that stood still for 15 seconds opens it anew once, and ends no shift after that
   undated   10  a start before 2026 says that messages get no lifetime; once the date is set they do
   listens   40  20 sleepers whose messages came to a peer wake right after a start: none is told that nothing waits; where the peer tells what it made in its shift,
                 where it answers a digest eleven seconds after its last answer, and where each sync of the gateway takes half a second
@@ -698,6 +699,24 @@ def dates(program: str, folder: str) -> str:
     return "no will of 30, four lines, and nothing expired early"
 
 
+def paused(program: str, folder: str) -> str:
+    """Its moments are 15 seconds behind by then, and 55 seconds from the new date."""
+    with Dated(folder) as date, Gateway(program, folder, 7) as gateway:
+        gateway.start()
+        client = Client(b"k-one", gateway)
+        client.connect()
+        gateway.process.send_signal(signal.SIGSTOP)
+        time.sleep(15)
+        gateway.process.send_signal(signal.SIGCONT)
+        come_back([client], 3)
+        before = len(gateway.shifts())
+        date.say(-70)
+        come_back([client], 20)
+        closed, openings = len(gateway.shifts()) - before, len(gateway.openings())
+        expect(closed == 1 and openings == 2, f"{closed} shifts were closed, and the journal was opened {openings} times")
+    return "one shift was closed, and the journal was opened once more"
+
+
 def undated(program: str, folder: str) -> str:
     with Dated(folder) as date, Gateway(program, folder, 7, steps="64", lifetime="604800") as gateway:
         date.say(1_000 - int(time.time()))
@@ -1325,7 +1344,7 @@ def unit(_program: str, folder: str) -> str:
     return "it asserts that the journal is there, and starts again after every status but 1"
 
 
-PARTS = {"herd": herd, "stall": stall, "hang": hang, "backlog": backlog, "radio": radio, "reopens": reopens, "nobody": nobody, "dates": dates, "undated": undated,
+PARTS = {"herd": herd, "stall": stall, "hang": hang, "backlog": backlog, "radio": radio, "reopens": reopens, "nobody": nobody, "dates": dates, "paused": paused, "undated": undated,
          "idle": idle, "unread": unread, "threads": threads, "slow": slow, "listens": listens, "alone": alone, "wear": wear, "first": first, "waits": waits,
          "short": short, "hole": hole, "blocks": blocks, "room": room, "garbage": garbage, "bound": bound, "handed": handed, "fence": fence, "ids": ids, "learned": learned,
          "full": full, "zeros": zeros, "begun": begun, "unit": unit}
