@@ -344,7 +344,7 @@ def lasting(bench: Bench, setup: list, now: int) -> float:
 
 
 def bench_lifetimes(bench: Bench, asked: argparse.Namespace) -> None:
-    count, waiting = asked.clients, min(asked.waiting, 1000)
+    count, waiting = min(asked.clients, 1023), min(asked.waiting, 1000)
     crowd = [line for client in range(count) for line in sleeper(client, b"ab")] + publisher(count)
     wait = crowd + [publish(PUBLISHER, b"ab", 1, message) for message in range(waiting)]
     apart = [publish(PUBLISHER, b"ab", 1, message, 0, APART * message) for message in range(waiting + 1)]
