@@ -1,18 +1,17 @@
 #!/bin/sh
 # The gate of the kit: every proof, edit, test and program. At its end it says how far the run is from the gate's budget.
 #
-# Without RT_JOBS the kit reckons with more memory for a task than most take, so lanes stay empty. The largest, programs at
-# the end of a run, take up to 6.3 GB each. If there are 5 GiB for each, there is a lane for each processor and one more:
-# `rt ci` itself sums up files in between, and a lane stands still. If there are 4 GiB for each, there is a lane for each
-# processor; with less the kit decides. RT_JOBS is taken as it is set.
+# Without RT_JOBS the kit reckons with more memory for a task than most take, so lanes stay empty. The four largest, programs
+# at the end of a run, take 5 to 7 GB each. So there are as many lanes as have 6 GiB each, and at most one more than
+# processors: `rt ci` itself sums up files in between, and a lane stands still. RT_JOBS is taken as it is set.
 set -eu
 if [ -z "${RT_JOBS:-}" ]; then
-    lanes=$(nproc)
+    lanes=$(($(nproc) + 1))
     free=$(awk '/^MemAvailable:/ { print int($2 / 1048576) }' /proc/meminfo 2>/dev/null || echo 0)
-    if [ "${free:-0}" -ge $((5 * (lanes + 1))) ]; then
-        lanes=$((lanes + 1))
+    if [ "$lanes" -gt $((${free:-0} / 6)) ]; then
+        lanes=$((${free:-0} / 6))
     fi
-    if [ "${free:-0}" -ge $((4 * lanes)) ]; then
+    if [ "$lanes" -ge 2 ]; then
         RT_JOBS=$lanes
         export RT_JOBS
     fi
