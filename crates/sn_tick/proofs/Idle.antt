@@ -25,7 +25,7 @@ use Rattle.rep_model.specs.declared.view.ClientView.{ClientView}
 use Rattle.sn_tick.specs.declared.due.Due.{Due}
 use Rattle.sn_tick.specs.declared.due.Due.TheVariants.{Expiry, Loss, Retry}
 use Rattle.sn_exchange.specs.Exchanges.{open_exchange, is_served}
-use Rattle.sn_tick.specs.Expiry.{under_way, is_under_way, is_expired, has_expired}
+use Rattle.sn_tick.specs.Expiry.{under_way, is_under_way, is_expired, is_far_after, is_left_behind, is_stretched, has_expired}
 use Rattle.sn_tick.specs.Due.{patience, is_overdue, due_exchange, due_by, due_at, due_session, expiry_or_due, due_view, due_with, or_later, first_due}
 use Rattle.sn_tick.specs.Ticking.{is_old, needs_timer, timer_begun, timers_begun, dialog_ended, dialogs_ended, cleaned, is_long_ago, may_advertise, advertised, plan_if_due, one_thing, tick}
 use Rattle.sn_tick.specs.Rest.{asks, is_idle}
@@ -158,15 +158,36 @@ module _ (n m : ℕ) (before : n ≤ m) where
   left_less true false false f h = refl
   left_less false y z f h = ap (λ b. b && z) (f refl)
 
-  -- what expires at a moment expires at each later one
+  -- what has expired at a moment has expired at each later one
   expired_less : (name : Option (ℕ × ℕ)) (put : Put) → is_expired m name put ≡ false → is_expired n name put ≡ false
   expired_less name put h =
       left_less (is_past m put) (is_past n put) (not (is_under_way name put))
       (and_less (nat_lt 0 put.expires) (nat_le put.expires m) (nat_le put.expires n) (not_there put.expires)) h
 
+  behind_less : (late early far : Bool) → (late ≡ false → early ≡ false) → (not early && far) ≡ false → (not late && far) ≡ false
+  behind_less true early far f h = refl
+  behind_less false true far f h = absurd (true≢false (f refl))
+  behind_less false false far f h = h
+
+  -- what stays at a moment, far before another one, stayed at each earlier one
+  stretched_less : (name : Option (ℕ × ℕ)) (pending : List Put) → is_stretched n name pending ≡ false → is_stretched m name pending ≡ false
+  stretched_less name pending h =
+      any_less (is_left_behind n name pending) (is_left_behind m name pending) pending
+      (λ first. behind_less (is_expired m name first) (is_expired n name first) (list_any (is_far_after first) pending) (expired_less name first)) h
+
+  expires_less : (late early then_far now_far : Bool) → (late ≡ false → early ≡ false) → (now_far ≡ false → then_far ≡ false)
+      → (late && not then_far) ≡ false → (early && not now_far) ≡ false
+  expires_less late false then_far now_far f k h = refl
+  expires_less false true then_far now_far f k h = absurd (true≢false (f refl))
+  expires_less true true then_far true f k h = refl
+  expires_less true true true false f k h = absurd (true≢false (k refl))
+  expires_less true true false false f k h = absurd (true≢false h)
+
   expired_before : (pending : List Put) (a : Option Addr) (session : Option Session) → has_expired m pending a session ≡ false → has_expired n pending a session ≡ false
   expired_before pending a session h =
-      any_less (is_expired m (under_way pending a session)) (is_expired n (under_way pending a session)) pending (expired_less (under_way pending a session)) h
+      let name = under_way pending a session in
+      expires_less (list_any (is_expired m name) pending) (list_any (is_expired n name) pending) (is_stretched m name pending) (is_stretched n name pending)
+      (any_less (is_expired m name) (is_expired n name) pending (expired_less name)) (stretched_less name pending) h
 
   or_before : (pending : List Put) (timer : Option Timer) (a : Option Addr) (session : Option Session) → expiry_or_due m pending timer a session ≡ None → expiry_or_due n pending timer a session ≡ None
   or_before pending timer a session h =

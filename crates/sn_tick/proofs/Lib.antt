@@ -1,3 +1,4 @@
 pub mod Calm
 pub mod Idle
 mod Resting
+mod Stretched

@@ -10,7 +10,7 @@ use Rattle.sn_local.specs.declared.config.Addr.{Addr}
 use Rattle.sn_local.specs.declared.local.Timer.{Timer}
 use Rattle.sn_tick.specs.declared.due.Due.TheVariants.{Expiry, Loss, Retry, Delivery}
 use Rattle.sn_exchange.specs.Exchanges.{open_exchange, is_served, is_awake}
-use Rattle.sn_tick.specs.Expiry.{under_way, is_under_way, is_expired}
+use Rattle.sn_tick.specs.Expiry.{under_way, is_under_way, is_expired, is_stretched}
 use Rattle.sn_tick.specs.Due.{is_overdue, due_exchange, due_by, due_at, due_session, expiry_or_due}
 use Rattle.sn_tick.proofs.Calm.{some_none}
 
@@ -62,7 +62,7 @@ both_not : (a b : Bool) → a ≡ false → b ≡ false → (a || b) ≡ false
 both_not true b e f = absurd (true≢false e)
 both_not false b e f = f
 
--- if no moment is there, nothing expires
+-- if no moment is there, nothing has expired
 pub none_expires : (now : ℕ) (name : Option (ℕ × ℕ)) (pending : List Put) → list_any (is_past now) pending ≡ false → list_any (is_expired now name) pending ≡ false
 none_expires now name [] h = refl
 none_expires now name (put ∷ rest) h =
@@ -72,4 +72,5 @@ none_expires now name (put ∷ rest) h =
 pub all_quiet : (now : ℕ) (pending : List Put) (timer : Option Timer) (a : Option Addr) (session : Option Session) → list_any (is_past now) pending ≡ false
     → due_session now pending timer a session ≡ None → expiry_or_due now pending timer a session ≡ None
 all_quiet now pending timer a session none rest =
-    ap (λ b. if b then Some Expiry else due_session now pending timer a session) (none_expires now (under_way pending a session) pending none) ∙ rest
+    let name = under_way pending a session in
+    ap (λ b. if b && not (is_stretched now name pending) then Some Expiry else due_session now pending timer a session) (none_expires now name pending none) ∙ rest

@@ -14,5 +14,6 @@ mod rest;
 mod ticking;
 
 pub use due::{Due, MAX_TRIES, RETRY_AFTER};
+pub use expiry::FAR;
 pub use rest::is_idle;
 pub use ticking::{DIALOG_SECONDS, tick};

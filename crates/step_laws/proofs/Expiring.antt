@@ -4,6 +4,7 @@ use Rattle.std.specs.Option.{option_map}
 use Rattle.std.specs.List.{list_any, AllByRecursion}
 use Rattle.std.proofs.lemmas.Bool.{and_parts, or_left, or_right}
 use Rattle.std.proofs.lemmas.Bool.Decides.{nat_tests}
+use Rattle.std.proofs.lemmas.List.Folds.{list_any_at}
 use Rattle.std.proofs.lemmas.List.Elements.{Contains-push, Contains-push_cases, Contains-append_left, Contains-append_right}
 use Rattle.sn_session.specs.declared.outbound.Outbound.{Outbound as Exchange}
 use Rattle.sn_session.specs.declared.outbound.Phase.{Phase}
@@ -22,7 +23,7 @@ use Rattle.sn_plan.proofs.Lists.{all-weaken}
 use Rattle.sn_exchange.specs.Exchanges.{same_name, is_done, is_left, left, put_named, message_of, is_open_in, if_open, open_exchange, is_served, is_awake}
 use Rattle.sn_tick.specs.declared.due.Due.{Due}
 use Rattle.sn_tick.specs.declared.due.Due.TheVariants.{Expiry, Loss, Retry, Delivery}
-use Rattle.sn_tick.specs.Expiry.{under_way, is_under_way, is_expired, has_expired, expiry_acked, expiries_acked, expire_all}
+use Rattle.sn_tick.specs.Expiry.{under_way, is_under_way, is_expired, is_far_after, is_left_behind, is_stretched, any_expires, has_expired, expiry_acked, expiries_acked, expire_all}
 use Rattle.sn_tick.specs.Due.{elapsed, is_overdue, due_exchange, due_by, due_at, due_session}
 use Rattle.sn_tick.proofs.Calm.{none_some}
 use Rattle.step_laws.specs.Laws.{IsOfOneExpired, ExpirySettles}
@@ -57,7 +58,7 @@ swapped a b h =
 
 -- ---- what is acknowledged
 
--- the names of the messages that expire
+-- the names of the messages that have expired
 abbrev pub names_of : ℕ → Option (ℕ × ℕ) → List Put → List (ℕ × ℕ)
 names_of now name pending = map name_of (filter (is_expired now name) pending)
 
@@ -238,8 +239,9 @@ pub expiry-settled : (now : ℕ) (pending : List Put) (a : Option Addr) (session
     → has_expired now (left (names_of now (under_way pending a session) pending) pending) a session ≡ false
 expiry-settled now pending a session =
     let name = under_way pending a session in
-    ap (λ (n : Option (ℕ × ℕ)). list_any (is_expired now n) (left (names_of now name pending) pending)) (way-stays now pending a session)
-    ∙ none-expires now name pending
+    let rest = left (names_of now name pending) pending in
+    ap (λ (n : Option (ℕ × ℕ)). any_expires now n rest) (way-stays now pending a session)
+    ∙ ap (λ b. b && not (is_stretched now name rest)) (none-expires now name pending)
 
 -- ---- what else is due was due
 
@@ -360,8 +362,36 @@ rests-all seen local now c d timer reason none e =
     expiry-rests now (seen.of c).pending timer reason (address_of c local.bindings) (seen.of c).session
     (sym (ap (λ (acks : List (ℕ × ℕ)). due_session now (left acks (seen.of c).pending) timer (address_of c local.bindings) (seen.of c).session) (expired-acks seen local now c d none)) ∙ e)
 
+-- ---- none is far after one that stays
+
+any_some : {A : Type 0} (p : A → Bool) (xs : List A) (x : A) → Contains xs x → p x ≡ true → list_any p xs ≡ true
+any_some p xs x there e = list_any_at p xs there.0 x there.1 (ap p there.2 ∙ e)
+
+none_of : {A : Type 0} (p : A → Bool) (xs : List A) (x : A) → Contains xs x → list_any p xs ≡ false → p x ≡ false
+none_of p xs x there none =
+    is_not (p x) (no_other (p x) (λ some. true≢false (sym (any_some p xs x there some) ∙ none)))
+  where
+    no_other : (b : Bool) → ¬ (b ≡ true) → not b ≡ true
+    no_other true h = absurd (h refl)
+    no_other false h = refl
+
+-- if messages expire, one that another one is far after has expired as well
+goes-too : (now : ℕ) (name : Option (ℕ × ℕ)) (pending : List Put) (first put : Put) → any_expires now name pending ≡ true → Contains pending first → Contains pending put
+    → is_far_after first put ≡ true → is_expired now name first ≡ true
+goes-too now name pending first put expires there among far =
+    expired_by (is_expired now name first) (list_any (is_far_after first) pending)
+    (none_of (is_left_behind now name pending) pending first there
+    (is_not (is_stretched now name pending) (and_parts (list_any (is_expired now name) pending) (not (is_stretched now name pending)) expires).1))
+    (any_some (is_far_after first) pending put among far)
+  where
+    expired_by : (expired far : Bool) → (not expired && far) ≡ false → far ≡ true → expired ≡ true
+    expired_by true far h k = refl
+    expired_by false far h k = absurd (true≢false (sym k ∙ h))
+
 pub expiry-settles : ExpirySettles
 expiry-settles = record {
+  near = λ seen local now c first put expires there among far.
+      goes-too now (under_way (seen.of c).pending (address_of c local.bindings) (seen.of c).session) (seen.of c).pending first put expires there among far;
   only = only-past;
   unchanged = λ seen local now c d. ap (λ (e : Drafted). e.changes) (expired-acked seen local now c d);
   silent = λ seen local now c d. ap (λ (e : Drafted). e.sends) (expired-acked seen local now c d);

@@ -37,7 +37,7 @@ use Rattle.sn_exchange.specs.Exchanges.{same_name, left, put_left, message_of, o
 use Rattle.sn_exchange.specs.Delivery.{id_to_tell, deliver, then_deliver}
 use Rattle.sn_exchange.specs.Resending.{resend}
 use Rattle.sn_publish.specs.Publishing.{spread_twice}
-use Rattle.sn_tick.specs.Expiry.{under_way, is_under_way, has_expired, expire_all}
+use Rattle.sn_tick.specs.Expiry.{under_way, is_under_way, is_expired, is_far_after, has_expired, expire_all}
 use Rattle.sn_tick.specs.Due.{due_session, first_due}
 use Rattle.sn_exchange.specs.Following.{followed_by, followed}
 use Rattle.sn_tick.specs.Ticking.{may_advertise, lost, retried, tick}
@@ -190,10 +190,19 @@ IsOfOneExpired now pending a session name =
 abbrev pub left_by_expiry : Seen → Local → ℕ → List ℕ → Drafted → List Put
 left_by_expiry seen local now c d = left (expire_all seen local now c d).acks (seen.of c).pending
 
--- An expiry acknowledges only messages whose moment is there, and none that the client is in the
--- middle of. It changes no session. After it no message of the client expires at this moment, and
--- what is due with the client by its session was due before.
+-- If messages of a client expire, all that are far before another one of their origin have expired
+-- as well. An expiry acknowledges only messages whose moment is there, and none that the client is
+-- in the middle of. It changes no session. After it no message of the client expires at this moment,
+-- and what is due with the client by its session was due before.
 pub record ExpirySettles : Type 0 where
+  pub near : (seen : Seen) (local : Local) (now : ℕ) (c : List ℕ) (first put : Put)
+      → has_expired now (seen.of c).pending (address_of c local.bindings) (seen.of c).session
+      ≡ true
+      → Contains (seen.of c).pending first → Contains (seen.of c).pending put
+      → is_far_after first put ≡ true
+      → is_expired now
+      (under_way (seen.of c).pending (address_of c local.bindings) (seen.of c).session) first
+      ≡ true
   pub only : (seen : Seen) (local : Local) (now : ℕ) (c : List ℕ) (d : Drafted) (name : ℕ × ℕ)
       → Contains (expire_all seen local now c d).acks name
       → Contains d.acks name

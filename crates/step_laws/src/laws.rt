@@ -70,9 +70,10 @@ pub fn tick_settles()
 {}
 
 /// An expiry acknowledges only messages whose moment is there: none before its moment, none without
-/// one, and none that a client is in the middle of. It changes no session and sends nothing. After
-/// it no message of the client expires at the same moment, and what is due with the client by its
-/// session was due before.
+/// one, and none that a client is in the middle of; and none while another one of its origin waits
+/// that is 1,024 numbers or more after one that stays. It changes no session and sends nothing.
+/// After it no message of the client expires at the same moment, and what is due with the client by
+/// its session was due before.
 pub fn expiry_settles()
     ensures { ExpirySettles }
 {}
