@@ -304,6 +304,45 @@ def stamps():
     return row.lines
 
 
+def stretched():
+    """All but the first of 1,024 messages expire while that is under way. The next one does not: it is 1,024 numbers later. Both do once the client is lost."""
+    row = Row(1)
+    row.lines.append(("lifetime 1 100", []))
+    row.made("frame 1 7 0 " + connect("s1", 4), "to 7 030500")
+    row.made("frame 1 7 0 07122200016162", "to 7 0813200000000100")
+    row.made("frame 1 9 0 " + connect("p1", 4), "to 9 030500")
+    row.made("frame 1 9 0 080c226162000178", "to 9 070d6162000100")
+    row.made("tick 1 0", "to 7 080c226162000178")
+    for _ in range(2, 1025):
+        row.made("frame 1 99 0 080c626162000079")
+    row.made("tick 1 100")
+    row.line("tick 1 100", "to 7 080ca26162000178")
+    row.made("frame 1 99 100 080c626162000079")
+    row.line("tick 1 200", "to 7 080ca26162000178")
+    row.line("tick 1 200")
+    row.line(
+        "show 1",
+        "client 7031 stamp 1.1 prefix 1 active clean 0 next 1",
+        "client 7331 stamp 1.1 prefix 3 active clean 0 next 2",
+        "  sub 6162 1",
+        "  outbound 1.1 1 published",
+        "  put 1.1 1 6162 78 expires 100",
+        "  put 1025.1 0 6162 79 expires 200",
+    )
+    for moment in (210, 220):
+        row.line("tick 1 %d" % moment, "to 7 080ca26162000178")
+    row.made("tick 1 230")
+    row.made("tick 1 230")
+    row.line(
+        "show 1",
+        "client 7031 stamp 1.1 prefix 1 active clean 0 next 1",
+        "client 7331 stamp 1.1 prefix 4 lost clean 0 next 2",
+        "  sub 6162 1",
+        "  outbound 1.1 1 published",
+    )
+    return row.lines
+
+
 ROWS = {
     "handed-as-a-stamp-ends": stamps,
     "limit-of-a-delta": size_of_a_delta,
@@ -312,6 +351,7 @@ ROWS = {
     "limit-of-topics-that-have-a-place": topics_retained,
     "limit-of-what-is-handed": handed,
     "limit-of-will-dialogs": will_dialogs,
+    "nothing-expires-far-after-one-that-stays": stretched,
     "retained-behind-256-ids": ids_received,
     "retained-bodies": bodies,
 }

@@ -105,7 +105,8 @@ fn is_past(put: &Put, now: u64) -> bool {
 }
 
 /// Whether a tick before the event of this index had nothing to do, though more than one message of
-/// a client of its gateway was past. One may be: that which the client is in the middle of.
+/// a client of its gateway was past. One may be: that which the client is in the middle of. So may
+/// all of a client of which messages of one origin are far apart.
 pub(crate) fn is_late(
     events: &[Event],
     played: &Played,
@@ -116,7 +117,7 @@ pub(crate) fn is_late(
         return false;
     };
     for (_, view) in views {
-        if is_of(view, gateway) && count_past(view, now) > 1 {
+        if is_of(view, gateway) && count_past(view, now) > 1 && !is_stretched(view) {
             return true;
         }
     }
@@ -162,4 +163,24 @@ fn count_past(view: &ClientView, now: u64) -> usize {
         }
     }
     count
+}
+
+/// Whether two messages of a client have one origin, and numbers that are 1,024 or more apart.
+fn is_stretched(view: &ClientView) -> bool {
+    for first in view.pending.as_slice() {
+        if any_far_after(view, first) {
+            return true;
+        }
+    }
+    false
+}
+
+/// Whether a message of a client has a number of the same origin that is 1,024 or more later.
+fn any_far_after(view: &ClientView, first: &Put) -> bool {
+    for put in view.pending.as_slice() {
+        if put.origin == first.origin && put.seq.saturating_sub(first.seq) >= 1_024 {
+            return true;
+        }
+    }
+    false
 }
