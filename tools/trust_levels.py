@@ -158,7 +158,7 @@ NAMED = set("""
     sn_exchange/form/Form sn_exchange/peer/Peer sn_publish/Publishing/publication_meant sn_publish/Recipients/qos_for sn_publish/meaning/Meant
     sn_deliver/Steps/row_for sn_deliver/Steps/step sn_tick/Expiry/is_under_way sn_tick/Expiry/under_way
     sn_tick/Ticking/tick put_laws/Causes/gives_message
-    put_laws/Causes/gives_topic gw_event/Drives/has_more gw_event/Drives/left_by gw_event/Drives/opened
+    put_laws/Causes/gives_topic gw_event/Drives/more_records gw_event/Drives/left_by gw_event/Drives/opened
     gw_event/Drives/torn gw_event/Drives/with_record gw_event/Event/CompactStep gw_event/Event/DigestStep
     gw_event/Event/HasNoDelta gw_event/Event/IsWritable gw_event/Event/ReplyStep
     gw_event/Event/ViewStep gw_event/Excuses/IsExcuse gw_event/Occasions/IsNoFrame

@@ -27,7 +27,7 @@ use Rattle.gw_world.specs.Whole.{listed, everything, brought}
 use Rattle.gw_world.proofs.Answering.{answered, deltas-same}
 use Rattle.gw_world.proofs.Consistency.{WholeField, field-sound, run-sound, whole-asked, parts-consistent}
 use Rattle.gw_world.proofs.Failures.{due-joined}
-use Rattle.gw_world.proofs.Steadiness.{Still, Stepped, Fed, own-moves, take-moves, compact-still, restart-moves}
+use Rattle.gw_world.proofs.Steadiness.{Still, Stepped, Fed, own-moves, take-moves, compact-still, came-back, restart-feeds}
 use Rattle.gw_world.proofs.Telling.{run-brought}
 
 -- ---- one answer
@@ -94,7 +94,7 @@ after-later old (WriteFails number bytes sync) Nothing new j S h l =
 after-later old (Compact number) (Node answer) new j S h l =
     subst (λ (x : Field). Later x.gateways j S) (sym h.5) (moved-later old.gateways h.0 j h.1 h.2 [] S h.3.1 (inl (compact-still h.1 h.2 (said answer) h.4)) l)
 after-later old (Restart number kept) (Records count) new j S h l =
-    subst (λ (x : Field). Later x.gateways j S) (sym h.4) (fed-later old.gateways h.0 j h.1 (restarted kept h.1) [] S h.1.refused h.2.1 (restart-moves kept h.1) l)
+    subst (λ (x : Field). Later x.gateways j S) (sym h.4) (fed-later old.gateways h.0 j h.1 (restarted kept h.1) [] S (came-back kept h.1) h.2.1 (inr (restart-feeds kept h.1)) l)
 after-later old (Show number) (Views views topics) new j S h l = subst (λ (x : Field). Later x.gateways j S) (sym h.4) l
 after-later old (Frame number from bytes now) (Views views topics) new j S h l = absurd h
 after-later old (Tick number now) (Views views topics) new j S h l = absurd h

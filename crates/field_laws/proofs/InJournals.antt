@@ -2,7 +2,7 @@
 use Rattle.std.specs.List.{AllByRecursion}
 use Rattle.std.specs.declared.alloc.Global.{Global}
 use Rattle.std.specs.declared.sync.Arc.{Arc}
-use Rattle.std.proofs.Common.{◌≡◌, ◌⊎◌, ℕ, Bool, true, false, ◌||◌, List, [], ◌∷◌, ◌++◌, slice_get, set, append-nil, Option, Some, None, Contains, Result, Ok, Err, refl, sym, ap, ◌∙◌, subst, inl, inr}
+use Rattle.std.proofs.Common.{◌≡◌, ◌⊎◌, ℕ, Bool, true, false, ◌||◌, List, [], ◌∷◌, ◌++◌, take, slice_get, set, append-nil, Option, Some, None, Contains, Result, Ok, Err, refl, sym, ap, ◌∙◌, subst, inl, inr}
 use Rattle.rep_ops.specs.Splitting.{all_of}
 use Rattle.rep_model.proofs.Lookup.{or_else}
 use Rattle.std.proofs.lemmas.List.Elements.{All-from_recursion, All-contains, Contains-append_left, Contains-append_right}
@@ -24,6 +24,7 @@ use Rattle.gw_answer.specs.Answers.{said}
 use Rattle.gw_node.specs.Taking.{IsWhole, StandsFor}
 use Rattle.gw_node.proofs.Between.{within-trans}
 use Rattle.gw_node.proofs.Taken.{as_taken}
+use Rattle.gw_node.proofs.Refused.{refused_is}
 use Rattle.gw_world.specs.declared.event.Event.{Event}
 use Rattle.gw_world.specs.declared.event.Event.TheVariants.{Frame, Tick, Take, Answer as Asks, WriteFails, Compact, Restart, Show}
 use Rattle.gw_world.specs.declared.event.Answer.{Answer}
@@ -70,9 +71,9 @@ adds-nothing : (S J D : List Op) → Within D S → CountsAs S J → Same (keep 
 adds-nothing S J D within counts =
     same_trans (counts-more S J D counts) (same_trans (same_kept (S ++ D) S (thin-same (S ++ D) S (same-behind S D within))) (same_sym counts))
 
-within-back : (b : Bool) (D S refused : List Op) → Within D S → Within D (with_refused b S refused)
-within-back true D S refused h = within-trans D S (S ++ refused) h (within-left S refused)
-within-back false D S refused h = h
+within-back : (n : ℕ) (D S : List Op) (refused : List (List Op)) → Within D S → Within D (with_refused n S refused)
+within-back n D S refused h =
+    subst (λ (T : List Op). Within D T) (sym (refused_is n S refused)) (within-trans D S (S ++ all_of (take n refused)) h (within-left S (all_of (take n refused))))
 
 -- ---- what a step of its own made
 
@@ -145,11 +146,11 @@ same-gateway field number i j one other h k =
 
 -- ---- the law
 
-pub field-stored : (configs : List Config) (events more : List Event) (answers replies : List Answer) (old mid new : Field) (event : Event) (answer : Answer) (delta : List Op) (i : ℕ) (maker later : Gateway) (b : Bool) (image : Image)
+pub field-stored : (configs : List Config) (events more : List Event) (answers replies : List Answer) (old mid new : Field) (event : Event) (answer : Answer) (delta : List Op) (i : ℕ) (maker later : Gateway) (n : ℕ) (image : Image)
     → Run (new_field configs) events answers old → After old event answer mid → Contains (made_by answer) delta → IsAt old (gateway_of event) i maker
-    → Run mid more replies new → slice_get new.gateways i ≡ Some later → StandsFor later.config.gateway (with_refused b later.taken later.refused) [] image
+    → Run mid more replies new → slice_get new.gateways i ≡ Some later → StandsFor later.config.gateway (with_refused n later.taken later.refused) [] image
     → HasStored later.config.gateway image delta
-field-stored configs events more answers replies old mid new event answer delta i maker later b image run after there at goes_on place stands =
+field-stored configs events more answers replies old mid new event answer delta i maker later n image run after there at goes_on place stands =
     let first = field-sound configs events answers old run in
     let one = after-sound old event answer mid after first.flush first.whole first.due in
     let last = run-sound mid more replies new goes_on one.flush one.whole (after-due old event answer mid after first.due) in
@@ -160,21 +161,21 @@ field-stored configs events more answers replies old mid new event answer delta 
     subst (λ (T : List Op). Contains T op) (sym is) (Contains-append_left (made.0 ++ delta) now.more op (Contains-append_right made.0 delta op h)) in
     let in_field : Contains new.gateways later = contains-place new.gateways i later place in
     let within : Within delta later.taken = parts-within new last.whole later.taken delta (set-there new later in_field) inside in
-    let S = with_refused b later.taken later.refused in
+    let S = with_refused n later.taken later.refused in
     let J = all_of (records later.config.gateway image) in
-    adds-nothing S J delta (within-back b delta later.taken later.refused within) (as_taken S J stands.whole)
+    adds-nothing S J delta (within-back n delta later.taken later.refused within) (as_taken S J stands.whole)
 
-pub answer-stored : (more : List Event) (replies : List Answer) (old mid new : Field) (number other : ℕ) (answer : Result (Arc Out Global) NodeFault) (delta : List Op) (i : ℕ) (peer later : Gateway) (b : Bool) (image : Image)
+pub answer-stored : (more : List Event) (replies : List Answer) (old mid new : Field) (number other : ℕ) (answer : Result (Arc Out Global) NodeFault) (delta : List Op) (i : ℕ) (peer later : Gateway) (n : ℕ) (image : Image)
     → After old (Asks number other) (Node answer) mid → Contains (answered_of (said answer)) delta → IsAt old other i peer
-    → Run mid more replies new → slice_get new.gateways i ≡ Some later → StandsFor later.config.gateway (with_refused b later.taken later.refused) [] image
+    → Run mid more replies new → slice_get new.gateways i ≡ Some later → StandsFor later.config.gateway (with_refused n later.taken later.refused) [] image
     → HasStored later.config.gateway image delta
-answer-stored more replies old mid new number other answer delta i peer later b image after there at goes_on place stands =
+answer-stored more replies old mid new number other answer delta i peer later n image after there at goes_on place stands =
     let is : after.3 ≡ peer = same-gateway old other after.1 i after.3 peer after.6 at in
     let within : Within delta peer.taken = subst (λ (g : Gateway). Within delta g.taken) is (answer-within after.2 after.3 (said answer) after.4 delta after.7 there) in
     let start : Later mid.gateways i peer.taken = subst (λ (f : Field). Later f.gateways i peer.taken) (sym after.8) (later-now old.gateways i peer at.1) in
     let now = run-later mid more replies new i peer.taken goes_on start in
     let grown : later.taken ≡ peer.taken ++ now.more = ap (λ (x : Gateway). x.taken) (same_Some later now.gateway (sym place ∙ now.place)) ∙ now.taken in
     let still : Within delta later.taken = subst (λ (T : List Op). Within delta T) (sym grown) (within-trans delta peer.taken (peer.taken ++ now.more) within (within-left peer.taken now.more)) in
-    let S = with_refused b later.taken later.refused in
+    let S = with_refused n later.taken later.refused in
     let J = all_of (records later.config.gateway image) in
-    adds-nothing S J delta (within-back b delta later.taken later.refused still) (as_taken S J stands.whole)
+    adds-nothing S J delta (within-back n delta later.taken later.refused still) (as_taken S J stands.whole)

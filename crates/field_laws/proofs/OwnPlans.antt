@@ -1,6 +1,6 @@
 -- In a run each gateway keeps well.
 use Rattle.std.specs.List.{AllByRecursion}
-use Rattle.std.proofs.Common.{◌≡◌, ◌≢◌, ◌⊎◌, Bool, true, false, ℕ, zero, suc, ◌≤◌, ◌-◌, List, [], ◌∷◌, map, set, slice_get, Option, Some, None, Result, Ok, Err, refl, sym, subst, inl, inr, IsTrue}
+use Rattle.std.proofs.Common.{◌≡◌, ◌≢◌, ◌⊎◌, Bool, ℕ, zero, suc, ◌≤◌, ◌-◌, List, [], ◌∷◌, map, set, slice_get, Option, Some, None, Result, Ok, Err, refl, sym, subst, inl, inr, IsTrue}
 use Rattle.std.proofs.lemmas.Option.{none-some, same_Some}
 use Rattle.rep_op.specs.declared.op.Op.{Op}
 use Rattle.rep_op.specs.declared.fault.OpsFault.{OpsFault}
@@ -23,16 +23,15 @@ use Rattle.gw_world.specs.declared.event.Event.{Event}
 use Rattle.gw_world.specs.declared.event.Event.TheVariants.{Frame, Tick, Take, Answer as Asks, WriteFails, Compact, Restart, Show}
 use Rattle.gw_world.specs.declared.event.Answer.{Answer}
 use Rattle.gw_world.specs.declared.event.Answer.TheVariants.{Node, Views, Records, Nothing}
-use Rattle.gw_event.specs.Gateways.{Gateway, new_gateway, with_refused}
+use Rattle.gw_event.specs.Gateways.{Gateway, new_gateway}
 use Rattle.gw_world.specs.Field.{Field, new_field, IsAt, failing, After, Run}
-use Rattle.gw_event.specs.Drives.{left_by, has_more}
 use Rattle.gw_world.specs.Steps.{restarted}
 use Rattle.gw_event.specs.Event.{NothingHappens, IsTorn, IsMade, IsPlan, IsTooMuch, OwnStep, TakeStep, CompactStep}
 use Rattle.gw_world.proofs.Consistency.{FlushField, WholeField, after-sound, start-whole}
-use Rattle.gw_world.proofs.Failures.{DueAs, DueField, after-due, start-due}
+use Rattle.gw_world.proofs.Failures.{OwnOrListed, DueAs, DueField, after-due, start-due}
 use Rattle.gw_world.proofs.Each.{all-at}
 use Rattle.gw_world.proofs.Numbers.{place_of-first, first-number}
-use Rattle.gw_world.proofs.Steadiness.{start-flush}
+use Rattle.gw_world.proofs.Steadiness.{Still, Fed, restart-moves, restart-still, start-flush}
 use Rattle.field_laws.specs.OwnPlans.{AreNumbered, IsTooLong}
 
 -- what holds of each gateway, beside that it is flush
@@ -146,19 +145,22 @@ compact-well old next (Err refusals.Exhausted) w h = absurd h
 compact-well old next (Err refusals.Memory) w h = absurd h
 
 -- what was refused is a delta
-refused-made : (deltas : List (List Op)) (gateway : Gateway) → AllByRecursion IsDelta deltas → DueAs deltas gateway → AreWellMade gateway.refused
-refused-made deltas gateway proper (inl none) = subst AreWellMade (sym none) tt
-refused-made deltas gateway proper (inr (inl own)) = own.proper.well_made
-refused-made deltas gateway proper (inr (inr (k, there))) = (all-at IsDelta deltas k gateway.refused proper there).well_made
+one-made : (deltas : List (List Op)) (gateway : Gateway) (delta : List Op) → AllByRecursion IsDelta deltas → OwnOrListed deltas gateway delta → AreWellMade delta
+one-made deltas gateway delta proper (inl own) = own.proper.well_made
+one-made deltas gateway delta proper (inr (k, there)) = (all-at IsDelta deltas k delta proper there).well_made
 
-back-made : (b : Bool) (S refused : List Op) → AreWellMade S → AreWellMade refused → AreWellMade (with_refused b S refused)
-back-made true S refused h k = all-append (λ op. IsTrue (is_well_made op)) S refused h k
-back-made false S refused h k = h
+fed-made : (old next : Gateway) (delta : List Op) → AreWellMade old.taken → AreWellMade delta → Still old next [] ⊎ Fed old delta next [] → AreWellMade next.taken
+fed-made old next delta h k (inl u) = subst AreWellMade (sym u.taken) h
+fed-made old next delta h k (inr u) = subst AreWellMade (sym u.taken) (all-append (λ op. IsTrue (is_well_made op)) old.taken delta h k)
+
+again-made : (kept : ℕ) (old : Gateway) (deltas : List (List Op)) → AllByRecursion IsDelta deltas → DueAs deltas old → AreWellMade old.taken → AreWellMade (restarted kept old).taken
+again-made kept old deltas proper (inl none) h = subst AreWellMade (sym (restart-still kept old none).taken) h
+again-made kept old deltas proper (inr d) h = fed-made old (restarted kept old) d.delta h (one-made deltas old d.delta proper d.due) (restart-moves kept old d.delta d.one)
 
 restart-well : (kept : ℕ) (old : Gateway) (deltas : List (List Op)) → AllByRecursion IsDelta deltas → DueAs deltas old → Well old → Well (restarted kept old)
 restart-well kept old deltas proper due w = record {
   numbered = w.numbered;
-  made = back-made (has_more old.config.gateway old.drive (left_by kept old.drive)) old.taken old.refused w.made (refused-made deltas old proper due);
+  made = again-made kept old deltas proper due w.made;
   asked = tt;
 }
 

@@ -12,7 +12,7 @@ use Rattle.gw_event.specs.Occasions.{Datagram, Clock}
 use Rattle.gw_event.specs.Gateways.{Gateway}
 use Rattle.gw_world.specs.Field.{Field, failing, After, Run}
 use Rattle.gw_world.specs.Steps.{restarted}
-use Rattle.gw_world.proofs.Steadiness.{Still, Stepped, Fed, own-moves, take-moves, compact-still, restart-moves}
+use Rattle.gw_world.proofs.Steadiness.{Still, Stepped, Fed, own-moves, take-moves, compact-still, restart-feeds}
 use Rattle.field_laws.specs.Settings.{settings}
 
 abbrev config_of : Gateway → Config
@@ -44,7 +44,7 @@ after-same old (WriteFails number bytes sync) Nothing new h = ap settings h.3 �
 after-same old (Compact number) (Node answer) new h =
     ap settings h.5 ∙ set-same old.gateways h.0 h.1 h.2 h.3.1 (compact-still h.1 h.2 (said answer) h.4).config
 after-same old (Restart number kept) (Records count) new h =
-    ap settings h.4 ∙ set-same old.gateways h.0 h.1 (restarted kept h.1) h.2.1 (still-or-fed h.1 (restarted kept h.1) h.1.refused [] (restart-moves kept h.1))
+    ap settings h.4 ∙ set-same old.gateways h.0 h.1 (restarted kept h.1) h.2.1 (restart-feeds kept h.1).config
 after-same old (Show number) (Views views topics) new h = ap settings h.4
 after-same old (Frame number from bytes now) (Views views topics) new h = absurd h
 after-same old (Tick number now) (Views views topics) new h = absurd h

@@ -27,7 +27,7 @@ use Rattle.gw_world.specs.Steps.{AnswerStep, records_left, restarted}
 use Rattle.gw_event.specs.Event.{OwnStep, TakeStep, CompactStep}
 use Rattle.gw_world.specs.Telling.{Said, Shown, Read, told}
 use Rattle.field_laws.proofs.Determined.{IsAgreed, own-one, take-one, compact-one, asked-one}
-use Rattle.field_laws.proofs.Rooms.{HasRoom, own-room, take-room, compact-room, failing-room, restart-room}
+use Rattle.field_laws.proofs.Rooms.{HasRoom, nothing-more, own-room, take-room, compact-room, failing-room, restart-room}
 
 -- ---- places
 
@@ -53,7 +53,7 @@ room-set (g ∷ gateways) (suc i) gateway h p = (h.0, room-set gateways i gatewa
 
 room-start : (configs : List Config) → AllByRecursion HasRoom (map new_gateway configs)
 room-start [] = tt
-room-start (config ∷ configs) = (record { now = refl; back = refl; runs = λ _. refl }, room-start configs)
+room-start (config ∷ configs) = (record { now = refl; back = nothing-more [] [] refl refl; runs = λ _. refl }, room-start configs)
 
 -- ---- one event
 

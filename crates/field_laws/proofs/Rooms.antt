@@ -1,5 +1,5 @@
--- No gateway passes a limit, nor would it with what it refused.
-use Rattle.std.proofs.Common.{◌≡◌, ℕ, Bool, true, false, true≢false, List, [], ◌∷◌, ◌++◌, append-nil, Option, Some, None, Result, Ok, Err, refl, sym, ap, ◌∙◌, subst}
+-- No gateway passes a limit, nor would it with any first ones of the deltas that it refused.
+use Rattle.std.proofs.Common.{◌≡◌, ℕ, Bool, false, true≢false, List, [], ◌∷◌, ◌++◌, Option, Some, None, Result, Ok, Err, refl, sym, ap, ◌∙◌, subst, inl, inr}
 use Rattle.rep_op.specs.declared.op.Op.{Op}
 use Rattle.rep_model.specs.Limits.{first_passed}
 use Rattle.sn_plan.specs.declared.plan.Plan.{Plan}
@@ -9,23 +9,31 @@ use Rattle.gw_answer.specs.declared.refusal.Refusal.TheVariants as refusals
 use Rattle.gw_event.specs.Occasions.{Occasion}
 use Rattle.gw_event.specs.Gateways.{Gateway, with_refused}
 use Rattle.gw_world.specs.Field.{failing}
-use Rattle.gw_event.specs.Drives.{left_by, has_more}
+use Rattle.gw_event.specs.Drives.{left_by, more_records}
 use Rattle.gw_world.specs.Steps.{restarted}
 use Rattle.gw_event.specs.Event.{NothingHappens, IsTorn, IsMade, OwnStep, TakeStep, CompactStep}
+use Rattle.gw_node.proofs.Refused.{without, one_refused}
 
 pub record HasRoom (gateway : Gateway) : Type 0 where
   pub now : first_passed gateway.taken ≡ None
-  pub back : first_passed (gateway.taken ++ gateway.refused) ≡ None
+  pub back : (n : ℕ) → first_passed (with_refused n gateway.taken gateway.refused) ≡ None
   pub runs : gateway.drive.halted ≡ false → gateway.refused ≡ []
 
 still-room : (old new : Gateway) (made : List (List Op)) → NothingHappens old new made → HasRoom old → HasRoom new
 still-room old new made u r = subst HasRoom (sym u.same) r
 
-torn-room : (old : Gateway) (delta : List Op) (new : Gateway) (made : List (List Op)) → IsTorn old delta new made → HasRoom old → HasRoom new
-torn-room old delta new made t r = subst HasRoom (sym t.halted) (record { now = r.now; back = t.takable.room; runs = λ e. absurd (true≢false e) })
+one-back : (S D : List Op) → first_passed S ≡ None → first_passed (S ++ D) ≡ None → (n : ℕ) → first_passed (with_refused n S (D ∷ [])) ≡ None
+one-back S D now back n =
+    elim (one_refused n S D) [
+      | inl none ↦ ap (λ (T : List Op). first_passed T) none ∙ now
+      | inr whole ↦ ap (λ (T : List Op). first_passed T) whole ∙ back
+    ]
 
-nothing-more : (S refused : List Op) → refused ≡ [] → first_passed S ≡ None → first_passed (S ++ refused) ≡ None
-nothing-more S refused none room = ap (λ (R : List Op). first_passed (S ++ R)) none ∙ ap (λ (T : List Op). first_passed T) (append-nil S) ∙ room
+torn-room : (old : Gateway) (delta : List Op) (new : Gateway) (made : List (List Op)) → IsTorn old delta new made → HasRoom old → HasRoom new
+torn-room old delta new made t r = subst HasRoom (sym t.halted) (record { now = r.now; back = one-back old.taken delta r.now t.takable.room; runs = λ e. absurd (true≢false e) })
+
+pub nothing-more : (S : List Op) (refused : List (List Op)) → refused ≡ [] → first_passed S ≡ None → (n : ℕ) → first_passed (with_refused n S refused) ≡ None
+nothing-more S refused none room n = ap (λ (T : List Op). first_passed T) (without n S refused none) ∙ room
 
 made-room : (old : Gateway) (plan : Plan) (ops : List Op) (delta : Option (List Op)) (new : Gateway) (made : List (List Op)) → old.drive.halted ≡ false → IsMade ops old plan delta new made → HasRoom old → HasRoom new
 made-room old plan [] None new made goes h r = subst HasRoom (sym h.1) (record { now = r.now; back = r.back; runs = r.runs })
@@ -71,11 +79,7 @@ compact-room old new (Err refusals.Memory) h r = absurd h
 pub failing-room : (bytes : ℕ) (sync : Bool) (old : Gateway) → HasRoom old → HasRoom (failing bytes sync old)
 failing-room bytes sync old r = record { now = r.now; back = r.back; runs = r.runs }
 
-room-back : (b : Bool) (S refused : List Op) → first_passed S ≡ None → first_passed (S ++ refused) ≡ None → first_passed (with_refused b S refused) ≡ None
-room-back true S refused now back = back
-room-back false S refused now back = now
-
 pub restart-room : (kept : ℕ) (old : Gateway) → HasRoom old → HasRoom (restarted kept old)
 restart-room kept old r =
-    let room = room-back (has_more old.config.gateway old.drive (left_by kept old.drive)) old.taken old.refused r.now r.back in
+    let room = r.back (more_records old.config.gateway old.drive (left_by kept old.drive)) in
     record { now = room; back = nothing-more (restarted kept old).taken [] refl room; runs = λ _. refl }

@@ -1,5 +1,5 @@
 -- In a run counter 0 stands exactly at the operations that take a session.
-use Rattle.std.proofs.Common.{◌≡◌, ◌↔◌, ◌⊎◌, ◌-◌, ◌++◌, map, set, slice_get, append-nil, inl, inr, refl, ap, ◌∙◌, subst, ℕ, Bool, true, false, ◌&&◌, ◌==◌, nat_lt, if◌then◌else◌, List, [], ◌∷◌, Some, Contains, sym, true≢false, arith, eqb-true, ltb-true, IsTrue}
+use Rattle.std.proofs.Common.{◌≡◌, ◌↔◌, ◌⊎◌, ◌-◌, ◌++◌, map, set, slice_get, append-nil, inl, inr, refl, ◌∙◌, subst, ℕ, Bool, true, false, ◌&&◌, ◌==◌, nat_lt, if◌then◌else◌, List, [], ◌∷◌, Some, Contains, sym, true≢false, arith, eqb-true, ltb-true, IsTrue}
 use Rattle.std.specs.List.{AllByRecursion}
 use Rattle.std.proofs.lemmas.Bool.{and_parts}
 use Rattle.std.proofs.lemmas.List.Elements.{All-from_recursion, All-contains}
@@ -27,8 +27,8 @@ use Rattle.gw_world.specs.declared.event.Answer.TheVariants.{Node, Views, Record
 use Rattle.gw_world.specs.Steps.{restarted}
 use Rattle.gw_world.proofs.Consistency.{FlushField, WholeField, after-sound, start-taken, start-whole, field-well_made}
 use Rattle.gw_world.proofs.Each.{all-at, all-places, set-cases}
-use Rattle.gw_world.proofs.Failures.{DueAs, DueField, after-due, start-due}
-use Rattle.gw_world.proofs.Steadiness.{Still, Stepped, Fed, own-moves, take-moves, compact-still, restart-moves, start-flush}
+use Rattle.gw_world.proofs.Failures.{OwnOrListed, DueAs, DueField, after-due, start-due}
+use Rattle.gw_world.proofs.Steadiness.{Still, Stepped, Fed, own-moves, take-moves, compact-still, restart-moves, restart-still, start-flush}
 
 at-zero : (takes : Bool) (counter : ℕ) → (if takes then counter == 0 else nat_lt 0 counter) ≡ true → (takes ≡ true) ↔ (counter ≡ 0)
 at-zero true counter e = (λ _. eqb-true counter 0 e, λ _. refl)
@@ -66,10 +66,13 @@ fed-takes : (gs : List Gateway) (i : ℕ) (old next : Gateway) (more : List Op) 
 fed-takes gs i old next more made is news (inl u) all = same-set gs i old next is u.taken all
 fed-takes gs i old next more made is news (inr u) all = grown gs i old next more is u.taken news all
 
-refused-takes : (deltas : List (List Op)) (gateway : Gateway) → AllByRecursion IsDelta deltas → DueAs deltas gateway → AllByRecursion IsTakeAtZero gateway.refused
-refused-takes deltas gateway proper (inl none) = subst (λ (R : List Op). AllByRecursion IsTakeAtZero R) (sym none) tt
-refused-takes deltas gateway proper (inr (inl own)) = delta-takes gateway.refused own.proper
-refused-takes deltas gateway proper (inr (inr (k, there))) = delta-takes gateway.refused (all-at IsDelta deltas k gateway.refused proper there)
+one-takes : (deltas : List (List Op)) (gateway : Gateway) (delta : List Op) → AllByRecursion IsDelta deltas → OwnOrListed deltas gateway delta → AllByRecursion IsTakeAtZero delta
+one-takes deltas gateway delta proper (inl own) = delta-takes delta own.proper
+one-takes deltas gateway delta proper (inr (k, there)) = delta-takes delta (all-at IsDelta deltas k delta proper there)
+
+again-takes : (gs : List Gateway) (i kept : ℕ) (old : Gateway) (deltas : List (List Op)) → slice_get gs i ≡ Some old → AllByRecursion IsDelta deltas → DueAs deltas old → HaveTakes gs → HaveTakes (set gs i (restarted kept old))
+again-takes gs i kept old deltas is proper (inl none) all = same-set gs i old (restarted kept old) is (restart-still kept old none).taken all
+again-takes gs i kept old deltas is proper (inr d) all = fed-takes gs i old (restarted kept old) d.delta [] is (one-takes deltas old d.delta proper d.due) (restart-moves kept old d.delta d.one) all
 
 abbrev TakesField : Field → Type 0
 TakesField field = HaveTakes field.gateways
@@ -89,7 +92,7 @@ after-takes old (Compact number) (Node answer) new h w d all =
     subst TakesField (sym h.5) (same-set old.gateways h.0 h.1 h.2 h.3.1 (compact-still h.1 h.2 (said answer) h.4).taken all)
 after-takes old (Restart number kept) (Records count) new h w d all =
     subst TakesField (sym h.4)
-    (fed-takes old.gateways h.0 h.1 (restarted kept h.1) h.1.refused [] h.2.1 (refused-takes old.deltas h.1 w.proper (d h.0 h.1 h.2.1).due) (restart-moves kept h.1) all)
+    (again-takes old.gateways h.0 kept h.1 old.deltas h.2.1 w.proper (d h.0 h.1 h.2.1).due all)
 after-takes old (Show number) (Views views topics) new h w d all = subst TakesField (sym h.4) all
 after-takes old (Frame number from bytes now) (Views views topics) new h w d all = absurd h
 after-takes old (Frame number from bytes now) (Records count) new h w d all = absurd h

@@ -1,5 +1,5 @@
 -- What an event adds to a field is under the number of the gateway that it is at.
-use Rattle.std.proofs.Common.{◌≡◌, Bool, refl, ℕ, ◌-◌, ◌⊎◌, List, [], ◌∷◌, ◌++◌, set, slice_get, Some, IfSome, Contains, Result, Ok, Err, sym, ap, ◌∙◌, subst, append-nil, inl, inr}
+use Rattle.std.proofs.Common.{◌≡◌, Bool, refl, ℕ, ◌-◌, ◌⊎◌, List, [], ◌∷◌, ◌++◌, set, slice_get, Some, IfSome, Contains, Result, Ok, Err, sym, ◌∙◌, subst, append-nil, inl, inr}
 use Rattle.std.specs.List.{AllByRecursion}
 use Rattle.std.proofs.lemmas.List.Elements.{All-from_recursion, All-contains}
 use Rattle.rep_op.specs.declared.op.Op.{Op}
@@ -23,8 +23,8 @@ use Rattle.gw_world.proofs.Answering.{answered, all-answered}
 use Rattle.gw_world.proofs.Each.{all-at, EachOf, each-weaken, each-grown, each-all, all-each}
 use Rattle.gw_world.proofs.Numbers.{place_of-first, first-number}
 use Rattle.gw_world.proofs.Consistency.{field-sound}
-use Rattle.gw_world.proofs.Failures.{OwnDue, DueAs, DueField}
-use Rattle.gw_world.proofs.Steadiness.{Still, Stepped, Fed, own-moves, take-moves, compact-still, restart-moves}
+use Rattle.gw_world.proofs.Failures.{OwnDue, OwnOrListed, DueAs, DueField}
+use Rattle.gw_world.proofs.Steadiness.{Still, Stepped, Fed, own-moves, take-moves, compact-still, restart-moves, restart-still}
 use Rattle.gw_world.proofs.Whole.{own-number}
 
 -- it stood in the field before, or it is under the number
@@ -64,19 +64,21 @@ module _ (field : Field) (n : ℕ) where
     written-taken k delta there (inr u) = written-more delta u.taken u.none (all-at (λ (D : List Op). AllByRecursion (IsBeforeOrOf field n) D) field.deltas k delta before.lists there)
 
     -- what it had refused of its own is under its number
-    written-own : (d : OwnDue old) → Still old next made ⊎ Fed old old.refused next made → HasWritten (changed field i next made)
-    written-own d (inl u) = written-still u
-    written-own d (inr u) =
-        let stepped : Stepped old next (old.refused ∷ []) = record { plan = d.plan; drafted = d.drafted; delta = old.refused; proper = d.proper; same = d.same; config = u.config; taken = u.taken; one = refl } in
+    written-own : (delta : List Op) (d : OwnDue old delta) → Still old next made ⊎ Fed old delta next made → HasWritten (changed field i next made)
+    written-own delta d (inl u) = written-still u
+    written-own delta d (inr u) =
+        let stepped : Stepped old next (delta ∷ []) = record { plan = d.plan; drafted = d.drafted; delta = delta; proper = d.proper; same = d.same; config = u.config; taken = u.taken; one = refl } in
         let number : old.config.gateway ≡ n = first-number n i field.gateways old (place_of-first n i field.gateways at.0) at.1 in
-        written-more old.refused u.taken u.none
-        (all-moved (IsBeforeOrOf field n) old.refused (λ op h. inr (subst (λ k. IfSome (number_of op) (λ m. m ≡ k)) number (own-number old next (old.refused ∷ []) stepped op h))))
+        written-more delta u.taken u.none
+        (all-moved (IsBeforeOrOf field n) delta (λ op h. inr (subst (λ k. IfSome (number_of op) (λ m. m ≡ k)) number (own-number old next (delta ∷ []) stepped op h))))
 
-    written-back : DueAs field.deltas old → Still old next made ⊎ Fed old old.refused next made → HasWritten (changed field i next made)
-    written-back (inl none) (inl u) = written-still u
-    written-back (inl none) (inr u) = written-more old.refused u.taken u.none (subst (λ (R : List Op). AllByRecursion (IsBeforeOrOf field n) R) (sym none) tt)
-    written-back (inr (inl d)) u = written-own d u
-    written-back (inr (inr (k, there))) u = written-taken k old.refused there u
+    written-one : (delta : List Op) → OwnOrListed field.deltas old delta → Still old next made ⊎ Fed old delta next made → HasWritten (changed field i next made)
+    written-one delta (inl d) u = written-own delta d u
+    written-one delta (inr (k, there)) u = written-taken k delta there u
+
+  written-back : (i kept : ℕ) (old : Gateway) → IsAt field n i old → DueAs field.deltas old → HasWritten (changed field i (restarted kept old) [])
+  written-back i kept old at (inl none) = written-still i old (restarted kept old) [] at (restart-still kept old none)
+  written-back i kept old at (inr d) = written-one i old (restarted kept old) [] at d.delta d.due (restart-moves kept old d.delta d.one)
 
   -- what a peer answers stands in its set
   written-asked : (j : ℕ) (asker peer : Gateway) (answer : Result Out Refusal) (made : List (List Op)) → slice_get field.gateways j ≡ Some peer → AnswerStep asker peer answer made → HasWritten (record field { deltas = field.deltas ++ made })
@@ -100,7 +102,7 @@ after-written old new (WriteFails number bytes sync) Nothing h d =
 after-written old new (Compact number) (Node answer) h d =
     subst (HasWritten old number) (sym h.5) (written-still old number h.0 h.1 h.2 [] h.3 (compact-still h.1 h.2 (said answer) h.4))
 after-written old new (Restart number kept) (Records count) h d =
-    subst (HasWritten old number) (sym h.4) (written-back old number h.0 h.1 (restarted kept h.1) [] h.2 (d h.0 h.1 h.2.1).due (restart-moves kept h.1))
+    subst (HasWritten old number) (sym h.4) (written-back old number h.0 kept h.1 h.2 (d h.0 h.1 h.2.1).due)
 after-written old new (Show number) (Views views topics) h d = subst (HasWritten old number) (sym h.4) (before old number)
 after-written old new (Frame number from bytes now) (Views views topics) h d = absurd h
 after-written old new (Tick number now) (Views views topics) h d = absurd h

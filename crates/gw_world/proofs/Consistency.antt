@@ -38,7 +38,7 @@ use Rattle.gw_node.proofs.Held.{agrees_with_kept}
 use Rattle.gw_world.proofs.Numbers.{First, place_of-first, first-number, first-place_of}
 use Rattle.gw_world.proofs.Steadiness.{Still, Stepped, Fed, still, own-moves, own-writable, take-moves, compact-still, restart-moves, restart-still, AreAllFlush, flush-moved, flush-fed, flush-back, start-flush, no-conflict}
 use Rattle.gw_world.proofs.Whole.{IsHeld, Whole, held-alike, held-known, whole-silent, whole-still, whole-stepped, whole-back, whole-joined}
-use Rattle.gw_world.proofs.Failures.{OwnDue, DueAs, DueField, after-due, start-due, due-joined}
+use Rattle.gw_world.proofs.Failures.{OwnDue, OwnOrListed, DueAs, DueField, after-due, start-due, due-joined}
 
 abbrev pub FlushField : Field → Type 0
 FlushField field = AreAllFlush field.gateways
@@ -93,26 +93,32 @@ module _ (field : Field) (s : FlushField field) (w : WholeField field) (n i : �
       flush-fed field.gateways s n i old at-first at.1 next made delta (held-known field.gateways n i old at-first at.1 delta (listed k delta there)) u
 
   -- it took what it had refused of its own, or nothing
-  back : (next : Gateway) (d : OwnDue old) → Fed old old.refused next [] → Stepped old next (old.refused ∷ [])
-  back next d u = record { plan = d.plan; drafted = d.drafted; delta = old.refused; proper = d.proper; same = d.same; config = u.config; taken = u.taken; one = refl }
+  back : (next : Gateway) (delta : List Op) (d : OwnDue old delta) → Fed old delta next [] → Stepped old next (delta ∷ [])
+  back next delta d u = record { plan = d.plan; drafted = d.drafted; delta = delta; proper = d.proper; same = d.same; config = u.config; taken = u.taken; one = refl }
 
-  whole-own : (next : Gateway) (d : OwnDue old) → Still old next [] ⊎ Fed old old.refused next [] → WholeField (changed field i next [])
-  whole-own next d (inl u) = whole-still field.gateways i old next field.deltas [] at.1 u w
-  whole-own next d (inr u) = whole-back field.gateways i old next (old.refused ∷ []) at.1 own-first (s old.config.gateway i old own-first at.1) (back next d u) field.deltas w
+  whole-own : (next : Gateway) (delta : List Op) (d : OwnDue old delta) → Still old next [] ⊎ Fed old delta next [] → WholeField (changed field i next [])
+  whole-own next delta d (inl u) = whole-still field.gateways i old next field.deltas [] at.1 u w
+  whole-own next delta d (inr u) = whole-back field.gateways i old next (delta ∷ []) at.1 own-first (s old.config.gateway i old own-first at.1) (back next delta d u) field.deltas w
 
-  flush-again-own : (next : Gateway) (d : OwnDue old) → Still old next [] ⊎ Fed old old.refused next [] → FlushField (changed field i next [])
-  flush-again-own next d (inl u) = flush-own next [] (inl u)
-  flush-again-own next d (inr u) = flush-back field.gateways s n i old at-first at.1 next d.plan old.refused d.drafted d.same u
+  flush-again-own : (next : Gateway) (delta : List Op) (d : OwnDue old delta) → Still old next [] ⊎ Fed old delta next [] → FlushField (changed field i next [])
+  flush-again-own next delta d (inl u) = flush-own next [] (inl u)
+  flush-again-own next delta d (inr u) = flush-back field.gateways s n i old at-first at.1 next d.plan delta d.drafted d.same u
+
+  whole-one : (kept : ℕ) (delta : List Op) → old.refused ≡ delta ∷ [] → OwnOrListed field.deltas old delta → WholeField (changed field i (restarted kept old) [])
+  whole-one kept delta one (inl d) = whole-own (restarted kept old) delta d (restart-moves kept old delta one)
+  whole-one kept delta one (inr (k, there)) = whole-taken (restarted kept old) [] k delta there (restart-moves kept old delta one)
 
   whole-again : (kept : ℕ) → DueAs field.deltas old → WholeField (changed field i (restarted kept old) [])
   whole-again kept (inl none) = whole-still field.gateways i old (restarted kept old) field.deltas [] at.1 (restart-still kept old none) w
-  whole-again kept (inr (inl d)) = whole-own (restarted kept old) d (restart-moves kept old)
-  whole-again kept (inr (inr (k, there))) = whole-taken (restarted kept old) [] k old.refused there (restart-moves kept old)
+  whole-again kept (inr d) = whole-one kept d.delta d.one d.due
+
+  flush-one : (kept : ℕ) (delta : List Op) → old.refused ≡ delta ∷ [] → OwnOrListed field.deltas old delta → FlushField (changed field i (restarted kept old) [])
+  flush-one kept delta one (inl d) = flush-again-own (restarted kept old) delta d (restart-moves kept old delta one)
+  flush-one kept delta one (inr (k, there)) = flush-taken (restarted kept old) [] k delta there (restart-moves kept old delta one)
 
   flush-again : (kept : ℕ) → DueAs field.deltas old → FlushField (changed field i (restarted kept old) [])
   flush-again kept (inl none) = flush-own (restarted kept old) [] (inl (restart-still kept old none))
-  flush-again kept (inr (inl d)) = flush-again-own (restarted kept old) d (restart-moves kept old)
-  flush-again kept (inr (inr (k, there))) = flush-taken (restarted kept old) [] k old.refused there (restart-moves kept old)
+  flush-again kept (inr d) = flush-one kept d.delta d.one d.due
 
   -- its next write is to fail
   same-set : (bytes : ℕ) (sync : Bool) → Still old (failing bytes sync old) []

@@ -30,15 +30,25 @@ use Rattle.gw_world.proofs.Steadiness.{plan-drafted}
 -- ---- what was refused
 
 -- a delta of its own
-pub record OwnDue (gateway : Gateway) : Type 0 where
+pub record OwnDue (gateway : Gateway) (delta : List Op) : Type 0 where
   pub plan : Plan
   pub drafted : IsOfDraft gateway.config.gateway (seen_of gateway.taken) plan
-  pub proper : IsDelta gateway.refused
-  pub same : Same gateway.refused plan.ops
+  pub proper : IsDelta delta
+  pub same : Same delta plan.ops
 
--- nothing, or a delta of its own, or one of the list
+-- of its own, or of the list
+abbrev pub OwnOrListed : List (List Op) → Gateway → List Op → Type 0
+OwnOrListed deltas gateway delta = OwnDue gateway delta ⊎ ((k : ℕ) × (slice_get deltas k ≡ Some delta))
+
+-- one delta, of its own or of the list
+pub record OneDue (deltas : List (List Op)) (gateway : Gateway) : Type 0 where
+  pub delta : List Op
+  pub one : gateway.refused ≡ delta ∷ []
+  pub due : OwnOrListed deltas gateway delta
+
+-- nothing, or one delta
 abbrev pub DueAs : List (List Op) → Gateway → Type 0
-DueAs deltas gateway = (gateway.refused ≡ []) ⊎ (OwnDue gateway ⊎ ((k : ℕ) × (slice_get deltas k ≡ Some gateway.refused)))
+DueAs deltas gateway = (gateway.refused ≡ []) ⊎ OneDue deltas gateway
 
 pub record IsDue (deltas : List (List Op)) (gateway : Gateway) : Type 0 where
   pub runs : gateway.drive.halted ≡ false → gateway.refused ≡ []
@@ -52,10 +62,13 @@ got-before [] ys k x e = absurd (none-some x e)
 got-before (y ∷ xs) ys zero x e = e
 got-before (y ∷ xs) ys (suc k) x e = got-before xs ys k x e
 
+one-as-more : (deltas made : List (List Op)) (gateway : Gateway) (delta : List Op) → OwnOrListed deltas gateway delta → OwnOrListed (deltas ++ made) gateway delta
+one-as-more deltas made gateway delta (inl own) = inl own
+one-as-more deltas made gateway delta (inr (k, there)) = inr (k, got-before deltas made k delta there)
+
 due-as-more : (deltas made : List (List Op)) (gateway : Gateway) → DueAs deltas gateway → DueAs (deltas ++ made) gateway
 due-as-more deltas made gateway (inl none) = inl none
-due-as-more deltas made gateway (inr (inl own)) = inr (inl own)
-due-as-more deltas made gateway (inr (inr (k, there))) = inr (inr (k, got-before deltas made k gateway.refused there))
+due-as-more deltas made gateway (inr d) = inr (record { delta = d.delta; one = d.one; due = one-as-more deltas made gateway d.delta d.due })
 
 due-more : (deltas made : List (List Op)) (gateway : Gateway) → IsDue deltas gateway → IsDue (deltas ++ made) gateway
 due-more deltas made gateway d = record { runs = d.runs; due = due-as-more deltas made gateway d.due }
@@ -88,12 +101,12 @@ torn-own : (old : Gateway) (plan : Plan) (delta : List Op) (new : Gateway) (made
     → IsTorn old delta new made → IsDue deltas new
 torn-own old plan delta new made deltas drafted proper same t =
     subst (λ (g : Gateway). IsDue deltas g) (sym t.halted)
-    (record { runs = λ e. absurd (true≢false e); due = inr (inl (record { plan = plan; drafted = drafted; proper = proper; same = same })) })
+    (record { runs = λ e. absurd (true≢false e); due = inr (record { delta = delta; one = refl; due = inl (record { plan = plan; drafted = drafted; proper = proper; same = same }) }) })
 
 -- or one of the list
 torn-listed : (old : Gateway) (delta : List Op) (new : Gateway) (made deltas : List (List Op)) (k : ℕ) → slice_get deltas k ≡ Some delta → IsTorn old delta new made → IsDue deltas new
 torn-listed old delta new made deltas k there t =
-    subst (λ (g : Gateway). IsDue deltas g) (sym t.halted) (record { runs = λ e. absurd (true≢false e); due = inr (inr (k, there)) })
+    subst (λ (g : Gateway). IsDue deltas g) (sym t.halted) (record { runs = λ e. absurd (true≢false e); due = inr (record { delta = delta; one = refl; due = inr (k, there) }) })
 
 own-due : (old : Gateway) (occasion : Occasion) (now : ℕ) (answer : Result Out Refusal) (new : Gateway) (made deltas : List (List Op)) → OwnStep old occasion now answer new made → IsDue deltas old → IsDue deltas new
 own-due old occasion now (Ok out) new made deltas h d = due-none deltas new (made-refuses old h.0 h.0.ops out.made new made h.2.1 ∙ d.runs h.3)
@@ -129,10 +142,13 @@ compact-due old (Err refusals.Full) new deltas h d = absurd h
 compact-due old (Err refusals.Exhausted) new deltas h d = absurd h
 compact-due old (Err refusals.Memory) new deltas h d = absurd h
 
+failing-one : (bytes : ℕ) (sync : Bool) (old : Gateway) (deltas : List (List Op)) (delta : List Op) → OwnOrListed deltas old delta → OwnOrListed deltas (failing bytes sync old) delta
+failing-one bytes sync old deltas delta (inl own) = inl (record { plan = own.plan; drafted = own.drafted; proper = own.proper; same = own.same })
+failing-one bytes sync old deltas delta (inr there) = inr there
+
 failing-as : (bytes : ℕ) (sync : Bool) (old : Gateway) (deltas : List (List Op)) → DueAs deltas old → DueAs deltas (failing bytes sync old)
 failing-as bytes sync old deltas (inl none) = inl none
-failing-as bytes sync old deltas (inr (inl own)) = inr (inl (record { plan = own.plan; drafted = own.drafted; proper = own.proper; same = own.same }))
-failing-as bytes sync old deltas (inr (inr there)) = inr (inr there)
+failing-as bytes sync old deltas (inr d) = inr (record { delta = d.delta; one = d.one; due = failing-one bytes sync old deltas d.delta d.due })
 
 failing-due : (bytes : ℕ) (sync : Bool) (old : Gateway) (deltas : List (List Op)) → IsDue deltas old → IsDue deltas (failing bytes sync old)
 failing-due bytes sync old deltas d = record { runs = d.runs; due = failing-as bytes sync old deltas d.due }

@@ -33,7 +33,7 @@ use Rattle.gw_world.proofs.Consistency.{FlushField, WholeField, after-sound, sta
 use Rattle.gw_world.proofs.Each.{all-at, AllOf, EachOf, each-weaken, each-grown, each-all}
 use Rattle.gw_world.proofs.Numbers.{First, place_of-first, first-number}
 use Rattle.gw_world.proofs.Failures.{DueField, after-due, start-due, AreWell, after-well, start-well}
-use Rattle.gw_world.proofs.Steadiness.{Still, Stepped, Fed, own-moves, take-moves, compact-still, restart-moves, own-told, start-flush}
+use Rattle.gw_world.proofs.Steadiness.{Still, Stepped, Fed, own-moves, take-moves, compact-still, came-back, nothing-came, restart-feeds, own-told, start-flush}
 use Rattle.gw_world.proofs.Whole.{AreApart, Made, made-kept, made-stepped}
 
 -- a name was told of as made
@@ -83,9 +83,8 @@ module _ (W : Type 0) (field : Field) (ts : List (List Op)) (t : Telling W field
   telling-still u = telling-quiet [] u.config (u.taken ∙ sym (append-nil old.taken)) (λ _. tt) u.none
 
   -- it took what nobody had been told of, but for a failure
-  telling-back : (W → old.refused ≡ []) → Still old next made ⊎ Fed old old.refused next made → Telling W (changed field i next made) (ts ++ made)
-  telling-back none (inl u) = telling-still u
-  telling-back none (inr u) = telling-quiet old.refused u.config u.taken (λ q. subst (λ (R : List Op). AllByRecursion (IsTold ts) R) (sym (none q)) tt) u.none
+  telling-back : (more : List Op) → (W → more ≡ []) → Fed old more next made → Telling W (changed field i next made) (ts ++ made)
+  telling-back more none u = telling-quiet more u.config u.taken (λ q. subst (λ (R : List Op). AllByRecursion (IsTold ts) R) (sym (none q)) tt) u.none
 
   module _ (n : ℕ) (s : FlushField field) (f : First n field.gateways i) where
     own : First old.config.gateway field.gateways i
@@ -166,7 +165,7 @@ after-telling W old (Compact number) (Node answer) new ts h s well t =
     (subst (λ m. Telling W (changed old h.0 h.2 []) (ts ++ m)) (sym (compact-told h.1 h.2 (said answer) h.4).0)
     (telling-still W old ts t h.0 h.1 h.2 [] h.3.1 (compact-still h.1 h.2 (said answer) h.4)))
 after-telling W old (Restart number kept) (Records count) new ts h s well t =
-    subst (λ (x : Field). Telling W x (ts ++ [])) (sym h.4) (telling-back W old ts t h.0 h.1 (restarted kept h.1) [] h.2.1 (λ q. (well q h.0 h.1 h.2.1).0) (restart-moves kept h.1))
+    subst (λ (x : Field). Telling W x (ts ++ [])) (sym h.4) (telling-back W old ts t h.0 h.1 (restarted kept h.1) [] h.2.1 (came-back kept h.1) (λ q. nothing-came kept h.1 (well q h.0 h.1 h.2.1).0) (restart-feeds kept h.1))
 after-telling W old (Show number) (Views views topics) new ts h s well t = quiet W new ts [] refl (subst (λ (x : Field). Telling W x ts) (sym h.4) t)
 after-telling W old (Frame number from bytes now) (Views views topics) new ts h s well t = absurd h
 after-telling W old (Tick number now) (Views views topics) new ts h s well t = absurd h

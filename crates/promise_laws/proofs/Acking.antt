@@ -1,5 +1,5 @@
 -- An acknowledgement that comes into a field with an event was there before, or the event is a step that wrote it for a cause.
-use Rattle.std.proofs.Common.{◌≡◌, ℕ, zero, suc, ◌-◌, Bool, true, false, ◌||◌, true≢false, ◌⊎◌, List, [], ◌∷◌, ◌++◌, map, set, length, slice_get, Option, Some, None, option_map, Contains, Result, Ok, Err, refl, sym, ap, ◌∙◌, subst, inl, inr}
+use Rattle.std.proofs.Common.{◌≡◌, ℕ, zero, suc, ◌-◌, Bool, true, false, ◌||◌, true≢false, ◌⊎◌, List, [], ◌∷◌, ◌++◌, map, set, length, take, slice_get, Option, Some, None, option_map, Contains, Result, Ok, Err, refl, sym, ap, ◌∙◌, subst, inl, inr}
 use Rattle.std.specs.declared.sync.Arc.{Arc}
 use Rattle.std.specs.declared.alloc.Global.{Global}
 use Rattle.std.proofs.lemmas.List.Concat.{flat_map-append}
@@ -21,8 +21,9 @@ use Rattle.gw_answer.specs.declared.refusal.Refusal.TheVariants as refusals
 use Rattle.gw_answer.specs.Answers.{said}
 use Rattle.gw_event.specs.Occasions.{Occasion, Datagram, Clock}
 use Rattle.gw_event.specs.Gateways.{Gateway, new_gateway, with_refused}
-use Rattle.gw_event.specs.Drives.{left_by, has_more}
+use Rattle.gw_event.specs.Drives.{left_by, more_records}
 use Rattle.gw_event.specs.Event.{NothingHappens, IsTorn, IsMade, IsPlan, OwnStep, TakeStep, CompactStep}
+use Rattle.gw_node.proofs.Refused.{refused_is}
 use Rattle.gw_world.specs.declared.event.Event.{Event}
 use Rattle.gw_world.specs.declared.event.Event.TheVariants.{Frame, Tick, Take, Answer as Asks, WriteFails, Compact, Restart, Show}
 use Rattle.gw_world.specs.declared.event.Answer.{Answer}
@@ -65,23 +66,32 @@ module _ (c : List ℕ) (name : ℕ × ℕ) where
   acks-listed (d ∷ ds) (suc k) delta there e =
       is_acknowledged_both c d (all_of ds) name ∙ ap (λ (b : Bool). is_acknowledged c d name || b) (acks-listed ds k delta there e) ∙ or_true (is_acknowledged c d name)
 
+  acks-front : (n : ℕ) (ds : List (List Op)) → Acks (all_of (take n ds)) → Acks (all_of ds)
+  acks-front zero ds e = absurd (true≢false (sym e))
+  acks-front (suc n) [] e = absurd (true≢false (sym e))
+  acks-front (suc n) (d ∷ ds) e =
+      elim (acks-both d (all_of (take n ds)) e) [
+        | inl own ↦ acks-listed (d ∷ ds) zero d refl own
+        | inr rest ↦ is_acknowledged_both c d (all_of ds) name ∙ ap (λ (b : Bool). is_acknowledged c d name || b) (acks-front n ds rest) ∙ or_true (is_acknowledged c d name)
+      ]
+
   -- ---- a gateway became another
 
   -- why the gateway that is next, and what was made, acknowledge the message
   record Explained (next : Gateway) (made : List (List Op)) (Q : Type 0) : Type 0 where
     by_taken : Acks next.taken → Q
-    by_refused : Acks next.refused → Q
+    by_refused : Acks (all_of next.refused) → Q
     by_made : Acks (all_of made) → Q
 
   -- a place of the field has the acknowledgement
   abbrev At : List Gateway → Type 0
-  At gs = (j : ℕ) × (gateway : Gateway) × (slice_get gs j ≡ Some gateway) × (Acks gateway.taken ⊎ Acks gateway.refused)
+  At gs = (j : ℕ) × (gateway : Gateway) × (slice_get gs j ≡ Some gateway) × (Acks gateway.taken ⊎ Acks (all_of gateway.refused))
 
   module _ (old : Field) (Q : Type 0) (known : IsAcknowledgedIn old c name → Q) where
     in-place : (i : ℕ) (next : Gateway) (made : List (List Op)) → Explained next made Q → At (set old.gateways i next) → Q
     in-place i next made x (j, gateway, there, acks) =
         elim (set-cases i j old.gateways next gateway there) [
-          | inl own ↦ elim (subst (λ (g : Gateway). Acks g.taken ⊎ Acks g.refused) own acks) [ inl taken ↦ x.by_taken taken | inr refused ↦ x.by_refused refused ]
+          | inl own ↦ elim (subst (λ (g : Gateway). Acks g.taken ⊎ Acks (all_of g.refused)) own acks) [ inl taken ↦ x.by_taken taken | inr refused ↦ x.by_refused refused ]
           | inr before ↦ known (inl (j, gateway, before, acks))
         ]
 
@@ -96,14 +106,14 @@ module _ (c : List ℕ) (name : ℕ × ℕ) where
       before-taken : Acks gateway.taken → Q
       before-taken e = known (inl (i, gateway, here, inl e))
 
-      before-refused : Acks gateway.refused → Q
+      before-refused : Acks (all_of gateway.refused) → Q
       before-refused e = known (inl (i, gateway, here, inr e))
 
       -- nothing was taken or refused
       unchanged : (next : Gateway) (made : List (List Op)) → next.taken ≡ gateway.taken → next.refused ≡ gateway.refused → made ≡ [] → Explained next made Q
       unchanged next made taken refused none = record {
         by_taken = λ e. before-taken (subst Acks taken e);
-        by_refused = λ e. before-refused (subst Acks refused e);
+        by_refused = λ e. before-refused (subst (λ (R : List (List Op)). Acks (all_of R)) refused e);
         by_made = λ e. absurd (acks-none made none e);
       }
 
@@ -116,7 +126,7 @@ module _ (c : List ℕ) (name : ℕ × ℕ) where
       torn-explained : (delta : List Op) (next : Gateway) (made : List (List Op)) → IsTorn gateway delta next made → (Acks delta → Q) → Explained next made Q
       torn-explained delta next made t by = record {
         by_taken = λ e. before-taken (subst Acks (ap (λ (g : Gateway). g.taken) t.halted) e);
-        by_refused = λ e. by (subst Acks (ap (λ (g : Gateway). g.refused) t.halted) e);
+        by_refused = λ e. by (acks-one delta (subst (λ (R : List (List Op)). Acks (all_of R)) (ap (λ (g : Gateway). g.refused) t.halted) e));
         by_made = λ e. absurd (acks-none made t.none e);
       }
 
@@ -127,7 +137,7 @@ module _ (c : List ℕ) (name : ℕ × ℕ) where
       made-explained plan (op ∷ ops) (Some delta) next made h by =
           let new : Acks delta → Q = λ e. by (sym (h.0.same.acknowledgements_same c name) ∙ e) in record {
             by_taken = λ e. grown delta new (subst Acks (ap (λ (g : Gateway). g.taken) h.4) e);
-            by_refused = λ e. before-refused (subst Acks (ap (λ (g : Gateway). g.refused) h.4) e);
+            by_refused = λ e. before-refused (subst (λ (R : List (List Op)). Acks (all_of R)) (ap (λ (g : Gateway). g.refused) h.4) e);
             by_made = λ e. new (acks-one delta (subst (λ (ds : List (List Op)). Acks (all_of ds)) h.3 e));
           }
 
@@ -150,7 +160,7 @@ module _ (c : List ℕ) (name : ℕ × ℕ) where
       take-explained : (k : ℕ) (delta : List Op) (answer : Result Out Refusal) (next : Gateway) (made : List (List Op)) → slice_get old.deltas k ≡ Some delta → TakeStep gateway delta answer next made → Explained next made Q
       take-explained k delta (Ok out) next made there h = record {
         by_taken = λ e. grown delta (λ own. known (inr (acks-listed old.deltas k delta there own))) (subst Acks (ap (λ (g : Gateway). g.taken) h.3) e);
-        by_refused = λ e. before-refused (subst Acks (ap (λ (g : Gateway). g.refused) h.3) e);
+        by_refused = λ e. before-refused (subst (λ (R : List (List Op)). Acks (all_of R)) (ap (λ (g : Gateway). g.refused) h.3) e);
         by_made = λ e. absurd (acks-none made h.2 e);
       }
       take-explained k delta (Err (refusals.Disk excuse)) next made there h = torn-explained delta next made h.2 (λ own. known (inr (acks-listed old.deltas k delta there own)))
@@ -173,14 +183,14 @@ module _ (c : List ℕ) (name : ℕ × ℕ) where
       compact-explained (Err refusals.Exhausted) next h = absurd h
       compact-explained (Err refusals.Memory) next h = absurd h
 
-      -- what it refused comes back, or does not
-      back-acks : (b : Bool) → Acks (with_refused b gateway.taken gateway.refused) → Q
-      back-acks true e = grown gateway.refused before-refused e
-      back-acks false e = before-taken e
+      -- some first ones of what it refused come back
+      back-acks : (n : ℕ) → Acks (with_refused n gateway.taken gateway.refused) → Q
+      back-acks n e =
+          grown (all_of (take n gateway.refused)) (λ own. before-refused (acks-front n gateway.refused own)) (subst Acks (refused_is n gateway.taken gateway.refused) e)
 
       restart-explained : (kept : ℕ) → Explained (restarted kept gateway) [] Q
       restart-explained kept = record {
-        by_taken = back-acks (has_more gateway.config.gateway gateway.drive (left_by kept gateway.drive));
+        by_taken = back-acks (more_records gateway.config.gateway gateway.drive (left_by kept gateway.drive));
         by_refused = λ e. absurd (true≢false (sym e));
         by_made = λ e. absurd (true≢false (sym e));
       }
@@ -332,7 +342,7 @@ module _ (c : List ℕ) (name : ℕ × ℕ) where
 
   pub start-acked : (configs : List Config) → IsAcknowledgedIn (new_field configs) c name → ⊥
   start-acked configs (inl (j, gateway, there, inl taken)) = true≢false (sym (subst Acks (new-place configs j gateway there).0 taken))
-  start-acked configs (inl (j, gateway, there, inr refused)) = true≢false (sym (subst Acks (new-place configs j gateway there).1 refused))
+  start-acked configs (inl (j, gateway, there, inr refused)) = true≢false (sym (subst (λ (R : List (List Op)). Acks (all_of R)) (new-place configs j gateway there).1 refused))
   start-acked configs (inr listed) = true≢false (sym listed)
 
   pub field-acked : (configs : List Config) (events : List Event) (answers : List Answer) (field : Field) → Run (new_field configs) events answers field → IsAcknowledgedIn field c name → IsWrittenBy (new_field configs) events answers c name

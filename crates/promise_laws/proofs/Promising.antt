@@ -1,5 +1,5 @@
 -- Nothing acknowledges a message before it is made, so what acknowledges it comes later, for a cause.
-use Rattle.std.proofs.Common.{◌≡◌, ℕ, Bool, true, false, ◌||◌, ◌⊎◌, List, slice_get, Some, Contains, refl, sym, ap, ◌∙◌, subst, inl, inr}
+use Rattle.std.proofs.Common.{◌≡◌, ℕ, zero, suc, Bool, true, false, ◌||◌, ◌⊎◌, List, [], ◌∷◌, ◌++◌, slice_get, Some, Contains, refl, sym, ap, ◌∙◌, subst, inl, inr}
 use Rattle.std.proofs.lemmas.Option.{none-some, same_Some, slice_get_within, get_or_from_slice_get}
 use Rattle.rep_op.specs.declared.op.Op.{Op}
 use Rattle.rep_op.specs.declared.op.Op.TheVariants.{Put as OfPut}
@@ -36,10 +36,24 @@ or_cases : (a b : Bool) → (a || b) ≡ true → (a ≡ true) ⊎ (b ≡ true)
 or_cases true b e = inl refl
 or_cases false b e = inr e
 
--- what is acknowledged with what was refused, or without, is acknowledged at the gateway
-acked-here : (c : List ℕ) (name : ℕ × ℕ) (b : Bool) (S refused : List Op) → is_acknowledged c (with_refused b S refused) name ≡ true → (is_acknowledged c S name ≡ true) ⊎ (is_acknowledged c refused name ≡ true)
-acked-here c name true S refused e = or_cases (is_acknowledged c S name) (is_acknowledged c refused name) (sym (is_acknowledged_both c S refused name) ∙ e)
-acked-here c name false S refused e = inl e
+or_last : (b : Bool) → (b || true) ≡ true
+or_last true = refl
+or_last false = refl
+
+-- what is acknowledged with some first ones of what was refused is acknowledged at the gateway
+acked-here : (c : List ℕ) (name : ℕ × ℕ) (n : ℕ) (S : List Op) (refused : List (List Op)) → is_acknowledged c (with_refused n S refused) name ≡ true
+    → (is_acknowledged c S name ≡ true) ⊎ (is_acknowledged c (all_of refused) name ≡ true)
+acked-here c name zero S refused e = inl e
+acked-here c name (suc n) S [] e = inl e
+acked-here c name (suc n) S (D ∷ refused) e =
+    let joined : is_acknowledged c (all_of (D ∷ refused)) name ≡ (is_acknowledged c D name || is_acknowledged c (all_of refused) name) = is_acknowledged_both c D (all_of refused) name in
+    elim (acked-here c name n (S ++ D) refused e) [
+      | inl both ↦ elim (or_cases (is_acknowledged c S name) (is_acknowledged c D name) (sym (is_acknowledged_both c S D name) ∙ both)) [
+        | inl here ↦ inl here
+        | inr own ↦ inr (joined ∙ ap (λ (b : Bool). b || is_acknowledged c (all_of refused) name) own)
+      ]
+      | inr rest ↦ inr (joined ∙ ap (λ (b : Bool). is_acknowledged c D name || b) rest ∙ or_last (is_acknowledged c D name))
+    ]
 
 module _ (configs : List Config) (event : Event) (out : Out) (old new : Field) (i : ℕ) (gateway next : Gateway) (h : HasAnswered configs event out old new i gateway) (delta : List Op) (c : List ℕ) (m : Put) (is : IsPut gateway next delta c m) where
   abbrev name : ℕ × ℕ
@@ -72,8 +86,8 @@ module _ (configs : List Config) (event : Event) (out : Out) (old new : Field) (
     or-answered S there (inr acked) = inr (acked, only-later (there acked))
 
     module _ (j : ℕ) (g : Gateway) (place : slice_get last.gateways j ≡ Some g) where
-      in-field : (b : Bool) → is_acknowledged c (with_refused b g.taken g.refused) name ≡ true → IsAcknowledgedIn last c name
-      in-field b e = inl (j, g, place, acked-here c name b g.taken g.refused e)
+      in-field : (n : ℕ) → is_acknowledged c (with_refused n g.taken g.refused) name ≡ true → IsAcknowledgedIn last c name
+      in-field n e = inl (j, g, place, acked-here c name n g.taken g.refused e)
 
       on-disk : (image : Image) (left : IsLeftOf g image) → is_acknowledged c (all_of (records g.config.gateway image)) name ≡ true → IsAcknowledgedIn last c name
       on-disk image left e =
@@ -84,7 +98,7 @@ module _ (configs : List Config) (event : Event) (out : Out) (old new : Field) (
   pub until-answered : slice_get new.gateways i ≡ Some next → WaitsUntilAnswered new i delta c m
   until-answered here = λ more replies last j g run place come.
       let k = kept-from gateway next delta c m is new i here more replies last j g run place come in (
-        or-answered more replies last run g.taken (in-field more replies last run j g place false) k.in_set,
+        or-answered more replies last run g.taken (in-field more replies last run j g place zero) k.in_set,
         λ image left. or-answered more replies last run (all_of (records g.config.gateway image)) (on-disk more replies last run j g place image left) (k.on_disk image left),
       )
 

@@ -1,5 +1,5 @@
 -- An id that comes into a field with an event was there before, or the event accepts a PUBLISH with it.
-use Rattle.std.proofs.Common.{◌≡◌, ℕ, zero, suc, ◌-◌, Bool, true, false, ◌⊎◌, List, [], ◌∷◌, ◌++◌, map, set, slice_get, Option, Some, None, option_map, Result, Ok, Err, refl, sym, ap, ◌∙◌, subst, inl, inr}
+use Rattle.std.proofs.Common.{◌≡◌, ℕ, zero, suc, ◌-◌, Bool, true, ◌⊎◌, List, [], ◌∷◌, ◌++◌, map, set, take, slice_get, Option, Some, None, option_map, Result, Ok, Err, refl, sym, ap, ◌∙◌, subst, inl, inr}
 use Rattle.std.specs.declared.sync.Arc.{Arc}
 use Rattle.std.specs.declared.alloc.Global.{Global}
 use Rattle.std.proofs.lemmas.List.Concat.{flat_map-append}
@@ -27,9 +27,10 @@ use Rattle.gw_answer.specs.declared.refusal.Refusal.TheVariants as refusals
 use Rattle.gw_answer.specs.Answers.{said}
 use Rattle.gw_event.specs.Occasions.{Occasion, Datagram, Clock}
 use Rattle.gw_event.specs.Gateways.{Gateway, new_gateway, with_refused}
-use Rattle.gw_event.specs.Drives.{left_by, has_more}
+use Rattle.gw_event.specs.Drives.{left_by, more_records}
 use Rattle.gw_event.specs.Event.{NothingHappens, IsTorn, IsMade, IsPlan, OwnStep, TakeStep, CompactStep}
 use Rattle.gw_node.proofs.Occurring.{operation_occurs}
+use Rattle.gw_node.proofs.Refused.{refused_is}
 use Rattle.gw_world.specs.declared.event.Event.{Event}
 use Rattle.gw_world.specs.declared.event.Event.TheVariants.{Frame, Tick, Take, Answer as Asks, WriteFails, Compact, Restart, Show}
 use Rattle.gw_world.specs.declared.event.Answer.{Answer}
@@ -51,7 +52,7 @@ use Rattle.promise_laws.proofs.Admitting.{new-published, new-answered}
 -- list have it
 abbrev IsBroughtIn : Field → List ℕ → ℕ → Type 0
 IsBroughtIn field c id =
-    ((j : ℕ) × (gateway : Gateway) × (slice_get field.gateways j ≡ Some gateway) × (HasOne c id gateway.taken ⊎ HasOne c id gateway.refused))
+    ((j : ℕ) × (gateway : Gateway) × (slice_get field.gateways j ≡ Some gateway) × (HasOne c id gateway.taken ⊎ HasOne c id (all_of gateway.refused)))
     ⊎ HasOne c id (listed field)
 
 module _ (c : List ℕ) (id : ℕ) where
@@ -88,6 +89,15 @@ module _ (c : List ℕ) (id : ℕ) where
   in-list-at (d ∷ ds) zero delta there h = in-left d (all_of ds) (subst Brought (sym (same_Some d delta there)) h)
   in-list-at (d ∷ ds) (suc k) delta there h = in-right d (all_of ds) (in-list-at ds k delta there h)
 
+  in-front : (n : ℕ) (ds : List (List Op)) → Brought (all_of (take n ds)) → Brought (all_of ds)
+  in-front zero ds h = absurd (empty-none h)
+  in-front (suc n) [] h = absurd (empty-none h)
+  in-front (suc n) (d ∷ ds) h =
+      elim (both d (all_of (take n ds)) h) [
+        | inl own ↦ in-left d (all_of ds) own
+        | inr rest ↦ in-right d (all_of ds) (in-front n ds rest)
+      ]
+
   -- what a delta of operations has, they have
   of-delta : (ops delta : List Op) → IsDeltaOf ops delta → Brought delta → Brought ops
   of-delta ops delta is (stamp, counter, change, there, brings) =
@@ -106,17 +116,17 @@ module _ (c : List ℕ) (id : ℕ) where
   -- why the gateway that is next, and what was made, bring the id
   record Explained (next : Gateway) (made : List (List Op)) (Q : Type 0) : Type 0 where
     by_taken : Brought next.taken → Q
-    by_refused : Brought next.refused → Q
+    by_refused : Brought (all_of next.refused) → Q
     by_made : Brought (all_of made) → Q
 
   abbrev At : List Gateway → Type 0
-  At gs = (j : ℕ) × (gateway : Gateway) × (slice_get gs j ≡ Some gateway) × (Brought gateway.taken ⊎ Brought gateway.refused)
+  At gs = (j : ℕ) × (gateway : Gateway) × (slice_get gs j ≡ Some gateway) × (Brought gateway.taken ⊎ Brought (all_of gateway.refused))
 
   module _ (old : Field) (Q : Type 0) (known : IsBroughtIn old c id → Q) where
     in-place : (i : ℕ) (next : Gateway) (made : List (List Op)) → Explained next made Q → At (set old.gateways i next) → Q
     in-place i next made x (j, gateway, there, brought) =
         elim (set-cases i j old.gateways next gateway there) [
-          | inl own ↦ elim (subst (λ (g : Gateway). Brought g.taken ⊎ Brought g.refused) own brought) [ inl taken ↦ x.by_taken taken | inr refused ↦ x.by_refused refused ]
+          | inl own ↦ elim (subst (λ (g : Gateway). Brought g.taken ⊎ Brought (all_of g.refused)) own brought) [ inl taken ↦ x.by_taken taken | inr refused ↦ x.by_refused refused ]
           | inr before ↦ known (inl (j, gateway, before, brought))
         ]
 
@@ -131,14 +141,14 @@ module _ (c : List ℕ) (id : ℕ) where
       before-taken : Brought gateway.taken → Q
       before-taken h = known (inl (i, gateway, here, inl h))
 
-      before-refused : Brought gateway.refused → Q
+      before-refused : Brought (all_of gateway.refused) → Q
       before-refused h = known (inl (i, gateway, here, inr h))
 
       -- nothing was taken or refused
       unchanged : (next : Gateway) (made : List (List Op)) → next.taken ≡ gateway.taken → next.refused ≡ gateway.refused → made ≡ [] → Explained next made Q
       unchanged next made taken refused none = record {
         by_taken = λ h. before-taken (subst Brought taken h);
-        by_refused = λ h. before-refused (subst Brought refused h);
+        by_refused = λ h. before-refused (subst (λ (R : List (List Op)). Brought (all_of R)) refused h);
         by_made = λ h. absurd (none-made made none h);
       }
 
@@ -151,7 +161,7 @@ module _ (c : List ℕ) (id : ℕ) where
       torn-explained : (delta : List Op) (next : Gateway) (made : List (List Op)) → IsTorn gateway delta next made → (Brought delta → Q) → Explained next made Q
       torn-explained delta next made t by = record {
         by_taken = λ h. before-taken (subst Brought (ap (λ (g : Gateway). g.taken) t.halted) h);
-        by_refused = λ h. by (subst Brought (ap (λ (g : Gateway). g.refused) t.halted) h);
+        by_refused = λ h. by (one-delta delta (subst (λ (R : List (List Op)). Brought (all_of R)) (ap (λ (g : Gateway). g.refused) t.halted) h));
         by_made = λ h. absurd (none-made made t.none h);
       }
 
@@ -162,7 +172,7 @@ module _ (c : List ℕ) (id : ℕ) where
       made-explained plan (op ∷ ops) (Some delta) next made h by =
           let new : Brought delta → Q = λ e. by (of-delta (op ∷ ops) delta h.0 e) in record {
             by_taken = λ e. grown delta new (subst Brought (ap (λ (g : Gateway). g.taken) h.4) e);
-            by_refused = λ e. before-refused (subst Brought (ap (λ (g : Gateway). g.refused) h.4) e);
+            by_refused = λ e. before-refused (subst (λ (R : List (List Op)). Brought (all_of R)) (ap (λ (g : Gateway). g.refused) h.4) e);
             by_made = λ e. new (one-delta delta (subst (λ (ds : List (List Op)). Brought (all_of ds)) h.3 e));
           }
 
@@ -185,7 +195,7 @@ module _ (c : List ℕ) (id : ℕ) where
       take-explained : (k : ℕ) (delta : List Op) (answer : Result Out Refusal) (next : Gateway) (made : List (List Op)) → slice_get old.deltas k ≡ Some delta → TakeStep gateway delta answer next made → Explained next made Q
       take-explained k delta (Ok out) next made there h = record {
         by_taken = λ e. grown delta (λ own. known (inr (in-list-at old.deltas k delta there own))) (subst Brought (ap (λ (g : Gateway). g.taken) h.3) e);
-        by_refused = λ e. before-refused (subst Brought (ap (λ (g : Gateway). g.refused) h.3) e);
+        by_refused = λ e. before-refused (subst (λ (R : List (List Op)). Brought (all_of R)) (ap (λ (g : Gateway). g.refused) h.3) e);
         by_made = λ e. absurd (none-made made h.2 e);
       }
       take-explained k delta (Err (refusals.Disk excuse)) next made there h = torn-explained delta next made h.2 (λ own. known (inr (in-list-at old.deltas k delta there own)))
@@ -208,14 +218,14 @@ module _ (c : List ℕ) (id : ℕ) where
       compact-explained (Err refusals.Exhausted) next h = absurd h
       compact-explained (Err refusals.Memory) next h = absurd h
 
-      -- what it refused comes back, or does not
-      back-brought : (b : Bool) → Brought (with_refused b gateway.taken gateway.refused) → Q
-      back-brought true h = grown gateway.refused before-refused h
-      back-brought false h = before-taken h
+      -- some first ones of what it refused come back
+      back-brought : (n : ℕ) → Brought (with_refused n gateway.taken gateway.refused) → Q
+      back-brought n h =
+          grown (all_of (take n gateway.refused)) (λ own. before-refused (in-front n gateway.refused own)) (subst Brought (refused_is n gateway.taken gateway.refused) h)
 
       restart-explained : (kept : ℕ) → Explained (restarted kept gateway) [] Q
       restart-explained kept = record {
-        by_taken = back-brought (has_more gateway.config.gateway gateway.drive (left_by kept gateway.drive));
+        by_taken = back-brought (more_records gateway.config.gateway gateway.drive (left_by kept gateway.drive));
         by_refused = λ h. absurd (empty-none h);
         by_made = λ h. absurd (empty-none h);
       }
@@ -378,7 +388,7 @@ module _ (c : List ℕ) (id : ℕ) where
 
   start-brought : (configs : List Config) → IsBroughtIn (new_field configs) c id → ⊥
   start-brought configs (inl (j, gateway, there, inl taken)) = empty-none (subst Brought (new-place configs j gateway there).0 taken)
-  start-brought configs (inl (j, gateway, there, inr refused)) = empty-none (subst Brought (new-place configs j gateway there).1 refused)
+  start-brought configs (inl (j, gateway, there, inr refused)) = empty-none (subst (λ (R : List (List Op)). Brought (all_of R)) (new-place configs j gateway there).1 refused)
   start-brought configs (inr listed) = empty-none listed
 
   pub field-received : (configs : List Config) (events : List Event) (answers : List Answer) (field : Field) (i : ℕ) (gateway : Gateway) → Run (new_field configs) events answers field → slice_get field.gateways i ≡ Some gateway

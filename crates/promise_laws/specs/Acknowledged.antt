@@ -4,6 +4,7 @@ use Rattle.sn_frame.specs.declared.frame.Frame.{Frame as OfFrame}
 use Rattle.sn_frame.specs.Bodies.{IsValue}
 use Rattle.sn_frame.specs.Grammar.{Spells}
 use Rattle.rep_op.specs.Sets.{is_acknowledged}
+use Rattle.rep_ops.specs.Splitting.{all_of}
 use Rattle.sn_local.specs.declared.config.Send.{Send}
 use Rattle.sn_local.specs.Seen.{seen_of}
 use Rattle.sn_plan.specs.declared.plan.Plan.{Plan}
@@ -29,7 +30,7 @@ abbrev pub IsAcknowledgedIn : Field → List ℕ → ℕ × ℕ → Type 0
 IsAcknowledgedIn field c name =
     ((j : ℕ) × (gateway : Gateway) × (slice_get field.gateways j ≡ Some gateway)
     × ((is_acknowledged c gateway.taken name ≡ true)
-    ⊎ (is_acknowledged c gateway.refused name ≡ true)))
+    ⊎ (is_acknowledged c (all_of gateway.refused) name ≡ true)))
     ⊎ (is_acknowledged c (listed field) name ≡ true)
 
 -- the event is a datagram that comes to the gateway of this number, or a tick of the clock there
