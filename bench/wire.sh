@@ -6,7 +6,8 @@
 # Of the daemon PROGRAM, three times in turn with the plain server, the best of which counts: ROUNDS (20,000) PINGREQ of one client, and
 # MESSAGES (5,000) PUBLISH at quality of service 1, of one client and of 32, each with one under way. They wait for sleepers, 100
 # for each. The plain server answers the same frames; before a PUBACK it appends as many octets to a file as the journal grew by,
-# and calls fdatasync. Then, of either, a flood of twice what was handled, for some five seconds; and of the daemon the longest gaps
+# and calls fdatasync: once for each, and of 32 clients also once for all that wait, 64 at most. The same of PUBLISH on a slow disk,
+# of which each sync takes 10 ms longer, a tenth as many. 300 PUBLISH within 2 ms, to the slow one. Then, of either, a flood of twice what was handled, for some five seconds; and of the daemon the longest gaps
 # between answers to 32 clients over the turn of shifts, in TURN (20,480) PUBLISH with 4 links; and its memory behind 1,000 messages that
 # were delivered and acknowledged, and behind MANY (20,000).
 #
@@ -38,6 +39,10 @@ trap 'finish; rm -rf "$work"' EXIT
 trap 'exit 1' INT TERM HUP
 wire=$work/wire
 gcc -O2 -Wall -o "$wire" "$top/bench/wire.c"
+gcc -O2 -Wall -shared -fPIC -o "$work/slow.so" "$top/trials/slow_sync.c"
+echo 10 >"$work/slow"
+# What a server is given so that its disk is slow; nothing for the disk as it is.
+disk=
 
 # await COMMAND..: waits until the command has status 0, twenty seconds at most.
 await() {
@@ -65,17 +70,19 @@ listen = "127.0.0.1:$port"
 link = "127.0.0.1:$link"
 journal = "$work/journal"
 END
-    "$wire" guard "$program" --config "$work/settings.toml" --shifts 1000000 >"$work/out" 2>"$work/err" &
+    # shellcheck disable=SC2086
+    env $disk "$wire" guard "$program" --config "$work/settings.toml" --shifts 1000000 >"$work/out" 2>"$work/err" &
     server=$!
     await grep -q '^gateway 1 records' "$work/out"
 }
 
-# plain [FILE OCTETS]: the plain server. Its port is $port.
+# plain [FILE OCTETS [MOST]]: the plain server. Its port is $port.
 plain() {
     finish
     rm -f "$work/plain.file"
     : >"$work/out"
-    "$wire" plain "$@" >"$work/out" 2>"$work/err" &
+    # shellcheck disable=SC2086
+    env $disk "$wire" plain "$@" >"$work/out" 2>"$work/err" &
     server=$!
     await test -s "$work/out"
     port=$(cat "$work/out")
@@ -101,19 +108,34 @@ compare() {
         printf "  the daemon does %.2f of plain C\n", a / b }'
 }
 
-# puts CLIENTS: publications of so many clients, to both servers in turn.
+# puts CLIENTS MESSAGES: so many publications of so many clients, to three servers in turn: the daemon, the plain one, and the
+# plain one that syncs once for all that wait.
 puts() {
-    rm -f "$work/proved" "$work/plain"
+    rm -f "$work/proved" "$work/plain" "$work/grouped"
     for _ in 1 2 3; do
         daemon
-        "$wire" puts "$port" "$1" "$messages" "$apiece" "$work/journal.0" >>"$work/proved"
+        "$wire" puts "$port" "$1" "$2" "$apiece" "$work/journal.0" >>"$work/proved"
         octets=$(told octets "$(tail -n 1 "$work/proved")")
         plain "$work/plain.file" "${octets%.*}"
-        "$wire" puts "$port" "$1" "$messages" "$apiece" >>"$work/plain"
+        "$wire" puts "$port" "$1" "$2" "$apiece" >>"$work/plain"
+        plain "$work/plain.file" "${octets%.*}" 64
+        "$wire" puts "$port" "$1" "$2" "$apiece" >>"$work/grouped"
     done
     proved_line=$(best "$work/proved")
     plain_line=$(best "$work/plain")
     octets=$(told octets "$proved_line")
+}
+
+# one_and_many MESSAGES WORDS: publications of one client, and of 32.
+one_and_many() {
+    puts 1 "$1"
+    compare "$1 PUBLISH of one client$2, $octets octets of the journal each" "$proved_line" "$plain_line"
+    alone=$(told rate "$proved_line")
+    puts 32 "$1"
+    compare "$1 PUBLISH of 32 clients$2, $octets octets of the journal each" "$proved_line" "$plain_line"
+    awk -v a="$(told rate "$proved_line")" -v b="$alone" -v c="$(told rate "$(best "$work/grouped")")" 'BEGIN {
+        printf "  plain C with one sync for all that wait %.0f per second; the daemon does %.2f of that\n", c, a / c
+        printf "  the daemon does %.2f of what it does for one client\n", a / b }'
 }
 
 # flood WORDS RATE: twice the rate, to the server that runs.
@@ -136,18 +158,22 @@ for _ in 1 2 3; do
 done
 compare "$rounds PINGREQ of one client" "$(best "$work/pings")" "$(best "$work/echoes")"
 
-puts 1
-compare "$messages PUBLISH of one client, $octets octets of the journal each" "$proved_line" "$plain_line"
-alone=$(told rate "$proved_line")
-puts 32
-compare "$messages PUBLISH of 32 clients, $octets octets of the journal each" "$proved_line" "$plain_line"
-awk -v a="$(told rate "$proved_line")" -v b="$alone" 'BEGIN { printf "  the daemon does %.2f of what it does for one client\n", a / b }'
+one_and_many "$messages" ""
+fast_line=$proved_line
+fast_plain=$plain_line
+disk="LD_PRELOAD=$work/slow.so SLOW_SYNC=$work/slow"
+one_and_many $((messages / 10)) ", each sync 10 ms longer"
+echo "300 PUBLISH within 2 ms, each sync 10 ms longer"
+daemon
+line=$("$wire" flood "$port" 150000 0.002 500)
+awk -v sent="$(told sent "$line")" -v dropped="$(told dropped "$line")" 'BEGIN { printf "  %d sent, %.0f dropped\n", sent, sent * dropped }'
+disk=
 
 echo "a flood of twice as many PUBLISH as were handled"
 daemon
-flood daemon "$(told rate "$proved_line")"
+flood daemon "$(told rate "$fast_line")"
 plain "$work/plain.file" "${octets%.*}"
-flood "plain C" "$(told rate "$plain_line")"
+flood "plain C" "$(told rate "$fast_plain")"
 
 daemon
 line=$("$wire" turn "$port" "$link" 32 4 "$turn" "$apiece")

@@ -184,7 +184,8 @@ head_or x (y ∷ ys) = y
 
 -- a list of one has nothing before it and nothing behind it
 one_cut : {X : Type 0} (x : X) (front : List X) (y : X) (behind : List X) → x ∷ [] ≡ front ++ y ∷ behind → (front ≡ []) × (x ≡ y) × (behind ≡ [])
-one_cut x [] y [] is = (refl, ap (λ (zs : List X). head_or x zs) is, refl)
+unfolding head_or
+one_cut {X = X} x [] y [] is = (refl, ap (λ (zs : List X). head_or x zs) is, refl)
 one_cut x [] y (z ∷ behind) is = absurd (let size : 1 ≡ suc (suc (length behind)) = ap length is in omega (arith, size))
 one_cut x (z ∷ front) y behind is = absurd (let size : 1 ≡ suc (length (front ++ y ∷ behind)) = ap length is in omega (arith, size, length-append front (y ∷ behind)))
 
