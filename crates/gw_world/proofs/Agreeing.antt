@@ -1,0 +1,93 @@
+-- What calls with one write take contradicts nothing, wherever those before them lead.
+use Rattle.std.proofs.Common.{◌≡◌, ◌⊎◌, ℕ, ◌-◌, zero, suc, take, List, [], ◌∷◌, ◌++◌, slice_get, Option, Some, None, Contains, Result, refl, sym, ap, ◌∙◌, subst, inl, inr}
+use Rattle.std.proofs.lemmas.Option.{slice_get_within, get_or_from_slice_get}
+use Rattle.rep_op.specs.declared.op.Op.{Op}
+use Rattle.jr_disk.specs.declared.disk.Plan.{Plan as Failure}
+use Rattle.gw_answer.specs.declared.out.Out.{Out}
+use Rattle.gw_answer.specs.declared.refusal.Refusal.{Refusal}
+use Rattle.gw_answer.specs.declared.step.Step.{Step}
+use Rattle.gw_answer.specs.declared.step.Step.TheVariants as steps
+use Rattle.gw_event.specs.Occasions.{Occasion, Datagram, Clock}
+use Rattle.gw_event.specs.Gateways.{Gateway}
+use Rattle.gw_event.specs.Event.{StepOf, Event}
+use Rattle.gw_event.specs.Together.{InTurnBy}
+use Rattle.gw_node.specs.Standing.{fated, Agrees, OwnAgrees, AgreeInTurn}
+use Rattle.gw_world.specs.declared.event.Call.{Call}
+use Rattle.gw_world.specs.declared.event.Call.TheVariants as calls
+use Rattle.gw_world.specs.Field.{Field, IsAt, changed, IsStepOf, AreStepsOf}
+use Rattle.gw_world.specs.inner.Events.{AgreeAlong, listing}
+use Rattle.gw_world.proofs.Consistency.{FlushField, WholeField, steady-is, none-back, delta-agrees, call-sound}
+use Rattle.gw_world.proofs.InRows.{Answers, at-changed, steps-later, step-later, one-call}
+use Rattle.gw_world.proofs.Steadiness.{plan-agrees}
+
+stands-in : {A : Type 0} (xs : List A) (k : ℕ) (x : A) → slice_get xs k ≡ Some x → Contains xs x
+stands-in xs k x e = (k, slice_get_within xs k x e, get_or_from_slice_get xs k x x e)
+
+call-agrees : (field : Field) (s : FlushField field) (w : WholeField field) (n i : ℕ) (g : Gateway) (at : IsAt field n i g) (call : Call) (step : Step) → IsStepOf field call step → Agrees g step
+call-agrees field s w n i g at (calls.Frame from bytes now) step is =
+    subst (λ (x : Step). Agrees g x) (sym is) (λ plan delta is_plan is_delta. plan-agrees field n i g (Datagram from bytes) now plan delta (steady-is field s w) at is_plan is_delta)
+call-agrees field s w n i g at (calls.Tick now) step is =
+    subst (λ (x : Step). Agrees g x) (sym is) (λ plan delta is_plan is_delta. plan-agrees field n i g Clock now plan delta (steady-is field s w) at is_plan is_delta)
+call-agrees field s w n i g at (calls.Take delta) step is =
+    subst (λ (x : Step). Agrees g x) (sym is.2) (delta-agrees field w g is.0 (stands-in field.gateways i g at.1) (stands-in field.deltas (delta - 1) is.0 is.1.1))
+
+pub agrees-along : (field : Field) (s : FlushField field) (w : WholeField field) (n i : ℕ) (g : Gateway) (at : IsAt field n i g) (called : List Call) (more : List Step) → AreStepsOf field called more → AgreeAlong g more
+agrees-along field s w n i g at [] [] given = tt
+agrees-along field s w n i g at (call ∷ called) (step ∷ more) given = (call-agrees field s w n i g at call step given.0, λ fate answer next made event. goes_on fate answer next made event)
+  where
+    goes_on : (fate : Option Failure) (answer : Result Out Refusal) (next : Gateway) (made : List (List Op)) → Event (fated fate g) step answer next made → AgreeAlong next more
+    goes_on fate answer next made (inl does) =
+        let f = changed field i (fated fate g) [] in
+        let here = none-back field s w n i g at (fated fate g) (record { config = refl; taken = refl; none = refl }) in
+        let there = at-changed field n i g (fated fate g) [] at refl in
+        let one = one-call f n i (fated fate g) next call step answer made there (step-later field i (fated fate g) [] call step given.0) does in
+        let sound = call-sound f (changed f i next made) n call answer one.0 here.0 here.1 in
+        agrees-along (changed f i next made) sound.flush sound.whole n i next (at-changed f n i (fated fate g) next made there one.1) called more
+        (steps-later f i next made called more (steps-later field i (fated fate g) [] called more given.1))
+    goes_on fate answer next made (inr none) =
+        let f = changed field i (fated fate g) [] in
+        let here = none-back field s w n i g at (fated fate g) (record { config = refl; taken = refl; none = refl }) in
+        subst (λ (x : Gateway). AgreeAlong x more) (sym none.1.same)
+        (agrees-along f here.0 here.1 n i (fated fate g) (at-changed field n i g (fated fate g) [] at refl) called more (steps-later field i (fated fate g) [] called more given.1))
+agrees-along field s w n i g at [] (step ∷ more) given = absurd given
+agrees-along field s w n i g at (call ∷ called) [] given = absurd given
+
+-- ---- along the calls, and from some of them on
+
+pub along-turn : (g : Gateway) (more : List Step) (fate : Option Failure) → AgreeAlong g more → AgreeInTurn (fated fate g) more
+along-turn g [] fate h = tt
+along-turn g (step ∷ more) fate h = (one g step fate h.0, λ answer next made event. along-turn next more next.drive.plan (h.1 fate answer next made event))
+  where
+    one : (g : Gateway) (step : Step) (fate : Option Failure) → Agrees g step → Agrees (fated fate g) step
+    one g (steps.Frame from bytes now) fate h = h
+    one g (steps.Take delta) fate h = h
+    one g (steps.Tick now) fate h = h
+    one g (steps.View client) fate h = tt
+    one g steps.Digest fate h = tt
+    one g (steps.Answer asked) fate h = tt
+    one g steps.Compact fate h = tt
+    one g steps.Reopen fate h = tt
+
+pub along-take : (g : Gateway) (n : ℕ) (more : List Step) → AgreeAlong g more → AgreeAlong g (take n more)
+along-take g zero more h = tt
+along-take g (suc n) [] h = tt
+along-take g (suc n) (step ∷ more) h = (h.0, λ fate answer next made event. along-take next n more (h.1 fate answer next made event))
+
+pub along-after : (g next : Gateway) (front behind : List Step) (answers : Answers) (made : List (List Op)) → AgreeAlong g (front ++ behind) → InTurnBy StepOf g front answers next made → AgreeAlong next behind
+along-after g next [] behind [] made h t = subst (λ (x : Gateway). AgreeAlong x behind) (sym t.same) h
+along-after g next (step ∷ front) behind (answer ∷ answers) made h t = along-after t.0 next front behind answers t.2 (h.1 g.drive.plan answer t.0 t.1 (inl t.3)) t.4
+along-after g next [] behind (answer ∷ answers) made h t = absurd t
+along-after g next (step ∷ front) behind [] made h t = absurd t
+
+-- ---- the list that the node's calls were made from
+
+one-listed : (field : Field) (deltas : List (List Op)) → field.deltas ≡ deltas → (call : Call) (step : Step) → IsStepOf (listing deltas) call step → IsStepOf field call step
+one-listed field deltas e (calls.Frame from bytes now) step h = h
+one-listed field deltas e (calls.Tick now) step h = h
+one-listed field deltas e (calls.Take delta) step h = (h.0, (h.1.0, ap (λ (ds : List (List Op)). slice_get ds (delta - 1)) e ∙ h.1.1), h.2)
+
+pub steps-listed : (field : Field) (deltas : List (List Op)) → field.deltas ≡ deltas → (called : List Call) (more : List Step) → AreStepsOf (listing deltas) called more → AreStepsOf field called more
+steps-listed field deltas e [] [] h = tt
+steps-listed field deltas e (call ∷ called) (step ∷ more) h = (one-listed field deltas e call step h.0, steps-listed field deltas e called more h.1)
+steps-listed field deltas e [] (step ∷ more) h = absurd h
+steps-listed field deltas e (call ∷ called) [] h = absurd h
