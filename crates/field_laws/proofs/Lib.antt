@@ -7,6 +7,7 @@ pub mod Settling
 pub mod Rooms
 pub mod Determined
 pub mod SameRows
+pub mod OneByOne
 pub mod Replaying
 pub mod Stops
 pub mod Writing

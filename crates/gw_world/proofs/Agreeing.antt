@@ -10,12 +10,16 @@ use Rattle.gw_answer.specs.declared.step.Step.TheVariants as steps
 use Rattle.gw_event.specs.Occasions.{Occasion, Datagram, Clock}
 use Rattle.gw_event.specs.Gateways.{Gateway}
 use Rattle.gw_event.specs.Event.{StepOf, Event}
-use Rattle.gw_event.specs.Together.{InTurnBy}
+use Rattle.std.specs.List.{AllByRecursion}
+use Rattle.gw_event.specs.Together.{InTurnBy, CanWrite}
 use Rattle.gw_node.specs.Standing.{fated, Agrees, OwnAgrees, AgreeInTurn}
 use Rattle.gw_world.specs.declared.event.Call.{Call}
 use Rattle.gw_world.specs.declared.event.Call.TheVariants as calls
 use Rattle.gw_world.specs.Field.{Field, IsAt, changed, IsStepOf, AreStepsOf}
-use Rattle.gw_world.specs.inner.Events.{AgreeAlong, listing}
+use Rattle.gw_world.specs.declared.world.WorldFault.{WorldFault}
+use Rattle.gw_world.specs.declared.world.WorldFault.TheVariants as stops
+use Rattle.gw_world.specs.inner.Events.{AgreeAlong, listing, CallMissing, CallsMissing}
+use Rattle.gw_world.proofs.Failures.{can-write}
 use Rattle.gw_world.proofs.Consistency.{FlushField, WholeField, steady-is, none-back, delta-agrees, call-sound}
 use Rattle.gw_world.proofs.InRows.{Answers, at-changed, steps-later, step-later, one-call}
 use Rattle.gw_world.proofs.Steadiness.{plan-agrees}
@@ -91,3 +95,23 @@ steps-listed field deltas e [] [] h = tt
 steps-listed field deltas e (call ∷ called) (step ∷ more) h = (one-listed field deltas e call step h.0, steps-listed field deltas e called more h.1)
 steps-listed field deltas e [] (step ∷ more) h = absurd h
 steps-listed field deltas e (call ∷ called) [] h = absurd h
+
+-- ---- calls as the node is asked them
+
+pub steps-push : (field : Field) (called : List Call) (more : List Step) (call : Call) (step : Step) → AreStepsOf field called more → IsStepOf field call step → AreStepsOf field (called ++ call ∷ []) (more ++ step ∷ [])
+steps-push field [] [] call step h is = (is, tt)
+steps-push field (c ∷ called) (s ∷ more) call step h is = (h.0, steps-push field called more call step h.1 is)
+steps-push field [] (s ∷ more) call step h is = absurd h
+steps-push field (c ∷ called) [] call step h is = absurd h
+
+pub steps-write : (field : Field) (called : List Call) (more : List Step) → AreStepsOf field called more → AllByRecursion CanWrite more
+steps-write field [] [] h = tt
+steps-write field (call ∷ called) (step ∷ more) h = (can-write field call step h.0, steps-write field called more h.1)
+steps-write field [] (step ∷ more) h = absurd h
+steps-write field (call ∷ called) [] h = absurd h
+
+-- a call that is none of the node is one of those that are none
+pub missing-among : (deltas : List (List Op)) (called : List Call) (k : ℕ) (call : Call) (number : ℕ) (fault : WorldFault) → slice_get called k ≡ Some call → CallMissing deltas call number fault → CallsMissing deltas called number fault
+missing-among deltas called k call number (stops.NoGateway n) at h = absurd h
+missing-among deltas called k call number (stops.NoDelta n) at h = (h.0, (h.1.0, subst (λ (c : Call). Contains called c) h.1.1 (stands-in called k call at), h.1.2))
+missing-among deltas called k call number stops.Memory at h = tt

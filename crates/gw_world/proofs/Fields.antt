@@ -252,7 +252,7 @@ module _ {D : Type 0} {G : Ghosts D} (field : Field) (r : IsReached field) (ks :
     event_reaches (Restart n left) news next (Row answers) (i, place, (h, is_next)) = absurd h
     event_reaches (Show n) news next (Row answers) (i, place, (h, same, is_next)) = absurd h
 
-map_push : {A B : Type 0} (f : A → B) (xs : List A) (x : A) → map f (xs ++ x ∷ []) ≡ map f xs ++ f x ∷ []
+pub map_push : {A B : Type 0} (f : A → B) (xs : List A) (x : A) → map f (xs ++ x ∷ []) ≡ map f xs ++ f x ∷ []
 map_push f [] x = refl
 map_push f (y ∷ xs) x = ap (λ zs. f y ∷ zs) (map_push f xs x)
 

@@ -1,8 +1,9 @@
 -- A node is asked calls with one write, the first ones and then the others: it does them as if it had been asked them at once.
-use Rattle.std.proofs.Common.{◌≡◌, ◌⊎◌, ◌<◌, ◌≤◌, ℕ, zero, suc, false, List, [], ◌∷◌, ◌++◌, length, map, take, drop, Option, Some, None, Result, Ok, Err, refl, sym, ap, ◌∙◌, subst, append-nil, append_assoc, inl, inr, arith}
+use Rattle.std.proofs.Common.{◌≡◌, ◌⊎◌, ◌<◌, ◌≤◌, ◌+◌, ℕ, zero, suc, false, List, [], ◌∷◌, ◌++◌, length, map, take, drop, Option, Some, None, Result, Ok, Err, refl, sym, ap, ◌∙◌, subst, append-nil, append_assoc, inl, inr, arith}
 use Rattle.std.specs.List.{AllByRecursion}
 use Rattle.std.specs.Option.{option_to_list}
 use Rattle.std.proofs.lemmas.Option.{none-some}
+use Rattle.std.proofs.lemmas.List.{length-append}
 use Rattle.rep_op.specs.declared.op.Op.{Op}
 use Rattle.rep_model.proofs.Joins.{all-left, all-right}
 use Rattle.sn_plan.specs.declared.plan.Plan.{Plan}
@@ -315,3 +316,68 @@ module _ {D : Type 0} {G : Ghosts D} where
           let turned : InTurnBy StepOf gateway called answers lead.0 lead.1 = subst (λ (xs : List Step). InTurnBy StepOf gateway xs answers lead.0 lead.1) (take-whole answers called size) turn in
           inl (turn-events gateway lead.0 called answers lead.1 turned, none-last answers go)
       whole (inr (together, same)) = together
+
+-- ---- one row, by the lists of the program
+
+dropped-long : {A B : Type 0} (ys : List B) (xs : List A) → length ys ≤ length xs → length ys + length (drop (length ys) xs) ≡ length xs
+dropped-long [] xs h = omega arith
+dropped-long (y ∷ ys) [] h = absurd (omega (arith, h))
+dropped-long (y ∷ ys) (x ∷ xs) h = let rest = dropped-long ys xs (omega (arith, h)) in omega (arith, rest)
+
+map-long : {A B : Type 0} (f : A → B) (xs : List A) → length (map f xs) ≡ length xs
+map-long f [] = refl
+map-long f (x ∷ xs) = ap suc (map-long f xs)
+
+map-dropped : {A B : Type 0} (f : A → B) (n : ℕ) (xs : List A) → map f (drop n xs) ≡ drop n (map f xs)
+map-dropped f zero xs = refl
+map-dropped f (suc n) [] = refl
+map-dropped f (suc n) (x ∷ xs) = map-dropped f n xs
+
+module _ {D : Type 0} {G : Ghosts D} {X Y : Type 0} (value : X → Step) (heard : Y → Result Out Refusal) (old new : State G) (steps : List X) (before after : List Y) (replies : Answers) where
+  -- how long the lists are
+  pub record Told : Type 0 where
+    pub told : map heard after ≡ map heard before ++ replies
+    pub some : 0 < length replies
+    pub most : length replies ≤ length (drop (length before) steps)
+    pub less : length before < length steps
+
+  longer : Told → length after ≡ length before + length replies
+  longer t =
+      let sizes : length (map heard after) ≡ length (map heard before ++ replies) = ap length t.told in
+      let first = map-long heard after in
+      let second = map-long heard before in
+      let sum = length-append (map heard before) replies in
+      omega (arith, sizes, first, second, sum)
+
+  pub more-told : Told → length before < length after
+  more-told t = let size = longer t in let some = t.some in omega (arith, size, some)
+
+  pub most-told : Told → length after ≤ length steps
+  most-told t =
+      let size = longer t in
+      let most = t.most in
+      let less = t.less in
+      let whole = dropped-long before steps (omega (arith, less)) in
+      omega (arith, size, most, whole)
+
+  ways-told : Told → NoneFailed replies ⊎ (length steps ≤ length after) → NoneFailed replies ⊎ (length (map heard before ++ replies) ≡ length (map value steps))
+  ways-told t (inl none) = inl none
+  ways-told t (inr all) =
+      let sizes : length (map heard after) ≡ length (map heard before ++ replies) = ap length t.told in
+      let first = map-long heard after in
+      let third = map-long value steps in
+      let few = most-told t in
+      inr (omega (arith, sizes, first, third, few, all))
+
+  pub row-of-node : Told → G.honest → G.starved (disk_of new.journal) ≡ false → AllByRecursion CanWrite (map value steps) → AllByRecursion IsFed replies
+      → EventsOn old (take (length replies) (map value (drop (length before) steps))) replies new → NoneFailed replies ⊎ (length steps ≤ length after)
+      → RowDone old (map value steps) (map heard before) (map heard after) new
+  row-of-node t honest unstarved can fed event ways =
+      let rest : map value (drop (length before) steps) ≡ drop (length (map heard before)) (map value steps) =
+      map-dropped value (length before) steps ∙ ap (λ (n : ℕ). drop n (map value steps)) (sym (map-long heard before)) in
+      let asked : EventsOn old (take (length replies) (drop (length (map heard before)) (map value steps))) replies new = subst (λ (xs : List Step). EventsOn old (take (length replies) xs) replies new) rest event in
+      let size = map-long heard before in
+      let third = map-long value steps in
+      let less = t.less in
+      subst (λ (xs : Answers). RowDone old (map value steps) (map heard before) xs new) (sym t.told)
+      (row-done old new (map value steps) (map heard before) replies honest unstarved can fed asked (ways-told t ways) (omega (arith, size, third, less)))

@@ -24,7 +24,7 @@ use Rattle.gw_world.specs.Places.{place_of}
 use Rattle.gw_event.specs.Gateways.{Gateway, new_gateway}
 use Rattle.gw_world.specs.Steps.{AnswerStep, records_left, restarted}
 use Rattle.gw_event.specs.Event.{OwnStep, TakeStep, CompactStep}
-use Rattle.gw_event.specs.Together.{Together}
+use Rattle.gw_event.specs.Together.{Together, AreAlike}
 
 -- the gateways, and the deltas made or answered, in the order of making
 pub record Field : Type 0 where
@@ -222,3 +222,16 @@ NamesNoDelta field (WriteFails number bytes sync) = ⊥
 NamesNoDelta field (Compact number) = ⊥
 NamesNoDelta field (Restart number kept) = ⊥
 NamesNoDelta field (Show number) = ⊥
+
+-- a call of several as an event by itself
+abbrev pub by_itself : ℕ → Call → Event
+by_itself number (calls.Frame from bytes now) = Frame number from bytes now
+by_itself number (calls.Tick now) = Tick number now
+by_itself number (calls.Take delta) = Take number delta
+
+-- both fields have the same list, and each gateway of one has the settings, the set and the local
+-- state of that in its place of the other
+pub record AreFieldsAlike (one other : Field) : Type 0 where
+  pub deltas : one.deltas ≡ other.deltas
+  pub gateways : (i : ℕ) (gateway same : Gateway) → slice_get one.gateways i ≡ Some gateway
+      → slice_get other.gateways i ≡ Some same → AreAlike gateway same

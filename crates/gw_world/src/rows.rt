@@ -5,7 +5,7 @@
 //! was written before. Where the node had not put all calls behind into that write, the event says
 //! nothing: which deltas were refused would not follow from the calls.
 
-ghost use Rattle.std.specs.Prelude.{◌≡◌, ◌++◌, ◌<◌, ◌≤◌, ◌+◌, true, false, IfOk, OnOk, IfErr, length, map, vec_len};
+ghost use Rattle.std.specs.Prelude.{◌≡◌, ◌⊎◌, ◌++◌, ◌<◌, ◌≤◌, false, IfOk, OnOk, IfErr, length, map, vec_len};
 ghost use Rattle.std.specs.List.{AllByRecursion};
 ghost use Rattle.std.specs.Arc.{arc_value};
 ghost use Rattle.gw_event.specs.Together.{CanWrite};
@@ -52,6 +52,13 @@ fn step_of(
     }
 }
 
+/// A share of a call.
+fn shared(alloc: Global, step: Step) -> Result<Arc<Step>, NoMemory>
+    ensures { IfOk result (λ made. arc_value made ≡ step) }
+{
+    Ok(Arc::new(alloc, step)?)
+}
+
 /// Calls as the node is asked them. Events are numbered.
 pub fn steps_of(
     alloc: Global,
@@ -69,7 +76,8 @@ pub fn steps_of(
             Ok(step) => step,
             Err(fault) => return Err(fault),
         };
-        steps.push(Arc::new(alloc, step)?)?;
+        let share = shared(alloc, step)?;
+        steps.push(share)?;
     }
     Ok(steps)
 }
@@ -84,23 +92,39 @@ fn is_failure(reply: &Reply) -> bool
     }
 }
 
-/// Puts answers of the node behind others. Whether one of them is that the disk failed.
+/// Whether one of the answers is that the disk failed.
+fn has_failure(replies: &[Reply]) -> bool
+    ensures { result ≡ false → AllByRecursion IsNoFailure replies.now }
+{
+    for reply in replies {
+        if is_failure(reply) {
+            return true;
+        }
+    }
+    false
+}
+
+/// Whether calls are left that were not in the write that failed.
+fn is_cut(has_failed: bool, answered: usize, asked: usize) -> bool
+    ensures { result ≡ false → (has_failed ≡ false) ⊎ (asked ≤ answered) }
+{
+    has_failed && answered < asked
+}
+
+/// Puts answers of the node behind others.
 fn tell_all(
     replies: Vec<Reply>,
     answers: &mut Vec<Result<Arc<Out>, NodeFault>>,
-) -> Result<bool, NoMemory>
+) -> Result<(), NoMemory>
     ensures told { OnOk result (map said answers.new.items
         ≡ map said answers.old.items ++ replies.items) }
     ensures fed { OnOk result (AllByRecursion IsFed replies.items) }
-    ensures failed { IfOk result (λ failed. failed ≡ false
-        → AllByRecursion IsNoFailure replies.items) }
 {
-    let mut is_failed = false;
     for reply in replies {
-        is_failed = is_failed || is_failure(&reply);
-        answers.push(unless_memory(one_share(reply))?)?;
+        let answer = unless_memory(one_share(reply))?;
+        answers.push(answer)?;
     }
-    Ok(is_failed)
+    Ok(())
 }
 
 /// The node is asked the calls that have no answer yet: the first ones of them, and one at least,
@@ -125,8 +149,9 @@ fn one_row<R: Replica>(
         drop(replies);
         return Err(NoMemory);
     }
-    let is_failed = tell_all(replies, answers)?;
-    if is_failed && answers.len() < steps.len() {
+    let has_failed = has_failure(replies.as_slice());
+    tell_all(replies, answers)?;
+    if is_cut(has_failed, answers.len(), steps.len()) {
         return Err(NoMemory);
     }
     Ok(())
