@@ -1,5 +1,5 @@
 -- Calls with one write are events one after the other.
-use Rattle.std.proofs.Common.{◌≡◌, ◌⊎◌, ℕ, zero, suc, List, [], ◌∷◌, ◌++◌, map, set, slice_get, Some, Result, Ok, Err, refl, sym, ap, ◌∙◌, subst, inl, inr}
+use Rattle.std.proofs.Common.{◌≡◌, ◌⊎◌, ℕ, zero, suc, List, [], ◌∷◌, ◌++◌, map, set, slice_get, Some, Result, Ok, Err, refl, sym, ap, ◌∙◌, subst, inl, inr, arith}
 use Rattle.std.specs.List.{AllByRecursion}
 use Rattle.std.specs.declared.alloc.Global.{Global}
 use Rattle.std.specs.declared.sync.Arc.{Arc}
@@ -40,7 +40,7 @@ never-short : (old new : Field) (number : ℕ) (called : List Call) (answers : A
 never-short old new number called answers none c =
     let last = all-right (λ (answer : Result Out Refusal). failed answer ≡ 0) c.said (c.answer ∷ halted_all c.steps_behind) (subst (λ (xs : Answers). AllByRecursion (λ answer. failed answer ≡ 0) xs) c.answers_are none) in
     let zero_one : 1 ≡ 0 = sym (ap failed c.torn.told) ∙ last.0 in
-    absurd cc
+    absurd (omega (arith, zero_one))
 
 pub row-went : (old new : Field) (number : ℕ) (called : List Call) (answers : List (Result (Arc Out Global) NodeFault)) → After old (AtOnce number called) (Row answers) new → AllByRecursion (λ answer. failed answer ≡ 0) (map said answers)
     → Run old (map (by_itself number) called) (map Node answers) new

@@ -35,24 +35,50 @@ call-agrees field s w n i g at (calls.Tick now) step is =
 call-agrees field s w n i g at (calls.Take delta) step is =
     subst (λ (x : Step). Agrees g x) (sym is.2) (delta-agrees field w g is.0 (stands-in field.gateways i g at.1) (stands-in field.deltas (delta - 1) is.0 is.1.1))
 
+-- a field in which the gateway is the next one, and the calls behind are what they were
+record Onward (n i : ℕ) (next : Gateway) (called : List Call) (more : List Step) : Type 0 where
+  field : Field
+  flush : FlushField field
+  whole : WholeField field
+  at : IsAt field n i next
+  given : AreStepsOf field called more
+
+module _ (before : Field) (s : FlushField before) (w : WholeField before) (n i : ℕ) (g : Gateway) (at : IsAt before n i g) (call : Call) (step : Step) (is : IsStepOf before call step) (called : List Call) (more : List Step) (given : AreStepsOf before called more)
+    (fate : Option Failure) where
+  abbrev fated_field : Field
+  fated_field = changed before i (fated fate g) []
+
+  fated_sound : FlushField fated_field × WholeField fated_field
+  fated_sound = none-back before s w n i g at (fated fate g) (record { config = refl; taken = refl; none = refl })
+
+  fated_at : IsAt fated_field n i (fated fate g)
+  fated_at = at-changed before n i g (fated fate g) [] at refl
+
+  onward : (answer : Result Out Refusal) (next : Gateway) (made : List (List Op)) → Event (fated fate g) step answer next made → Onward n i next called more
+  onward answer next made (inl does) =
+      let one = one-call fated_field n i (fated fate g) next call step answer made fated_at (step-later before i (fated fate g) [] call step is) does in
+      let sound = call-sound fated_field (changed fated_field i next made) n call answer one.0 fated_sound.0 fated_sound.1 in
+      record {
+        field = changed fated_field i next made;
+        flush = sound.flush;
+        whole = sound.whole;
+        at = at-changed fated_field n i (fated fate g) next made fated_at one.1;
+        given = steps-later fated_field i next made called more (steps-later before i (fated fate g) [] called more given);
+      }
+  onward answer next made (inr none) = record {
+    field = fated_field;
+    flush = fated_sound.0;
+    whole = fated_sound.1;
+    at = subst (λ (x : Gateway). IsAt fated_field n i x) (sym none.1.same) fated_at;
+    given = steps-later before i (fated fate g) [] called more given;
+  }
+
 pub agrees-along : (field : Field) (s : FlushField field) (w : WholeField field) (n i : ℕ) (g : Gateway) (at : IsAt field n i g) (called : List Call) (more : List Step) → AreStepsOf field called more → AgreeAlong g more
 agrees-along field s w n i g at [] [] given = tt
-agrees-along field s w n i g at (call ∷ called) (step ∷ more) given = (call-agrees field s w n i g at call step given.0, λ fate answer next made event. goes_on fate answer next made event)
-  where
-    goes_on : (fate : Option Failure) (answer : Result Out Refusal) (next : Gateway) (made : List (List Op)) → Event (fated fate g) step answer next made → AgreeAlong next more
-    goes_on fate answer next made (inl does) =
-        let f = changed field i (fated fate g) [] in
-        let here = none-back field s w n i g at (fated fate g) (record { config = refl; taken = refl; none = refl }) in
-        let there = at-changed field n i g (fated fate g) [] at refl in
-        let one = one-call f n i (fated fate g) next call step answer made there (step-later field i (fated fate g) [] call step given.0) does in
-        let sound = call-sound f (changed f i next made) n call answer one.0 here.0 here.1 in
-        agrees-along (changed f i next made) sound.flush sound.whole n i next (at-changed f n i (fated fate g) next made there one.1) called more
-        (steps-later f i next made called more (steps-later field i (fated fate g) [] called more given.1))
-    goes_on fate answer next made (inr none) =
-        let f = changed field i (fated fate g) [] in
-        let here = none-back field s w n i g at (fated fate g) (record { config = refl; taken = refl; none = refl }) in
-        subst (λ (x : Gateway). AgreeAlong x more) (sym none.1.same)
-        (agrees-along f here.0 here.1 n i (fated fate g) (at-changed field n i g (fated fate g) [] at refl) called more (steps-later field i (fated fate g) [] called more given.1))
+agrees-along field s w n i g at (call ∷ called) (step ∷ more) given = (
+  call-agrees field s w n i g at call step given.0,
+  λ fate answer next made event. let o = onward field s w n i g at call step given.0 called more given.1 fate answer next made event in agrees-along o.field o.flush o.whole n i next o.at called more o.given,
+)
 agrees-along field s w n i g at [] (step ∷ more) given = absurd given
 agrees-along field s w n i g at (call ∷ called) [] given = absurd given
 

@@ -6,6 +6,7 @@ use Rattle.rep_op.specs.declared.op.Op.{Op}
 use Rattle.rep_model.proofs.Joins.{all-left}
 use Rattle.gw_answer.specs.declared.out.Out.{Out}
 use Rattle.gw_answer.specs.declared.refusal.Refusal.{Refusal}
+use Rattle.gw_answer.specs.declared.refusal.Refusal.TheVariants as refusals
 use Rattle.gw_answer.specs.declared.step.Step.{Step}
 use Rattle.gw_answer.specs.declared.step.Step.TheVariants as steps
 use Rattle.gw_event.specs.Occasions.{Occasion, Datagram, Clock}
@@ -184,7 +185,7 @@ short-row : (old : Field) (number i : ℕ) (gateway next : Gateway) (called : Li
     → StopShort gateway more answers next made → CutShort old number called answers (changed old i next made)
 short-row old number i gateway next called more answers made at is fed h =
     let c = cut-at old called h.calm (h.call ∷ h.behind) (subst (λ (xs : List Step). AreStepsOf old called xs) h.calls_are is) in
-    let fed_first : AreFed h.said = all-left _ h.said (h.answer ∷ halted_all h.behind) (subst AreFed h.answers_are fed) in
+    let fed_first : AreFed h.said = all-left (λ (answer : Result Out Refusal). answer ≡ Err refusals.Memory → ⊥) h.said (h.answer ∷ halted_all h.behind) (subst AreFed h.answers_are fed) in
     let led = in-calls old number i gateway h.mid c.calm h.calm h.said made at c.first (turn-fed gateway h.mid h.calm h.said made fed_first h.led) in
     record {
       calm = c.calm;

@@ -243,10 +243,10 @@ module _ {D : Type 0} {G : Ghosts D} where
       )
 
   module _ (old new : State G) (called : List Step) (before replies : Answers) (can : AllByRecursion CanWrite called) (fed : AreFed replies) (gateway : Gateway) where
-    rest : List Step
+    abbrev rest : List Step
     rest = drop (length before) called
 
-    part : List Step
+    abbrev part : List Step
     part = take (length replies) rest
 
     can_part : AllByRecursion CanWrite part
@@ -381,3 +381,43 @@ module _ {D : Type 0} {G : Ghosts D} {X Y : Type 0} (value : X → Step) (heard 
       let less = t.less in
       subst (λ (xs : Answers). RowDone old (map value steps) (map heard before) xs new) (sym t.told)
       (row-done old new (map value steps) (map heard before) replies honest unstarved can fed asked (ways-told t ways) (omega (arith, size, third, less)))
+
+module _ {D : Type 0} {G : Ghosts D} {X Y : Type 0} (value : X → Step) (heard : Y → Result Out Refusal) (old new : State G) (steps : List X) (before after : List Y) (replies : Answers) (a b : ℕ) where
+  -- the same by how long the program's lists are
+  pub record Heard : Type 0 where
+    pub front : a ≡ length before
+    pub all : b ≡ length after
+    pub told : map heard after ≡ map heard before ++ replies
+    pub some : 0 < length replies
+    pub most : length replies ≤ length (drop a steps)
+    pub less : a < length steps
+
+  pub told-of : Heard → Told value heard old new steps before after replies
+  told-of h = record {
+    told = h.told;
+    some = h.some;
+    most = subst (λ (n : ℕ). length replies ≤ length (drop n steps)) h.front h.most;
+    less = subst (λ (n : ℕ). n < length steps) h.front h.less;
+  }
+
+  pub heard-row : Heard → G.honest → G.starved (disk_of new.journal) ≡ false → AllByRecursion CanWrite (map value steps) → AllByRecursion IsFed replies
+      → EventsOn old (take (length replies) (map value (drop a steps))) replies new → NoneFailed replies ⊎ (length steps ≤ b)
+      → RowDone old (map value steps) (map heard before) (map heard after) new
+  heard-row h honest unstarved can fed event ways =
+      row-of-node value heard old new steps before after replies (told-of h) honest unstarved can fed
+      (subst (λ (n : ℕ). EventsOn old (take (length replies) (map value (drop n steps))) replies new) h.front event)
+      (subst (λ (n : ℕ). NoneFailed replies ⊎ (length steps ≤ n)) h.all ways)
+
+  pub heard-more : Heard → a < b
+  heard-more h = let more = more-told value heard old new steps before after replies (told-of h) in let front = h.front in let all = h.all in omega (arith, more, front, all)
+
+  pub heard-most : Heard → b ≤ length steps
+  heard-most h = let most = most-told value heard old new steps before after replies (told-of h) in let all = h.all in omega (arith, most, all)
+
+-- so many answers as calls
+pub both-long : {X Y : Type 0} (value : X → Step) (heard : Y → Result Out Refusal) (steps : List X) (answers : List Y) (a : ℕ) → a ≡ length answers → a ≤ length steps → (a < length steps → ⊥) → length (map heard answers) ≡ length (map value steps)
+both-long value heard steps answers a is few not_less =
+    let first = map-long heard answers in
+    let second = map-long value steps in
+    let same : a ≡ length steps = omega (arith, few, not_less) in
+    omega (arith, first, second, is, same)
