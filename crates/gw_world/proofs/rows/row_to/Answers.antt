@@ -7,7 +7,7 @@ use Rattle.gw_world.proofs.Rowing.{row-starts, row-ends, both-long}
 use Rattle.gw_world.proofs.rows.row_to.Goals as goal
 
 pub rows-init : goal.rows-init
-rows-init g c = ?
+rows-init g c = (?, λ gateway shown along. row-starts (state_of g.R.Replica.kept c.args.node.now) (map arc_value c.args.steps.now) gateway shown along)
 
 pub rows-preserved : goal.rows-preserved
 rows-preserved g c = (c.in_ok-one_row.ensures.most, λ gateway shown along. c.in_ok-one_row.ensures.row gateway (c.rows.invariant.1 gateway shown along))
