@@ -78,16 +78,16 @@ step-room g steps.Reopen a n m can x r = absurd can
 turn-same : (g : Gateway) (called : List Step) (a b : Answers) (n k : Gateway) (m l : List (List Op)) → AllByRecursion CanWrite called → PeaceAlong g called → HasRoom g → InTurnBy StepOf g called a n m → InTurnBy StepOf g called b k l
     → (a ≡ b) × (n ≡ k) × (m ≡ l)
 turn-same g [] [] [] n k m l can p r x y = (refl, x.same ∙ sym y.same, x.none ∙ sym y.none)
-turn-same g (step ∷ called) (a ∷ as) (b ∷ bs) n k m l can p r x y =
+turn-same g (step ∷ called) (a ∷ xs) (b ∷ ys) n k m l can p r x y =
     let mine = p g.drive.plan a x.0 x.1 x.3 in
     let other = p g.drive.plan b y.0 y.1 y.3 in
     let one = step-one g step a b x.0 y.0 x.1 y.1 can.0 r mine.0 other.0 x.3 y.3 in
-    let rest = turn-same x.0 called as bs n k x.2 y.2 can.1 mine.1 (step-room g step a x.0 x.1 can.0 x.3 r) x.4 (subst (λ (mid : Gateway). InTurnBy StepOf mid called bs k y.2) (sym one.1) y.4) in
+    let rest = turn-same x.0 called xs ys n k x.2 y.2 can.1 mine.1 (step-room g step a x.0 x.1 can.0 x.3 r) x.4 (subst (λ (mid : Gateway). InTurnBy StepOf mid called ys k y.2) (sym one.1) y.4) in
     ((λ t. one.0 t ∷ rest.0 t), rest.1, x.5 ∙ (λ t. one.2 t ++ rest.2 t) ∙ sym y.5)
-turn-same g [] [] (b ∷ bs) n k m l can p r x y = absurd y
-turn-same g [] (a ∷ as) bs n k m l can p r x y = absurd x
-turn-same g (step ∷ called) [] bs n k m l can p r x y = absurd x
-turn-same g (step ∷ called) (a ∷ as) [] n k m l can p r x y = absurd y
+turn-same g [] [] (b ∷ ys) n k m l can p r x y = absurd y
+turn-same g [] (a ∷ xs) ys n k m l can p r x y = absurd x
+turn-same g (step ∷ called) [] ys n k m l can p r x y = absurd x
+turn-same g (step ∷ called) (a ∷ xs) [] n k m l can p r x y = absurd y
 
 -- ---- a failed write
 

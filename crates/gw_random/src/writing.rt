@@ -71,12 +71,7 @@ fn row_lines(
 }
 
 /// The line of a call that comes together with others.
-fn call_line(
-    alloc: Global,
-    text: &mut String,
-    gateway: u8,
-    call: &Call,
-) -> Result<(), AllocError> {
+fn call_line(alloc: Global, text: &mut String, gateway: u8, call: &Call) -> Result<(), AllocError> {
     match call {
         Call::Frame { from, bytes, now } => {
             frame_line(alloc, text, gateway, from.port, *now, bytes.as_slice())

@@ -267,7 +267,7 @@ row-silent old new number called answers h none =
     elim (row-moves old new number called answers h) [
       | inl c ↦ calls-silent old new number called answers c none
       | inr c ↦ short-told old new number called answers c
-        ∙ calls-silent old c.mid number c.calm c.said c.led (all-left MakesNone c.calm c.behind (subst (λ (xs : List Call). AllByRecursion MakesNone xs) c.calls_are none))
+          ∙ calls-silent old c.mid number c.calm c.said c.led (all-left MakesNone c.calm c.behind (subst (λ (xs : List Call). AllByRecursion MakesNone xs) c.calls_are none))
     ]
 
 -- nothing is made but by a datagram or a tick
@@ -345,7 +345,7 @@ row-brought old new number called answers h =
     elim (row-moves old new number called answers h) [
       | inl c ↦ calls-brought old new number called answers c
       | inr c ↦ ap (λ (x : Field). x.deltas) c.new_is ∙ append-nil c.mid.deltas ∙ calls-brought old c.mid number c.calm c.said c.led
-        ∙ ap (λ ds. old.deltas ++ ds) (sym (short-told old new number called answers c))
+          ∙ ap (λ ds. old.deltas ++ ds) (sym (short-told old new number called answers c))
     ]
 
 after-brought : (old : Field) (event : Event) (answer : Answer) (new : Field) → After old event answer new → new.deltas ≡ old.deltas ++ brought_by answer

@@ -12,19 +12,11 @@ use std::sync::Arc;
 #[derive(Drop, PartialEq, Eq)]
 pub enum Call {
     /// A datagram comes, at a moment in seconds.
-    Frame {
-        from: Addr,
-        bytes: Octets,
-        now: u64,
-    },
+    Frame { from: Addr, bytes: Octets, now: u64 },
     /// Time goes by: a moment in seconds.
-    Tick {
-        now: u64,
-    },
+    Tick { now: u64 },
     /// The gateway takes a delta of the list, which is numbered from 1.
-    Take {
-        delta: u64,
-    },
+    Take { delta: u64 },
 }
 
 /// What can happen in a field. Gateways go by their numbers.

@@ -27,12 +27,7 @@ use std::alloc::Global;
 use std::sync::Arc;
 
 /// A call as the node is asked it: a delta of the list goes by its number. Events are numbered.
-fn step_of(
-    alloc: Global,
-    deltas: &[Delta],
-    call: &Call,
-    number: u64,
-) -> Result<Step, WorldFault>
+fn step_of(alloc: Global, deltas: &[Delta], call: &Call, number: u64) -> Result<Step, WorldFault>
     ensures ok { IfOk result (IsStepOf (listing deltas.now) call.now) }
     ensures err { IfErr result (CallMissing deltas.now call.now number) }
 {
@@ -87,8 +82,11 @@ fn is_failure(reply: &Reply) -> bool
     ensures { result ≡ false → IsNoFailure reply.now }
 {
     match reply {
+        Ok(_) => false,
         Err(Refusal::Disk { .. }) => true,
-        _ => false,
+        Err(Refusal::Frame { .. }) | Err(Refusal::Halted) | Err(Refusal::Conflict { .. }) => false,
+        Err(Refusal::Full) | Err(Refusal::Exhausted) => false,
+        Err(Refusal::Journal { .. }) | Err(Refusal::Memory) => false,
     }
 }
 
