@@ -126,6 +126,10 @@ pub fn consistent_field()
     ensures never { (configs : List Config) (events : List Event) (answers : List Answer)
         (field : Field) (of : Subject) → Run (new_field configs) events answers field
         → Contains answers (Node (Err (faults.Conflict of))) → ⊥ }
+    ensures never_together { (configs : List Config) (events : List Event) (answers : List Answer)
+        (field : Field) (replies : List (Result (Arc Out Global) NodeFault)) (of : Subject)
+        → Run (new_field configs) events answers field → Contains answers (Row replies)
+        → Contains (map said replies) (Err (refusals.Conflict of)) → ⊥ }
 {}
 
 /// No session operation and no message is made twice, and nothing is retained twice under one name.

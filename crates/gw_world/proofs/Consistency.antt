@@ -25,7 +25,10 @@ use Rattle.gw_answer.specs.declared.out.Out.{Out}
 use Rattle.gw_answer.specs.declared.refusal.Refusal.{Refusal}
 use Rattle.gw_answer.specs.Answers.{said}
 use Rattle.gw_answer.specs.declared.refusal.Refusal.TheVariants as refusals
+use Rattle.gw_answer.specs.declared.fault.NodeFault.{NodeFault}
 use Rattle.gw_answer.specs.declared.fault.NodeFault.TheVariants as faults
+use Rattle.std.specs.declared.alloc.Global.{Global}
+use Rattle.std.specs.declared.sync.Arc.{Arc}
 use Rattle.gw_event.specs.Occasions.{Occasion, Datagram, Clock}
 use Rattle.gw_event.specs.Gateways.{Gateway, new_gateway, with_refused}
 use Rattle.gw_event.specs.Drives.{left_by, more_records}
@@ -438,6 +441,13 @@ field-no_conflict configs events answers field number i k gateway delta client n
 pub field-never : (configs : List Config) (events : List Event) (answers : List Answer) (field : Field) (client : Subject) → Run (new_field configs) events answers field → Contains answers (Node (Err (faults.Conflict client))) → ⊥
 field-never configs events answers field client h there =
     All-contains IsPeaceful answers (Node (Err (faults.Conflict client))) (All-from_recursion IsPeaceful answers (field-sound configs events answers field h).peaceful) there
+
+-- nor is a call that came together with others
+pub field-never_together : (configs : List Config) (events : List Event) (answers : List Answer) (field : Field) (replies : List (Result (Arc Out Global) NodeFault)) (client : Subject) → Run (new_field configs) events answers field
+    → Contains answers (Row replies) → Contains (map said replies) (Err (refusals.Conflict client)) → ⊥
+field-never_together configs events answers field replies client h there inside =
+    All-contains IsAtPeace (map said replies) (Err (refusals.Conflict client))
+    (All-from_recursion IsAtPeace (map said replies) (All-contains IsPeaceful answers (Row replies) (All-from_recursion IsPeaceful answers (field-sound configs events answers field h).peaceful) there)) inside
 
 pub field-home : (configs : List Config) (events : List Event) (answers : List Answer) (field : Field) (op : Op) → Run (new_field configs) events answers field → Contains (everything field) op → IsHome field op
 field-home configs events answers field op h there = let w = field-whole configs events answers field h in at-home field w op (held field w op there)
