@@ -34,11 +34,11 @@ NoneFailed answers = AllByRecursion IsNoFailure answers
 
 -- ---- lists
 
-take-none : {A : Type 0} (n : ℕ) → take n ([] : List A) ≡ []
+take-none : {A : Type 0} (n : ℕ) → ◌≡◌ {A = List A} (take n []) []
 take-none zero = refl
 take-none (suc n) = refl
 
-drop-none : {A : Type 0} (n : ℕ) → drop n ([] : List A) ≡ []
+drop-none : {A : Type 0} (n : ℕ) → ◌≡◌ {A = List A} (drop n []) []
 drop-none zero = refl
 drop-none (suc n) = refl
 
