@@ -213,6 +213,7 @@ fn made_of(answer: &Answer) -> Option<&Delta> {
     match answer {
         Answer::Node(Ok(out)) => out.made.as_ref(),
         Answer::Node(Err(_)) | Answer::Views(_, _) | Answer::Records(_) | Answer::Nothing => None,
+        Answer::Row(_) => None,
     }
 }
 

@@ -437,6 +437,7 @@ impl Invention {
                 Ok(())
             }
             Answer::Views(_, _) | Answer::Records(_) | Answer::Nothing => Ok(()),
+            Answer::Row(_) => Ok(()),
         }
     }
 

@@ -106,7 +106,7 @@ pub(crate) fn delta_at(played: &Played, number: u64) -> Option<&Delta> {
 pub(crate) fn views_at(played: &Played, at: usize) -> Option<&Sequence<(ClientId, ClientView)>> {
     match played.answers.as_slice().get(at)? {
         Answer::Views(views, _) => Some(views),
-        Answer::Node(_) | Answer::Records(_) | Answer::Nothing => None,
+        Answer::Node(_) | Answer::Row(_) | Answer::Records(_) | Answer::Nothing => None,
     }
 }
 
@@ -252,6 +252,7 @@ fn follow_at<R: Replica>(
             let (views, topics) = (views.as_slice(), topics.as_slice());
             Ok(follow_shown(events, seat, played, at, views, topics))
         }
+        Answer::Row(_) => Ok(Some(What::Stopped)),
         Answer::Records(told) => follow_restart(alloc, seat, event, *told),
         Answer::Nothing => Ok(arranged(seat, at, event)),
     }

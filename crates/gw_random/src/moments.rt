@@ -143,6 +143,7 @@ fn quiet_tick(events: &[Event], played: &Played, at: usize) -> Option<(u8, u64)>
             }
         }
         Answer::Node(Err(_)) | Answer::Views(_, _) | Answer::Records(_) | Answer::Nothing => None,
+        Answer::Row(_) => None,
     }
 }
 

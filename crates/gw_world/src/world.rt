@@ -33,7 +33,8 @@ pub enum WorldFault {
     /// Fault 2: the event names no delta.
     #[error("event {event} names a delta that is not there")]
     NoDelta { event: u64 },
-    /// Fault 3: memory ran out.
+    /// Fault 3: memory ran out; or the write of calls that came together failed, and the gateway had
+    /// left some of them for another.
     #[error("out of memory")]
     Memory,
 }
