@@ -157,7 +157,7 @@ impl<R: Replica, D: Disk + Drop> Locked<R, D> {
         ensures steps { self.new.steps ≡ self.old.steps }
     {
         let had = self.history.len() as u64;
-        if had >= self.steps {
+        if self.steps <= had {
             return Err(CallFault::ShiftFull);
         }
         if had < pass.seen() {
