@@ -143,10 +143,7 @@ pub fn call_row<T: Wait, R: Replica, D: Disk + Drop, P: Post, G: Gate>(
     let mut pass = pass;
     let mut left = steps.as_slice();
     'calls: while !left.is_empty() {
-        match shared
-            .shift
-            .call_all(shared.rt, shared.alloc, pass, left)
-        {
+        match shared.shift.call_all(shared.rt, shared.alloc, pass, left) {
             Ok((after, answers, number)) => {
                 pass = after;
                 left = &left[answers.len()..];

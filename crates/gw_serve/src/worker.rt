@@ -210,6 +210,7 @@ fn room_for(alloc: Global, taken: &mut Vec<Taken>, left: &mut Vec<u64>) -> Optio
 
 /// Makes the calls of a row, which ends the worker's turn, and sends their replies after the lock.
 /// What the shift does not make is left, and the reader is to stop.
+#[tactic(auto, using(crate::proofs::Rows::row_all, crate::proofs::Rows::row_rest, crate::proofs::Rows::row_failed, crate::proofs::Rows::row_wanting))]
 fn handle<T: Wait, R: Replica, D: Disk + Drop, P: Post, G: Gate>(
     shared: &Shared<'_, T, R, D, P, G>,
     pass: Pass,

@@ -138,7 +138,7 @@ do_so {G = G} old place most steps answers new some few within events failures =
     record {
       some = omega (arith, some, count);
       events =
-          subst (λ (as : List (Result Out Refusal)). EventsOn old (steps_in calls) as new) (sym (answers_of_calls place all answers short))
+          subst (λ (rs : List (Result Out Refusal)). EventsOn old (steps_in calls) rs new) (sym (answers_of_calls place all answers short))
           (subst (λ (ss : List Step). EventsOn old ss answers new) (sym same) events);
       failures = omega (arith, failures, told);
     }

@@ -226,10 +226,7 @@ pub(crate) fn call_row<W: Wait, R: Replica, D: Disk + Drop>(
         return None;
     }
     match get_up(seat) {
-        Some(pass) => Some(row_returned(
-            seat,
-            shift.call_all(rt, alloc, pass, steps),
-        )),
+        Some(pass) => Some(row_returned(seat, shift.call_all(rt, alloc, pass, steps))),
         None => None,
     }
 }
