@@ -82,7 +82,8 @@ pub fn take_row<T: Wait, R: Replica, D: Disk + Drop, P: Post, G: Gate>(
     ensures row { OnOk result (IsRow row.new) }
 {
     let rt = shared.rt;
-    for _ in 0..CAPACITY {
+    for count in 0..CAPACITY {
+        let _ = count;
         if !row.numbers.is_empty() && !shared.bell.may_take_more() {
             return Ok(());
         }

@@ -145,11 +145,11 @@ fn take_all<T: Wait, R: Replica, D: Disk + Drop, P: Post, G: Gate>(
         };
         let heard = bell.heard(rt);
         let turn = bell.take_turn(rt);
-        if take_row(shared, receiver, &mut ticket, &mut row).is_err() {
+        let Ok(()) = take_row(shared, receiver, &mut ticket, &mut row) else {
             drop(turn);
             drop(row);
             return seat_of(pass, ticket, taken, left, Some(Trouble::Memory));
-        }
+        };
         if row.numbers.is_empty() {
             let _ = MutexGuard::unlock(turn);
             drop(row);
@@ -202,10 +202,16 @@ fn room_for(alloc: Global, taken: &mut Vec<Taken>, left: &mut Vec<u64>) -> Optio
         × (vec_len taken.new + CAPACITY ≤ vec_capacity taken.new)
         × (vec_len left.new + CAPACITY ≤ vec_capacity left.new)) }
 {
-    if taken.reserve(CAPACITY).is_err() || left.reserve(CAPACITY).is_err() {
+    let Ok(()) = taken.reserve(CAPACITY) else {
         return None;
+    };
+    let Ok(()) = left.reserve(CAPACITY) else {
+        return None;
+    };
+    match Row::new(alloc) {
+        Ok(row) => Some(row),
+        Err(_) => None,
     }
-    Row::new(alloc).ok()
 }
 
 /// Makes the calls of a row, which ends the worker's turn, and sends their replies after the lock.

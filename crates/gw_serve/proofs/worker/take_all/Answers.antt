@@ -1,5 +1,5 @@
 use Rattle.std.proofs.Common.{refl}
-use Rattle.gw_serve.proofs.Gaining.{fresh, kept, handled, no_numbers, worked, failed, none_behind, memory_behind, memory_is_not_behind, gains_none}
+use Rattle.gw_serve.proofs.Gaining.{fresh, kept, worked, memory_behind}
 use Rattle.gw_serve.proofs.worker.take_all.Goals as goal
 
 pub loop-init : goal.loop-init
