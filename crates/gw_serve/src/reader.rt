@@ -71,6 +71,7 @@ pub fn read_all<R: Wait, W: Wire>(
             Ok(Some(datagram)) => {
                 if sender.try_send_as::<Sends, R>(rt, ticket, datagram).is_ok() {
                     count += 1;
+                    bell.note_put();
                     bell.ring(rt);
                 } else {
                     wire.unheard();
