@@ -35,11 +35,11 @@ put_all_back-requires-clause-places c = c.self.invariant.1
 pub put_all_back-requires-clause-marks : goal.put_all_back-requires-clause-marks
 put_all_back-requires-clause-marks c = c.self.invariant.2
 
-pub count_all-requires-clause-places : goal.count_all-requires-clause-places
-count_all-requires-clause-places c = subst (ArePlaces c.put_all_back.new.table.entries) (sym c.as_slice.ensures.value) c.put_all_back.ensures.places
+pub count_all-self-inside-requires-clause-places : goal.count_all-self-inside-requires-clause-places
+count_all-self-inside-requires-clause-places c = subst (ArePlaces c.put_all_back.new.table.entries) (sym c.as_slice.ensures.value) c.put_all_back.ensures.places
 
-pub count_all-requires-clause-few : goal.count_all-requires-clause-few
-count_all-requires-clause-few c =
+pub count_all-self-inside-requires-clause-few : goal.count_all-self-inside-requires-clause-few
+count_all-self-inside-requires-clause-few c =
     let all : rows_of (by_client c.put_all_back.new.table.entries) ≡ moved c.args.self.now c.args.aside = c.put_all_back.ensures.rows ∙ (λ i. moved (c.self.view_is i) (c.aside.view_is i)) in
     subst (λ (rows : Rows). count_named rows ≤ MOST_CLIENTS) (sym all) c.requires.few
 
@@ -50,8 +50,8 @@ invariant_of-self c =
       record {
         sorted = in_order c.put_all_back.new.table.entries;
         each = c.put_all_back.ensures.kept;
-        counted = c.count_all.ensures;
-        few = subst (λ (n : ℕ). n ≤ MOST_CLIENTS) (sym c.count_all.ensures) few;
+        counted = c.count_all-self-inside.ensures;
+        few = subst (λ (n : ℕ). n ≤ MOST_CLIENTS) (sym c.count_all-self-inside.ensures) few;
       },
       c.put_all_back.ensures.places,
       c.put_all_back.ensures.marks,
