@@ -1,5 +1,5 @@
 -- Calls that are carried out before what they put into the journal is written. The node runs.
-use Rattle.std.specs.Prelude.{◌≡◌, ◌≢◌, ◌++◌, ◌∷◌, ℕ, List, [], Option, Some, None, Result, Ok, Err}
+use Rattle.std.specs.Prelude.{◌≡◌, ◌≢◌, ◌⊎◌, ◌++◌, ◌∷◌, ℕ, List, [], Option, Some, None, Result, Ok, Err}
 use Rattle.std.specs.Option.{option_to_list}
 use Rattle.rep_op.specs.declared.op.Op.{Op}
 use Rattle.rep_ops.specs.Deltas.{IsDelta}
