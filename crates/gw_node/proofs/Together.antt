@@ -426,10 +426,13 @@ ended_many ahead new kept local deltas excuse said answers h =
       | inr k ↦ ap length k.0 ∙ excused_many excuse said
     ]
 
+zero_more : (n : ℕ) → 0 + n ≡ n
+zero_more n = omega arith
+
 -- the disk failed once at least if an answer tells so
 halted_none : (said : Answers) → failed_all (map (λ (a : Result Out Refusal). Err refusals.Halted) said) ≡ 0
 halted_none [] = refl
-halted_none (answer ∷ answers) = halted_none answers
+halted_none (answer ∷ answers) = zero_more (failed_all (map (λ (a : Result Out Refusal). Err refusals.Halted) answers)) ∙ halted_none answers
 
 module _ {D : Type 0} {G : Ghosts D} (old : State G) (first : Step) (rest : List Step) (answers : Answers) (new : State G) where
   row_many : (row : IsRow old first rest answers new) → length answers ≡ suc (length (take row.finished.count rest))
@@ -460,11 +463,11 @@ module _ {D : Type 0} {G : Ghosts D} (old : State G) (first : Step) (rest : List
       let same : G.failures (disk_of ahead.journal) ≡ G.failures (disk_of old.journal) = ap G.failures disk in
       elim h.written [
         | inl k ↦
-            let all : failed_all answers ≡ 0 = ap failed_all k.0 ∙ none in
+            let all : failed_all answers ≡ 0 = ap failed_all k.0 ∙ (zero_more (failed_all said) ∙ none) in
             let more = k.3.failures in
             omega (arith, same, all, more)
         | inr k ↦
-            let one : failed_all answers ≡ 1 = ap failed_all k.0 ∙ ap suc (halted_none said) in
+            let one : failed_all answers ≡ 1 = ap failed_all k.0 ∙ ap (λ (n : ℕ). 1 + n) (halted_none said) in
             let cause = k.3.cause in
             omega (arith, same, one, cause)
       ]

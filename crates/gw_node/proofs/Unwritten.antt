@@ -1,5 +1,6 @@
 -- What a call of a row comes to, from its parts.
-use Rattle.std.proofs.Common.{◌≡◌, ◌≢◌, ◌⊎◌, ◌++◌, ◌∷◌, ◌==◌, ℕ, true, false, length, List, [], Option, Some, None, Result, Ok, Err, refl, sym, ap, ◌∙◌, subst, append-nil, inl, inr}
+use Rattle.std.proofs.Common.{◌≡◌, ◌≢◌, ◌⊎◌, ◌++◌, ◌∷◌, ◌==◌, ℕ, true, false, length, List, [], Option, Some, None, Result, Ok, Err, refl, sym, ap, ◌∙◌, subst, append-nil, inl, inr, arith}
+use Rattle.std.proofs.lemmas.Bool.Decides.{nat_tests}
 use Rattle.std.specs.Option.{option_to_list}
 use Rattle.rep_op.specs.declared.op.Op.{Op}
 use Rattle.rep_ops.specs.Making.{IsDeltaOf}
@@ -31,6 +32,44 @@ use Rattle.gw_node.specs.declared.looking.Left.TheVariants.{Told, Writes, Alone}
 use Rattle.gw_node.specs.inner.Handling.{IsNoFrameBy, IsNoPlan, HaveNoDelta, CarriedOut, planned_for, ticked}
 use Rattle.gw_node.specs.inner.Ahead.{MakesAhead, IsDoneAhead, OwnAhead, TakeAhead, StepAhead, CarriedAhead, NotedAs, made_by, WritesPlan, IsWriter, LooksFor, LooksAt, IsLooked}
 use Rattle.gw_node.specs.inner.Rows.{IsFor, CarriedAlong, WentAhead, made_if, put_if, BeginsRow}
+
+-- ---- what a call puts into the journal
+
+pub frame_puts : (from : Addr) (bytes : List ℕ) (now : ℕ) (reply : Result Out Refusal) → made_by reply ≡ put_by (steps.Frame from bytes now) reply
+frame_puts from bytes now (Ok out) = refl
+frame_puts from bytes now (Err refusal) = refl
+
+pub tick_puts : (now : ℕ) (reply : Result Out Refusal) → made_by reply ≡ put_by (steps.Tick now) reply
+tick_puts now (Ok out) = refl
+tick_puts now (Err refusal) = refl
+
+pub made_for : (reply : Result Out Refusal) (result : Option (Result Out Refusal)) → IsFor reply result → made_by reply ≡ made_if result
+made_for reply None is = ap (λ (r : Result Out Refusal). made_by r) is
+made_for reply (Some given) is = ap (λ (r : Result Out Refusal). made_by r) (sym is.0)
+
+puts_nothing : (step : Step) → put_by step (Err refusals.Memory) ≡ []
+puts_nothing (steps.Frame from bytes now) = refl
+puts_nothing (steps.Take delta) = refl
+puts_nothing (steps.Tick now) = refl
+puts_nothing (steps.View client) = refl
+puts_nothing steps.Digest = refl
+puts_nothing (steps.Answer asked) = refl
+puts_nothing steps.Compact = refl
+puts_nothing steps.Reopen = refl
+
+pub puts_for : (step : Step) (reply : Result Out Refusal) (result : Option (Result Out Refusal)) → IsFor reply result → put_by step reply ≡ put_if step result
+puts_for step reply None is = ap (λ (r : Result Out Refusal). put_by step r) is ∙ puts_nothing step
+puts_for step reply (Some given) is = ap (λ (r : Result Out Refusal). put_by step r) (sym is.0)
+
+pub refused_puts : (step : Step) (refusal : Refusal) → put_by step (Err refusal) ≡ []
+refused_puts (steps.Frame from bytes now) refusal = refl
+refused_puts (steps.Take delta) refusal = refl
+refused_puts (steps.Tick now) refusal = refl
+refused_puts (steps.View client) refusal = refl
+refused_puts steps.Digest refusal = refl
+refused_puts (steps.Answer asked) refusal = refl
+refused_puts steps.Compact refusal = refl
+refused_puts steps.Reopen refusal = refl
 
 module _ {D : Type 0} {G : Ghosts D} where
   -- a node in which only what contracts do not see may have changed
@@ -150,13 +189,6 @@ module _ {D : Type 0} {G : Ghosts D} where
   own_unplanned old new occasion now planned (refusals.Journal fault) f h u = absurd h
 
   -- a datagram, and a tick, put into the journal what they made
-  pub frame_puts : (from : Addr) (bytes : List ℕ) (now : ℕ) (reply : Result Out Refusal) → made_by reply ≡ put_by (steps.Frame from bytes now) reply
-  frame_puts from bytes now (Ok out) = refl
-  frame_puts from bytes now (Err refusal) = refl
-
-  pub tick_puts : (now : ℕ) (reply : Result Out Refusal) → made_by reply ≡ put_by (steps.Tick now) reply
-  tick_puts now (Ok out) = refl
-  tick_puts now (Err refusal) = refl
 
   found_frame : (old new : State G) (from : Addr) (bytes : List ℕ) (frame : Frame) (now : ℕ) (plan : Plan) (left : Left) → IsValue frame → Spells bytes frame → planned_for old from frame now ≡ Some plan
       → LooksFor old plan (excuses from frame plan.sends) left new → IsLooked old (steps.Frame from bytes now) left new
@@ -252,10 +284,6 @@ module _ {D : Type 0} {G : Ghosts D} where
   carried_for old new plan reply None is h = subst (λ (r : Result Out Refusal). CarriedAhead old plan r new) is h
   carried_for old new plan reply (Some given) is h = (subst (λ (r : Result Out Refusal). CarriedAhead old plan r new) (sym is.0) h, λ e. is.1 (sym is.0 ∙ e))
 
-  pub made_for : (reply : Result Out Refusal) (result : Option (Result Out Refusal)) → IsFor reply result → made_by reply ≡ made_if result
-  made_for reply None is = ap (λ (r : Result Out Refusal). made_by r) is
-  made_for reply (Some given) is = ap (λ (r : Result Out Refusal). made_by r) (sym is.0)
-
   wanting_ahead : (old new : State G) (step : Step) → StepAhead old step (Err refusals.Memory) new → IsUnchanged old new
   wanting_ahead old new (steps.Frame from bytes now) h = h
   wanting_ahead old new (steps.Take delta) h = h
@@ -269,20 +297,6 @@ module _ {D : Type 0} {G : Ghosts D} where
   pub went_for : (old new : State G) (step : Step) (reply : Result Out Refusal) (result : Option (Result Out Refusal)) → IsFor reply result → StepAhead old step reply new → WentAhead old step result new
   went_for old new step reply None is h = wanting_ahead old new step (subst (λ (r : Result Out Refusal). StepAhead old step r new) is h)
   went_for old new step reply (Some given) is h = (subst (λ (r : Result Out Refusal). StepAhead old step r new) (sym is.0) h, λ e. is.1 (sym is.0 ∙ e))
-
-  puts_nothing : (step : Step) → put_by step (Err refusals.Memory) ≡ []
-  puts_nothing (steps.Frame from bytes now) = refl
-  puts_nothing (steps.Take delta) = refl
-  puts_nothing (steps.Tick now) = refl
-  puts_nothing (steps.View client) = refl
-  puts_nothing steps.Digest = refl
-  puts_nothing (steps.Answer asked) = refl
-  puts_nothing steps.Compact = refl
-  puts_nothing steps.Reopen = refl
-
-  pub puts_for : (step : Step) (reply : Result Out Refusal) (result : Option (Result Out Refusal)) → IsFor reply result → put_by step reply ≡ put_if step result
-  puts_for step reply None is = ap (λ (r : Result Out Refusal). put_by step r) is ∙ puts_nothing step
-  puts_for step reply (Some given) is = ap (λ (r : Result Out Refusal). put_by step r) (sym is.0)
 
   -- ---- the first call
 
@@ -402,15 +416,6 @@ module _ {D : Type 0} {G : Ghosts D} where
   told_alone old new steps.Reopen reply runs h none = absurd h
 
   -- a refusal puts nothing into the journal
-  pub refused_puts : (step : Step) (refusal : Refusal) → put_by step (Err refusal) ≡ []
-  refused_puts (steps.Frame from bytes now) refusal = refl
-  refused_puts (steps.Take delta) refusal = refl
-  refused_puts (steps.Tick now) refusal = refl
-  refused_puts (steps.View client) refusal = refl
-  refused_puts steps.Digest refusal = refl
-  refused_puts (steps.Answer asked) refusal = refl
-  refused_puts steps.Compact refusal = refl
-  refused_puts steps.Reopen refusal = refl
 
 -- operations, if there are any
 pub some_operations : (ops : List Op) → (length ops == 0) ≡ false → ops ≢ []
@@ -420,7 +425,7 @@ some_operations (op ∷ ops) e = λ none. absurd cc
 -- a delta is one record, or none, if it has no operations
 pub none_written : (records : List (List Op)) (delta : List Op) → (length delta == 0) ≡ true → records ≡ records ++ if_any delta
 none_written records [] e = sym (append-nil records)
-none_written records (op ∷ ops) e = absurd cc
+none_written records (op ∷ ops) e = absurd (grind (arith, nat_tests, e))
 
 pub one_written : (delta : List Op) → (length delta == 0) ≡ false → if_any delta ≡ delta ∷ []
 one_written [] e = absurd cc

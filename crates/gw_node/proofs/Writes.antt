@@ -19,7 +19,7 @@ pub record IsAppended {D : Type 0} {G : Ghosts D} (old new : Journal D G) (delta
   pub halted : IsErrOf result faults.Halted ↔ (is_halted old ≡ true)
   pub same : (gateway_of new ≡ gateway_of old) × (slot_of new ≡ slot_of old)
   pub generation : generation_of new ≡ generation_of old
-  pub faults : IfErr result IsWriteFault
+  pub fault : IfErr result IsWriteFault
   pub goes_on : OnOk result (is_halted new ≡ false)
   pub halts : IsErrOf result faults.Disk → is_halted new ≡ true
   pub counts : G.failures (disk_of old) ≤ G.failures (disk_of new)
@@ -52,9 +52,9 @@ written_all_as old new deltas (Err faults.Disk) runs h = record {
   known = h.known;
 }
 written_all_as old new deltas (Err faults.Halted) runs h = absurd (true≢false (sym (h.halted.0 refl) ∙ runs))
-written_all_as old new deltas (Err faults.Memory) runs h = absurd h.faults
-written_all_as old new deltas (Err faults.Foreign) runs h = absurd h.faults
-written_all_as old new deltas (Err (faults.BadRecord slot at)) runs h = absurd h.faults
+written_all_as old new deltas (Err faults.Memory) runs h = absurd h.fault
+written_all_as old new deltas (Err faults.Foreign) runs h = absurd h.fault
+written_all_as old new deltas (Err (faults.BadRecord slot at)) runs h = absurd h.fault
 
 -- an error is that of the disk
 pub failed_only : {D : Type 0} {G : Ghosts D} (old new : Journal D G) (deltas : List (List Op)) (fault : JournalFault) → WrittenAllAs old deltas (Err fault) new → AreFailed old deltas new

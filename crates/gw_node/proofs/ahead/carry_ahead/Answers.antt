@@ -6,7 +6,7 @@ use Rattle.rep_model.specs.Keep.{IsKeptOf}
 use Rattle.sn_local.specs.Locals.{after_all}
 use Rattle.gw_answer.specs.declared.out.Out.{Out}
 use Rattle.gw_answer.specs.Answers.{only_sends}
-use Rattle.gw_node.specs.Parts.{state_of}
+use Rattle.gw_node.specs.Parts.{State, state_of}
 use Rattle.gw_node.specs.Plans.{IsMisfit}
 use Rattle.gw_node.specs.inner.Handling.{HaveNoDelta}
 use Rattle.gw_node.specs.inner.Ahead.{MakesAhead}
@@ -51,7 +51,7 @@ returns-clause-call g c =
     let delta : List Op = c.in-Ok.ready.1 in
     let answer_is : c.in-Ok-answer_made.answer ≡ record (only_sends c.args.plan.sends) { made = Some delta } = c.in-Ok-answer_made.ensures.answer ∙ c.of_plan-out.ensures in
     let made_is : c.in-Ok-answer_made.answer.made ≡ Some delta = ap (λ (out : Out). out.made) answer_is in
-    let new = record { config = c.args.node.now.config; kept = g.R.Replica.kept c.commit.new.self; local = c.note_taken-node.new.dialogs.local; journal = c.args.node.now.journal; records = c.args.node.now.records } in
+    let new : State g.D.Disk = record { config = c.args.node.now.config; kept = g.R.Replica.kept c.commit.new.self; local = c.note_taken-node.new.dialogs.local; journal = c.args.node.now.journal; records = c.args.node.now.records } in
     record {
       config = refl;
       records = refl;

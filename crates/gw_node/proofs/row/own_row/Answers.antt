@@ -15,18 +15,18 @@ carry_out-requires-clause-some g c = writer_some (state_of g.R.Replica.kept c.ar
 pub carry_out-requires-clause-excuse : goal.carry_out-requires-clause-excuse
 carry_out-requires-clause-excuse g c = writer_sends (state_of g.R.Replica.kept c.args.node.now) c.args.first.now c.args.plan c.args.excuse c.requires.writer
 
-pub returns-then-MOST_OPERATIONS : goal.returns-then-MOST_OPERATIONS
-returns-then-MOST_OPERATIONS g c =
+pub returns-then-len-gt-MOST_OPERATIONS : goal.returns-then-len-gt-MOST_OPERATIONS
+returns-then-len-gt-MOST_OPERATIONS g c =
     let old = state_of g.R.Replica.kept c.args.node.now in
     let new = state_of g.R.Replica.kept c.carry_out.new.node in
     by_itself old new c.args.first.now (map arc_value c.args.rest.now) c.alone.result.items c.carry_out.result c.alone.ensures
     (writer_alone old new c.args.first.now c.args.plan c.args.excuse c.carry_out.result c.requires.runs c.requires.writer c.carry_out.ensures)
 
-pub carry_out-in_default-requires-clause-some : goal.carry_out-in_default-requires-clause-some
-carry_out-in_default-requires-clause-some g c = writer_some (state_of g.R.Replica.kept c.args.node.now) c.args.first.now c.args.plan c.args.excuse c.requires.writer
+pub carry_out-requires-in_default-clause-some : goal.carry_out-requires-in_default-clause-some
+carry_out-requires-in_default-clause-some g c = writer_some (state_of g.R.Replica.kept c.args.node.now) c.args.first.now c.args.plan c.args.excuse c.requires.writer
 
-pub carry_out-in_default-requires-clause-excuse : goal.carry_out-in_default-requires-clause-excuse
-carry_out-in_default-requires-clause-excuse g c = writer_sends (state_of g.R.Replica.kept c.args.node.now) c.args.first.now c.args.plan c.args.excuse c.requires.writer
+pub carry_out-requires-in_default-clause-excuse : goal.carry_out-requires-in_default-clause-excuse
+carry_out-requires-in_default-clause-excuse g c = writer_sends (state_of g.R.Replica.kept c.args.node.now) c.args.first.now c.args.plan c.args.excuse c.requires.writer
 
 pub returns-in_default : goal.returns-in_default
 returns-in_default g c =

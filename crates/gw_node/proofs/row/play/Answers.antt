@@ -17,7 +17,7 @@ pub returns-in-Told : goal.returns-in-Told
 returns-in-Told g c =
     let old = state_of g.R.Replica.kept c.args.node.now in
     let new = state_of g.R.Replica.kept c.look.new.node in
-    by_itself old new c.args.first.now (map arc_value c.args.rest.now) c.alone.result.items c.in-Told.reply c.alone.ensures
+    by_itself old new c.args.first.now (map arc_value c.args.rest.now) c.alone-in-Told.result.items c.in-Told.reply c.alone-in-Told.ensures
     (told_alone old new c.args.first.now c.in-Told.reply (search rules) c.in-Told.ensures.found.0 c.in-Told.ensures.found.1)
 
 -- its plan has operations
@@ -33,5 +33,5 @@ pub returns-in-Alone : goal.returns-in-Alone
 returns-in-Alone g c =
     let old = state_of g.R.Replica.kept c.args.node.now in
     let new = state_of g.R.Replica.kept c.handle_step-in-Alone.new.node in
-    by_itself old new c.args.first.now (map arc_value c.args.rest.now) c.alone.result.items c.handle_step-in-Alone.result c.alone.ensures
+    by_itself old new c.args.first.now (map arc_value c.args.rest.now) c.alone-in-Alone.result.items c.handle_step-in-Alone.result c.alone-in-Alone.ensures
     (subst (λ (s : State g.D.Disk). StepCall s c.args.first.now c.handle_step-in-Alone.result new) c.in-Alone.ensures.found c.handle_step-in-Alone.ensures)

@@ -20,10 +20,10 @@ returns-in_default g c =
     by_itself (state_of g.R.Replica.kept c.args.node.now) (state_of g.R.Replica.kept c.take_in-in_default.new.node) (steps.Take c.args.delta.now) (map arc_value c.args.rest.now) c.alone-in_default.result.items c.take_in-in_default.result
     c.alone-in_default.ensures c.take_in-in_default.ensures
 
-pub returns-in_default-nothing : goal.returns-in_default-nothing
-returns-in_default-nothing g c =
+pub returns-in_default-new : goal.returns-in_default-new
+returns-in_default-new g c =
     let old = state_of g.R.Replica.kept c.args.node.now in
-    by_itself old old (steps.Take c.args.delta.now) (map arc_value c.args.rest.now) c.alone-in_default-nothing.result.items (Err refusals.Memory) c.alone-in_default-nothing.ensures (nothing_done old)
+    by_itself old old (steps.Take c.args.delta.now) (map arc_value c.args.rest.now) c.alone-in_default-new.result.items (Err refusals.Memory) c.alone-in_default-new.ensures (nothing_done old)
 
 -- ---- it is refused, or begins a row
 
@@ -39,9 +39,9 @@ returns-in-Ok-take_ahead g c =
     let old = state_of g.R.Replica.kept c.args.node.now in
     let mid = state_of g.R.Replica.kept c.take_ahead.new.node in
     let new = state_of g.R.Replica.kept c.finish.new.node in
-    began old mid new (steps.Take c.args.delta.now) (map arc_value c.args.rest.now) c.finish.result.items (g.R.Replica.back c.take_ahead.new.node.replica c.take_ahead.new.aside) c.in-Ok.row.dialogs.local c.take_ahead.new.records c.in-Ok-nothing.nothing c.in-Ok-take_ahead.answer
+    began old mid new (steps.Take c.args.delta.now) (map arc_value c.args.rest.now) c.finish.result.items (g.R.Replica.back c.take_ahead.new.node.replica c.take_ahead.new.aside) c.in-Ok.row.dialogs.local c.take_ahead.new.records c.in-Ok-new.nothing c.in-Ok-take_ahead.answer
     c.requires.runs
-    (some_operations c.args.delta.now (search rules), c.in-Ok-take_ahead.ensures.call.0, c.in-Ok-nothing.ensures ∙ c.of_sends.ensures ∙ ap only_sends c.empty.ensures, c.in-Ok-take_ahead.ensures.call.1)
+    (some_operations c.args.delta.now (search rules), c.in-Ok-take_ahead.ensures.call.0, c.in-Ok-new.ensures ∙ c.of_sends.ensures ∙ ap only_sends c.empty.ensures, c.in-Ok-take_ahead.ensures.call.1)
     (c.take_ahead.ensures.back ∙ c.in-Ok.ensures.back) c.in-Ok.ensures.local
     (c.in-Ok-take_ahead.ensures.records ∙ ap (λ ds. ds ++ put_by (steps.Take c.args.delta.now) (Ok c.in-Ok-take_ahead.answer)) c.in-Ok.ensures.records)
     c.finish.ensures

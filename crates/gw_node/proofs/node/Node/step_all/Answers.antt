@@ -15,7 +15,7 @@ play-requires g c =
 
 pub returns-clause-some : goal.returns-clause-some
 returns-clause-some g c =
-    let some = row_some (state_of g.R.Replica.kept c.args.self.now) (arc_value c.index-steps.result) (map arc_value (drop 1 c.args.steps.now)) c.play.result.items (state_of g.R.Replica.kept c.play.new.node) c.play.ensures in
+    let some = row_some (state_of g.R.Replica.kept c.args.self.now) (arc_value c.index-steps-0.result) (map arc_value (drop 1 c.args.steps.now)) c.play.result.items (state_of g.R.Replica.kept c.play.new.node) c.play.ensures in
     let first = some.0 in
     let few = some.1 in
     let many = rest_many arc_value c.args.steps.now c.requires.some in
@@ -24,9 +24,9 @@ returns-clause-some g c =
 pub returns-clause-events : goal.returns-clause-events
 returns-clause-events g c =
     subst (λ (calls : List Step). EventsOn (state_of g.R.Replica.kept c.args.self.now) (take (length c.play.result.items) calls) c.play.result.items (state_of g.R.Replica.kept c.play.new.node))
-    (sym (first_and_rest arc_value c.args.steps.now c.index-steps.result c.requires.some c.index-steps.is))
-    (row_events (state_of g.R.Replica.kept c.args.self.now) (arc_value c.index-steps.result) (map arc_value (drop 1 c.args.steps.now)) c.play.result.items (state_of g.R.Replica.kept c.play.new.node) c.play.ensures)
+    (sym (first_and_rest arc_value c.args.steps.now c.index-steps-0.result c.requires.some c.index-steps-0.is))
+    (row_events (state_of g.R.Replica.kept c.args.self.now) (arc_value c.index-steps-0.result) (map arc_value (drop 1 c.args.steps.now)) c.play.result.items (state_of g.R.Replica.kept c.play.new.node) c.play.ensures)
 
 pub returns-clause-failures : goal.returns-clause-failures
 returns-clause-failures g c =
-    row_failures (state_of g.R.Replica.kept c.args.self.now) (arc_value c.index-steps.result) (map arc_value (drop 1 c.args.steps.now)) c.play.result.items (state_of g.R.Replica.kept c.play.new.node) c.play.ensures
+    row_failures (state_of g.R.Replica.kept c.args.self.now) (arc_value c.index-steps-0.result) (map arc_value (drop 1 c.args.steps.now)) c.play.result.items (state_of g.R.Replica.kept c.play.new.node) c.play.ensures
