@@ -1,6 +1,6 @@
 -- A row, from its parts.
-use Rattle.std.proofs.Common.{◌≡◌, ◌<◌, ◌++◌, ◌∷◌, ◌+◌, false, List, [], length, take, drop, map, get_or, Result, Ok, sym, ap, ◌∙◌, subst, arith, inl, inr}
-use Rattle.std.proofs.lemmas.List.{length-map}
+use Rattle.std.proofs.Common.{◌≡◌, ◌<◌, ◌-◌, ◌++◌, ◌∷◌, ◌+◌, false, List, [], length, take, drop, map, get_or, Result, Ok, sym, ap, ◌∙◌, subst, arith, inl, inr}
+use Rattle.std.proofs.lemmas.List.{length-map, take_all}
 use Rattle.rep_op.specs.declared.op.Op.{Op}
 use Rattle.sn_local.specs.Locals.{Local}
 use Rattle.jr_disk.specs.declared.disk.Disk.{Ghosts}
@@ -67,3 +67,8 @@ first_and_rest f (y ∷ ys) x some is = ap (λ z. f z ∷ map f ys) (sym is)
 pub rest_many : {X Y : Type 0} (f : X → Y) (xs : List X) → 0 < length xs → length (map f (drop 1 xs)) + 1 ≡ length xs
 rest_many f [] some = absurd (omega arith)
 rest_many f (y ∷ ys) some = let same : length (map f ys) ≡ length ys = length-map ys f in omega (arith, same)
+
+-- all behind the first
+pub all_behind : {X : Type 0} (xs : List X) → 0 < length xs → take (length xs - 1) (drop 1 xs) ≡ drop 1 xs
+all_behind [] some = absurd (omega arith)
+all_behind (x ∷ xs) some = take_all (length (x ∷ xs) - 1) xs (omega arith)

@@ -414,7 +414,6 @@ module _ {D : Type 0} {G : Ghosts D} where
   told_alone old new (steps.Answer asked) reply runs h none = absurd h
   told_alone old new steps.Compact reply runs h none = absurd h
   told_alone old new steps.Reopen reply runs h none = absurd h
-
   -- a refusal puts nothing into the journal
 
 -- operations, if there are any

@@ -1,4 +1,4 @@
-use Rattle.std.proofs.Common.{List, map, take, refl, sym, ◌∙◌, subst, arith}
+use Rattle.std.proofs.Common.{◌++◌, ◌∷◌, [], List, map, take, refl, sym, ap, ◌∙◌, subst, arith}
 use Rattle.std.specs.Arc.{arc_value}
 use Rattle.gw_answer.specs.declared.step.Step.{Step}
 use Rattle.gw_node.specs.Parts.{state_of}
@@ -27,9 +27,9 @@ loop-index-preserved g c =
     let new = state_of g.R.Replica.kept c.one_more.new.node in
     let steps = map arc_value c.args.rest.now in
     let step = c.index-rest-index.result in
-    let calls = one_more_of arc_value c.args.rest.now c.loop-index.index step c.loop-index-test.true c.index-rest-index.is in (
+    let calls = one_more_of arc_value c.args.rest.now c.loop-index.index step c.loop-index-test.true c.index-rest-index.is ∙ ap (λ (s : Step). take c.loop-index.index steps ++ s ∷ []) (sym c.deref.ensures) in (
       subst (λ (cs : List Step). GoneOn old cs c.args.replies.now.items c.args.records.now c.one_more.new.replies.items c.one_more.new.records new) (sym calls)
-          (gone_more old mid new (take c.loop-index.index steps) (arc_value step) c.args.replies.now.items c.loop-index.replies.items c.one_more.new.replies.items c.args.records.now c.loop-index.records c.one_more.new.records
+          (gone_more old mid new (take c.loop-index.index steps) c.deref.result.now c.args.replies.now.items c.loop-index.replies.items c.one_more.new.replies.items c.args.records.now c.loop-index.records c.one_more.new.records
           c.loop-index.invariant.0 c.if-not-one_more.ensures.call),
       c.one_more.ensures.can,
       c.one_more.ensures.back ∙ c.loop-index.invariant.2,
@@ -38,7 +38,7 @@ loop-index-preserved g c =
 
 pub returns-then-not-one_more-clause-calls : goal.returns-then-not-one_more-clause-calls
 returns-then-not-one_more-clause-calls g c =
-    gone_stops (state_of g.R.Replica.kept c.args.node.now) (state_of g.R.Replica.kept c.loop-index.node) (state_of g.R.Replica.kept c.one_more.new.node) c.loop-index.index (map arc_value c.args.rest.now) (arc_value c.index-rest-index.result)
+    gone_stops (state_of g.R.Replica.kept c.args.node.now) (state_of g.R.Replica.kept c.loop-index.node) (state_of g.R.Replica.kept c.one_more.new.node) c.loop-index.index (map arc_value c.args.rest.now) c.deref.result.now
     c.args.replies.now.items c.loop-index.replies.items c.one_more.new.replies.items c.args.records.now c.loop-index.records c.one_more.new.records c.loop-index.invariant.0 c.if-not-one_more.ensures.call
 
 pub returns-then-not-one_more-clause-back : goal.returns-then-not-one_more-clause-back
