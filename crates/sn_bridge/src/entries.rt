@@ -169,28 +169,60 @@ pub(crate) fn ups_in(alloc: Global, document: &Table) -> Result<Vec<UpName>, Sto
     Ok(names)
 }
 
-/// The filter of an entry `[[down]]`. What is stripped is text.
-fn down_of(alloc: Global, table: &Table) -> Result<DownFilter, Stop> {
+/// The filter at `filter`.
+fn filter_at(alloc: Global, table: &Table) -> Result<Octets, Stop> {
     let text = text_at(table, "filter", "down.filter")?;
     let filter = filter_of(alloc, text, "down.filter")?;
-    if !is_filter(filter.as_slice()) {
-        return Err(Stop::Key("down.filter"));
+    if is_filter(filter.as_slice()) {
+        Ok(filter)
+    } else {
+        drop(filter);
+        Err(Stop::Key("down.filter"))
     }
+}
+
+/// What is stripped, which is text; nothing where it is not said.
+fn strip_at(table: &Table) -> Result<&str, Stop> {
     let strip = match text_if(table, "strip", "down.strip")? {
         None => "",
         Some(strip) => strip,
     };
-    if !is_text(strip.as_bytes()) {
-        return Err(Stop::Key("down.strip"));
+    if is_text(strip.as_bytes()) {
+        Ok(strip)
+    } else {
+        Err(Stop::Key("down.strip"))
     }
+}
+
+/// Whether an entry `[[down]]` hands on what the broker had kept. Its quality of service is 1.
+fn is_retained(table: &Table) -> Result<bool, Stop> {
     if qos_at(table, "down.qos")? == Qos::Zero {
         return Err(Stop::Key("down.qos"));
     }
-    Ok(DownFilter {
-        filter,
-        strip: octets_of(alloc, strip)?,
-        retained: bool_at(table, "retained", "down.retained")?,
-    })
+    bool_at(table, "retained", "down.retained")
+}
+
+/// What an entry `[[down]]` says beside its filter.
+fn beside_filter(alloc: Global, table: &Table) -> Result<(Octets, bool), Stop> {
+    let strip = strip_at(table)?;
+    let retained = is_retained(table)?;
+    Ok((octets_of(alloc, strip)?, retained))
+}
+
+/// The filter of an entry `[[down]]`.
+fn down_of(alloc: Global, table: &Table) -> Result<DownFilter, Stop> {
+    let filter = filter_at(alloc, table)?;
+    match beside_filter(alloc, table) {
+        Ok((strip, retained)) => Ok(DownFilter {
+            filter,
+            strip,
+            retained,
+        }),
+        Err(stop) => {
+            drop(filter);
+            Err(stop)
+        }
+    }
 }
 
 /// The filters of all entries `[[down]]`.

@@ -45,8 +45,41 @@ fn text_at<R: Files<File = File>, E: Write>(
     path: &str,
     err: &mut E,
 ) -> Result<String, Stop> {
+    match String::from_utf8(octets_at(rt, alloc, path, err)?) {
+        Ok(text) => Ok(text),
+        Err(_) => {
+            let _ = writeln!(err, "{path}: not UTF-8");
+            Err(Stop::Text)
+        }
+    }
+}
+
+/// The octets of a file.
+fn octets_at<R: Files<File = File>, E: Write>(
+    rt: &R,
+    alloc: Global,
+    path: &str,
+    err: &mut E,
+) -> Result<Vec<u8>, Stop> {
     let mut octets = Vec::new(alloc);
-    if let Err(error) = read_into(rt, path, LARGEST, &mut octets) {
+    let read = read_whole(rt, path, &mut octets, err);
+    match read {
+        Ok(()) => Ok(octets),
+        Err(stop) => {
+            drop(octets);
+            Err(stop)
+        }
+    }
+}
+
+/// Reads a file that is not too large. If it cannot be read, a line says why.
+fn read_whole<R: Files<File = File>, E: Write>(
+    rt: &R,
+    path: &str,
+    octets: &mut Vec<u8>,
+    err: &mut E,
+) -> Result<(), Stop> {
+    if let Err(error) = read_into(rt, path, LARGEST, octets) {
         let kind = error.kind();
         let _ = writeln!(err, "{path}: {kind}");
         return Err(unread(kind));
@@ -55,13 +88,7 @@ fn text_at<R: Files<File = File>, E: Write>(
         let _ = writeln!(err, "{path}: more than {LARGEST} octets");
         return Err(Stop::File);
     }
-    match String::from_utf8(octets) {
-        Ok(text) => Ok(text),
-        Err(_) => {
-            let _ = writeln!(err, "{path}: not UTF-8");
-            Err(Stop::Text)
-        }
-    }
+    Ok(())
 }
 
 /// What it is told as that a file could not be read.

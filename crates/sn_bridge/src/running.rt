@@ -271,19 +271,22 @@ impl<'a> Turning<'a> {
     /// counts.
     fn resume<T: Clock + Net>(&mut self, rt: &T, alloc: Global, found: Found) -> Result<(), Stop> {
         let Found { spool, items, next } = found;
-        self.spool = Some(spool);
-        for item in items {
-            self.find(rt, alloc, item)?;
-        }
-        self.take(rt, alloc, &Event::Resumed { number: next })
+        drop(mem::replace(&mut self.spool, Some(spool)));
+        self.find_all(rt, alloc, items)?;
+        self.take_in(rt, alloc, Event::Resumed { number: next })
     }
 
-    /// A reading that the spool has kept goes through the machine.
-    fn find<T: Clock + Net>(&mut self, rt: &T, alloc: Global, item: Item) -> Result<(), Stop> {
-        let event = Event::Found { item };
-        let done = self.take(rt, alloc, &event);
-        drop(event);
-        done
+    /// Readings that the spool has kept go through the machine.
+    fn find_all<T: Clock + Net>(
+        &mut self,
+        rt: &T,
+        alloc: Global,
+        items: Vec<Item>,
+    ) -> Result<(), Stop> {
+        for item in items {
+            self.take_in(rt, alloc, Event::Found { item })?;
+        }
+        Ok(())
     }
 
     /// Turn after turn.
@@ -322,13 +325,42 @@ impl<'a> Turning<'a> {
     where
         T: Files<File = File> + Clock + Net,
     {
+        self.hear_all(rt, alloc, buffer)?;
+        self.end_lost(rt, alloc)?;
+        self.pass_time(rt, alloc)?;
+        self.write_all(rt, alloc, err)
+    }
+
+    /// What is there on all sides.
+    fn hear_all<T: Clock + Net>(
+        &mut self,
+        rt: &T,
+        alloc: Global,
+        buffer: &mut [u8],
+    ) -> Result<(), Stop> {
+        self.hear_lanes(rt, alloc, buffer)?;
+        self.hear_down(rt, alloc, buffer)?;
+        self.hear_broker(rt, alloc, buffer)
+    }
+
+    /// What the gateways of all lanes sent.
+    fn hear_lanes<T: Clock + Net>(
+        &mut self,
+        rt: &T,
+        alloc: Global,
+        buffer: &mut [u8],
+    ) -> Result<(), Stop> {
         for place in 0..self.lanes.len() {
             self.hear_lane(rt, alloc, place, buffer)?;
         }
-        self.hear_down(rt, alloc, buffer)?;
-        self.hear_broker(rt, alloc, buffer)?;
-        self.end_lost(rt, alloc)?;
-        self.pass_time(rt, alloc)?;
+        Ok(())
+    }
+
+    /// What is to be written and sent.
+    fn write_all<T, E: Write>(&mut self, rt: &T, alloc: Global, err: &mut E) -> Result<(), Stop>
+    where
+        T: Files<File = File> + Clock + Net,
+    {
         self.write_spool(rt, alloc)?;
         self.write_owed(rt, alloc, err)?;
         self.flush();
@@ -343,7 +375,7 @@ impl<'a> Turning<'a> {
         self.is_lost = false;
         self.count_short(millisecond(rt));
         self.close();
-        self.take(rt, alloc, &Event::BrokerLost)
+        self.take_in(rt, alloc, Event::BrokerLost)
     }
 
     /// There is no connection any more. Lines that are owed are not: their commands come again.
@@ -359,7 +391,7 @@ impl<'a> Turning<'a> {
             return Ok(());
         }
         self.due = now.saturating_add(A_WHILE);
-        self.take(rt, alloc, &Event::Tick)
+        self.take_in(rt, alloc, Event::Tick)
     }
 
     /// Keeps what was refused, if something was.
@@ -396,6 +428,13 @@ impl<'a> Turning<'a> {
         let out = mem::replace(&mut self.bridge.out, Sequence::empty(alloc));
         let done = self.carry_out_all(rt, alloc, out.as_slice());
         drop(out);
+        done
+    }
+
+    /// The same of an event that is not needed after that.
+    fn take_in<T: Clock + Net>(&mut self, rt: &T, alloc: Global, event: Event) -> Result<(), Stop> {
+        let done = self.take(rt, alloc, &event);
+        drop(event);
         done
     }
 
@@ -458,9 +497,7 @@ impl<'a> Turning<'a> {
             None => Event::Commands { frame },
             Some(lane) => Event::Field { lane, frame },
         };
-        let done = self.take(rt, alloc, &event);
-        drop(event);
-        done
+        self.take_in(rt, alloc, event)
     }
 
     /// What a look at the connection finds.
@@ -499,7 +536,7 @@ impl<'a> Turning<'a> {
             Looked::Nothing => Ok(false),
             Looked::Opened => {
                 self.opened = millisecond(rt);
-                self.take(rt, alloc, &Event::BrokerOpen)?;
+                self.take_in(rt, alloc, Event::BrokerOpen)?;
                 Ok(true)
             }
             Looked::Over => {
@@ -538,10 +575,7 @@ impl<'a> Turning<'a> {
         packet: Packet,
     ) -> Result<(), Stop> {
         self.note(refusal_in_packet(&packet));
-        let event = Event::Broker { packet };
-        let done = self.take(rt, alloc, &event);
-        drop(event);
-        done
+        self.take_in(rt, alloc, Event::Broker { packet })
     }
 
     /// Does all that is to be done, in its order.
@@ -658,10 +692,10 @@ impl<'a> Turning<'a> {
     {
         match self.kept(rt, alloc)? {
             Kept::Nothing => Ok(()),
-            Kept::Below { number } => self.take(rt, alloc, &Event::Stored { below: number }),
+            Kept::Below { number } => self.take_in(rt, alloc, Event::Stored { below: number }),
             Kept::Failed { fault } => {
                 self.note(Some(spool_failed(fault)));
-                self.take(rt, alloc, &Event::StoreFailed)
+                self.take_in(rt, alloc, Event::StoreFailed)
             }
         }
     }
@@ -709,6 +743,6 @@ impl<'a> Turning<'a> {
         }
         drop(self.owed.remove(0));
         self.is_busy = true;
-        self.take(rt, alloc, &Event::Kept { line })
+        self.take_in(rt, alloc, Event::Kept { line })
     }
 }

@@ -1,7 +1,7 @@
 //! The options and commands of the program, and what help says of them.
 
 use clap::builder::ValueParser;
-use clap::{Arg, ArgAction, Command, value_parser};
+use clap::{Arg, ArgAction, Command};
 use std::alloc::{AllocError, Global};
 
 /// A command: its name, what help says of it, and its words.
@@ -24,7 +24,7 @@ enum Form {
     /// An option with a number.
     Number,
     /// An option with a number, which is this where it is left out.
-    NumberOr(&'static str),
+    NumberOr(&'static [&'static str]),
     /// An option with a quality of service.
     Level,
     /// An option with a quality of service, -1 among them.
@@ -36,7 +36,7 @@ enum Form {
     /// A number that must be there.
     NeededNumber,
     /// A number that is this where it is left out.
-    LastNumber(&'static str),
+    LastNumber(&'static [&'static str]),
 }
 
 /// The qualities of service that a publication may have.
@@ -93,7 +93,7 @@ static OF_ALL: [Word; 6] = [
     ),
     Word(
         "wait",
-        Form::NumberOr("3"),
+        Form::NumberOr(&["3"]),
         "SECONDS",
         "How long to wait for an answer; 0 for no end",
     ),
@@ -110,7 +110,7 @@ static OFFERS: [Offer; 9] = [
             Word("clean", Form::Flag, "", "Begin with an empty session"),
             Word(
                 "keep-alive",
-                Form::NumberOr("0"),
+                Form::NumberOr(&["0"]),
                 "SECONDS",
                 "After half as much silence again the client is lost; 0 for never",
             ),
@@ -188,7 +188,7 @@ static OFFERS: [Offer; 9] = [
         "Take what comes",
         &[Word(
             "length",
-            Form::LastNumber("0"),
+            Form::LastNumber(&["0"]),
             "SECONDS",
             "For how long; 0 until it is stopped",
         )],
@@ -231,8 +231,17 @@ fn commands<'a>(alloc: Global) -> Result<Vec<Command<'a>>, AllocError> {
 /// Adds all commands.
 fn add_commands<'a>(alloc: Global, commands: &mut Vec<Command<'a>>) -> Result<(), AllocError> {
     for offer in OFFERS.as_slice() {
-        commands.push(command(alloc, *offer)?)?;
+        add_command(commands, command(alloc, *offer)?)?;
     }
+    Ok(())
+}
+
+/// Adds a command.
+fn add_command<'a>(
+    commands: &mut Vec<Command<'a>>,
+    command: Command<'a>,
+) -> Result<(), AllocError> {
+    commands.push(command)?;
     Ok(())
 }
 
@@ -264,72 +273,48 @@ fn add_args<'a>(
     is_global: bool,
 ) -> Result<(), AllocError> {
     for word in words {
-        args.push(arg(alloc, *word).global(is_global))?;
+        args.push(arg(alloc, *word, is_global))?;
     }
     Ok(())
 }
 
-/// A word as an argument.
-fn arg<'a>(alloc: Global, word: Word) -> Arg<'a> {
+/// A word as an argument of one command, or of all below it too.
+fn arg<'a>(alloc: Global, word: Word, is_global: bool) -> Arg<'a> {
     let Word(name, form, value, help) = word;
-    let arg = spelled(told(alloc, name, help), name, form);
-    let arg = taking(arg, value, form);
-    or_default(may_be(arg, form), form)
+    valued(named(alloc, name, form), form)
+        .help(help)
+        .value_name(value)
+        .global(is_global)
 }
 
-/// How a word is known: an option by its name, and by its letter if it has one.
-fn spelled<'a>(arg: Arg<'a>, name: &'a str, form: Form) -> Arg<'a> {
-    if is_option(form) {
-        lettered(long(arg, name), form)
-    } else {
-        arg
-    }
-}
-
-/// An option with a letter, if it has one.
-fn lettered<'a>(arg: Arg<'a>, form: Form) -> Arg<'a> {
+/// A word that is known by its place, or as an option by its name, and by its letter if it has one.
+fn named<'a>(alloc: Global, name: &'a str, form: Form) -> Arg<'a> {
     match form {
-        Form::Lettered(letter) => short(arg, letter),
-        _ => arg,
+        Form::Lettered(letter) => option_of(alloc, name).short(letter),
+        _ if is_option(form) => option_of(alloc, name),
+        _ => Arg::new(alloc, name),
     }
 }
 
-/// What a word takes: an option without a value takes nothing.
-fn taking<'a>(arg: Arg<'a>, value: &'a str, form: Form) -> Arg<'a> {
+/// A word with two hyphens in front.
+fn option_of<'a>(alloc: Global, name: &'a str) -> Arg<'a> {
+    Arg::new(alloc, name).long(name)
+}
+
+/// A word with what it takes. It says nothing of the word, so that who calls it carries nothing on.
+fn valued<'a>(arg: Arg<'a>, form: Form) -> Arg<'a> {
+    arg.action(action_of(form))
+        .value_parser(parser_of(form))
+        .default_values(defaults_of(form))
+        .required(is_needed(form))
+        .allow_negative_numbers(is_negative(form))
+}
+
+/// What a use of a word does: an option without a value is there or not.
+fn action_of(form: Form) -> ArgAction {
     match form {
-        Form::Flag => flag(arg),
-        _ => read_as(of_value(arg, value), form),
-    }
-}
-
-/// How a value is read: as a number, as one of some words, or as it stands.
-fn read_as<'a>(arg: Arg<'a>, form: Form) -> Arg<'a> {
-    if is_number(form) {
-        number(arg)
-    } else {
-        among(arg, levels_of(form))
-    }
-}
-
-/// One of some words, or any word where there are none.
-fn among<'a>(arg: Arg<'a>, words: &'static [&'static str]) -> Arg<'a> {
-    if words.is_empty() {
-        arg
-    } else {
-        one_of(arg, words)
-    }
-}
-
-/// What a word may be: whether it must be there, and may be a negative number.
-fn may_be<'a>(arg: Arg<'a>, form: Form) -> Arg<'a> {
-    negative(needed(arg, is_needed(form)), is_negative(form))
-}
-
-/// What a word is if it is left out, if that is said.
-fn or_default<'a>(arg: Arg<'a>, form: Form) -> Arg<'a> {
-    match default_of(form) {
-        Some(default) => or_else(arg, default),
-        None => arg,
+        Form::Flag => ArgAction::SetTrue,
+        _ => ArgAction::Set,
     }
 }
 
@@ -359,73 +344,23 @@ fn is_number(form: Form) -> bool {
     )
 }
 
-/// The words of which one may stand there; none where any may.
-fn levels_of(form: Form) -> &'static [&'static str] {
+/// How a value is read: as a number, as one of some words, or as it stands.
+fn parser_of<'a>(form: Form) -> ValueParser<'a> {
     match form {
-        Form::Level => OF_OTHERS.as_slice(),
-        Form::AnyLevel => OF_PUBLISH.as_slice(),
+        Form::Flag => ValueParser::Bool,
+        Form::Level => ValueParser::Names(OF_OTHERS.as_slice()),
+        Form::AnyLevel => ValueParser::Names(OF_PUBLISH.as_slice()),
+        _ if is_number(form) => ValueParser::Unsigned(0, 65_535),
+        _ => ValueParser::String,
+    }
+}
+
+/// What a word is if it is left out; none if nothing stands for it.
+fn defaults_of(form: Form) -> &'static [&'static str] {
+    match form {
+        Form::NumberOr(seconds) => seconds,
+        Form::LastNumber(seconds) => seconds,
+        Form::Level | Form::AnyLevel => &["0"],
         _ => &[],
     }
-}
-
-/// What a word is if it is left out.
-fn default_of(form: Form) -> Option<&'static str> {
-    match form {
-        Form::NumberOr(default) | Form::LastNumber(default) => Some(default),
-        Form::Level | Form::AnyLevel => Some("0"),
-        _ => None,
-    }
-}
-
-// The calls of clap that the words above are made of, each by itself. They say nothing of their
-// argument, so that who calls them carries nothing on.
-
-/// A word, and what help says of it.
-fn told<'a>(alloc: Global, name: &'a str, help: &'a str) -> Arg<'a> {
-    Arg::new(alloc, name).help(help)
-}
-
-/// A word with two hyphens in front.
-fn long<'a>(arg: Arg<'a>, name: &'a str) -> Arg<'a> {
-    arg.long(name)
-}
-
-/// A word with a hyphen and this letter too.
-fn short<'a>(arg: Arg<'a>, letter: char) -> Arg<'a> {
-    arg.short(letter)
-}
-
-/// A word that is there or not.
-fn flag<'a>(arg: Arg<'a>) -> Arg<'a> {
-    arg.action(ArgAction::SetTrue)
-}
-
-/// A word whose value help calls so.
-fn of_value<'a>(arg: Arg<'a>, value: &'a str) -> Arg<'a> {
-    arg.value_name(value)
-}
-
-/// A word that must be there, or may be left out.
-fn needed<'a>(arg: Arg<'a>, is_needed: bool) -> Arg<'a> {
-    arg.required(is_needed)
-}
-
-/// A word that may be a negative number, or may not.
-fn negative<'a>(arg: Arg<'a>, may_be: bool) -> Arg<'a> {
-    arg.allow_negative_numbers(may_be)
-}
-
-/// A word that is this if it is left out.
-fn or_else<'a>(arg: Arg<'a>, default: &'a str) -> Arg<'a> {
-    arg.default_value(default)
-}
-
-/// A number.
-fn number<'a>(arg: Arg<'a>) -> Arg<'a> {
-    arg.value_parser(value_parser!(u16))
-}
-
-/// One of some words.
-fn one_of<'a>(arg: Arg<'a>, words: &'static [&'static str]) -> Arg<'a> {
-    arg.value_parser(ValueParser::Names(words))
 }

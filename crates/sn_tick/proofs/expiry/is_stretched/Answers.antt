@@ -1,5 +1,5 @@
 -- Only those far before the greatest number are looked at twice.
-use Rattle.std.proofs.Common.{◌≡◌, ℕ, ◌-◌, ◌&&◌, nat_le, ap, ◌∙◌}
+use Rattle.std.proofs.Common.{ℕ, ◌-◌, ◌&&◌, nat_le, ap, ◌∙◌}
 use Rattle.std.specs.List.{list_any}
 use Rattle.sn_tick.specs.Expiry.{is_left_behind}
 use Rattle.sn_tick.proofs.Stretched.{stretched_by}
