@@ -24,8 +24,8 @@ put_all_back-requires-clause-room c =
     let lying = subst (λ (aside : Rows). HaveRoom c.args.self.now aside) (sym c.aside.view_is) c.requires.room in
     subst (λ (rows : Rows). HaveRoom rows (rows_of c.aside.inside.table.entries)) (sym c.self.view_is) lying
 
-pub count_all-requires : goal.count_all-requires
-count_all-requires c =
+pub count_all-self-inside-requires : goal.count_all-self-inside-requires
+count_all-self-inside-requires c =
     let all : rows_of c.put_all_back.new.table.entries ≡ moved c.args.self.now c.args.aside = c.put_all_back.ensures.rows ∙ (λ i. moved (c.self.view_is i) (c.aside.view_is i)) in
     subst (λ (rows : Rows). count_named rows ≤ MOST_CLIENTS) (sym all) c.requires.few
 
@@ -36,8 +36,8 @@ invariant_of-self c =
     record {
       sorted = c.put_all_back.ensures.movable.sorted;
       each = c.put_all_back.ensures.movable.each;
-      counted = c.count_all.ensures;
-      few = subst (λ (n : ℕ). n ≤ MOST_CLIENTS) (sym c.count_all.ensures) few;
+      counted = c.count_all-self-inside.ensures;
+      few = subst (λ (n : ℕ). n ≤ MOST_CLIENTS) (sym c.count_all-self-inside.ensures) few;
     }
 
 pub returns-clause-kept : goal.returns-clause-kept
