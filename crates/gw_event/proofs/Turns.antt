@@ -136,7 +136,7 @@ any_one [] = omega arith
 any_one (op ∷ ops) = omega arith
 
 -- a call puts one delta into the journal, or none
-put_one : (call : Step) (answer : Result Out Refusal) → length (put_by call answer) ≤ 1
+pub put_one : (call : Step) (answer : Result Out Refusal) → length (put_by call answer) ≤ 1
 put_one (steps.Frame from bytes now) (Ok out) = most_one out.made
 put_one (steps.Take delta) (Ok out) = any_one delta
 put_one (steps.Tick now) (Ok out) = most_one out.made

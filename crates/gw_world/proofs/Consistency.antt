@@ -379,6 +379,9 @@ start-whole configs = record {
 pub field-sound : (configs : List Config) (events : List Event) (answers : List Answer) (field : Field) → Run (new_field configs) events answers field → Ran field answers
 field-sound configs events answers field h = run-sound (new_field configs) events answers field h (start-flush configs) (start-whole configs) (start-due configs)
 
+pub field-due : (configs : List Config) (events : List Event) (answers : List Answer) (field : Field) → Run (new_field configs) events answers field → DueField field
+field-due configs events answers field h = (field-sound configs events answers field h).due
+
 pub field-whole : (configs : List Config) (events : List Event) (answers : List Answer) (field : Field) → Run (new_field configs) events answers field → WholeField field
 field-whole configs events answers field h = (field-sound configs events answers field h).whole
 

@@ -167,14 +167,14 @@ in-calls field number i gateway next (call ∷ called) [] answers made at is h =
 in-calls field number i gateway next (call ∷ called) (step ∷ more) [] made at is h = absurd h
 
 -- calls are cut where their steps are
-record Cut (field : Field) (called : List Call) (front behind : List Step) : Type 0 where
-  calm : List Call
-  rest : List Call
-  whole : called ≡ calm ++ rest
-  first : AreStepsOf field calm front
-  last : AreStepsOf field rest behind
+pub record Cut (field : Field) (called : List Call) (front behind : List Step) : Type 0 where
+  pub calm : List Call
+  pub rest : List Call
+  pub whole : called ≡ calm ++ rest
+  pub first : AreStepsOf field calm front
+  pub last : AreStepsOf field rest behind
 
-cut-at : (field : Field) (called : List Call) (front behind : List Step) → AreStepsOf field called (front ++ behind) → Cut field called front behind
+pub cut-at : (field : Field) (called : List Call) (front behind : List Step) → AreStepsOf field called (front ++ behind) → Cut field called front behind
 cut-at field called [] behind h = record { calm = []; rest = called; whole = refl; first = tt; last = h }
 cut-at field (call ∷ called) (step ∷ front) behind h =
     let c = cut-at field called front behind h.1 in
