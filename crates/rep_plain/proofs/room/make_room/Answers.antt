@@ -17,3 +17,6 @@ loop-row-preserved c =
 
 pub loop-row-init : goal.loop-row-init
 loop-row-init c = (roomier_itself c.args.table.now.entries, tt)
+
+pub returns-in_err-add_place-clause-roomier : goal.returns-in_err-add_place-clause-roomier
+returns-in_err-add_place-clause-roomier c = roomier_then c.loop-row.invariant.0 c.in_err-add_place.ensures.roomier
