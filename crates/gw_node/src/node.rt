@@ -339,8 +339,10 @@ impl<R: Replica, D: Disk + Drop> Node<R, D> {
         play(alloc, self, USUAL, &steps[0], &steps[1..], room)
     }
 
-    /// The same of a row that has all that memory holds: no call is done alone, and no row ends, as
-    /// there are too many operations or octets of records.
+    /// Calls one after the other, of which what they make and take is written at once, as `step_all`
+    /// carries them out, but without its bounds. No call is done alone and no row ends because there
+    /// are too many operations, or octets of records. So where the disk fails, and memory did not
+    /// run out, all calls behind the first that had something to write were in the write.
     pub fn step_whole(&mut self, alloc: Global, steps: &[Arc<Step>], room: Vec<Reply>) -> Vec<Reply>
         requires some { 0 < length steps.now }
         requires room { (room.items ≡ []) × (length steps.now ≤ vec_capacity room) }
