@@ -25,9 +25,14 @@ use sn_local::{LocalChange, Send};
 use sn_plan::Plan;
 use std::alloc::Global;
 
-/// The most operations of a call of a row: to copy what more of them replace would take longer than
-/// a sync.
-pub(crate) const MOST_OPERATIONS: usize = 64;
+/// How much there is at most in a row.
+#[derive(Clone, Copy)]
+pub(crate) struct Most {
+    /// How many operations a call of it has at most.
+    pub(crate) operations: usize,
+    /// How many octets of records there are at most before it ends.
+    pub(crate) octets: usize,
+}
 
 /// Puts aside what a staged delta replaces, unless it lies there already.
 fn save<R: Replica>(
@@ -247,6 +252,7 @@ fn carry_along<R: Replica, D: Disk + Drop>(
     node: &mut Node<R, D>,
     aside: &mut R,
     records: &mut Records,
+    most: Most,
     plan: Plan,
 ) -> Option<Result<Shares, Refusal>>
     requires some { plan.ops ≢ [] }
@@ -256,7 +262,7 @@ fn carry_along<R: Replica, D: Disk + Drop>(
     ensures can { R.can_go_back node.new.replica aside.new }
     ensures back { R.back node.new.replica aside.new ≡ R.back node.old.replica aside.old }
 {
-    if MOST_OPERATIONS < plan.ops.len() {
+    if most.operations < plan.ops.len() {
         drop(plan);
         return None;
     }
@@ -269,6 +275,7 @@ fn take_along<R: Replica, D: Disk + Drop>(
     node: &mut Node<R, D>,
     aside: &mut R,
     records: &mut Records,
+    most: Most,
     delta: &Delta,
 ) -> Option<Result<Shares, Refusal>>
     requires { R.can_go_back node.old.replica aside.old }
@@ -278,7 +285,7 @@ fn take_along<R: Replica, D: Disk + Drop>(
     ensures can { R.can_go_back node.new.replica aside.new }
     ensures back { R.back node.new.replica aside.new ≡ R.back node.old.replica aside.old }
 {
-    if MOST_OPERATIONS < delta.ops().len() {
+    if most.operations < delta.ops().len() {
         return None;
     }
     unless_wanting(take_ahead(alloc, node, aside, records, delta))
@@ -292,6 +299,7 @@ pub(crate) fn go_ahead<R: Replica, D: Disk + Drop>(
     node: &mut Node<R, D>,
     aside: &mut R,
     records: &mut Records,
+    most: Most,
     step: &Step,
 ) -> Option<Result<Shares, Refusal>>
     requires runs { parts.is_halted (state_of R.kept node.old) ≡ false }
@@ -303,13 +311,13 @@ pub(crate) fn go_ahead<R: Replica, D: Disk + Drop>(
     ensures back { R.back node.new.replica aside.new ≡ R.back node.old.replica aside.old }
 {
     if let Step::Take { delta } = step {
-        return take_along(alloc, node, aside, records, delta);
+        return take_along(alloc, node, aside, records, most, delta);
     }
     match look(alloc, node, step) {
         Left::Told(reply) => unless_wanting(reply),
         Left::Writes(plan, excuse) => {
             drop(excuse);
-            carry_along(alloc, node, aside, records, plan)
+            carry_along(alloc, node, aside, records, most, plan)
         }
         Left::Alone => None,
     }

@@ -20,7 +20,7 @@ use super::handling::{
 };
 use super::opening::{not_opened, nothing, start};
 use super::retained::retained_of;
-use super::row::{Reply, play};
+use super::row::{Reply, USUAL, WHOLE, play};
 use gw_answer::{Answer, NodeFault, Step, one_share, three_shares};
 use gw_glance::{glance, messages_known};
 use gw_report::Glimpse;
@@ -336,7 +336,24 @@ impl<R: Replica, D: Disk + Drop> Node<R, D> {
         ensures failures { D.failures (disk_of self.old) + failed_all result.items
             ≤ D.failures (disk_of self.new) }
     {
-        play(alloc, self, &steps[0], &steps[1..], room)
+        play(alloc, self, USUAL, &steps[0], &steps[1..], room)
+    }
+
+    /// Calls one after the other, of which what they make and take is written at once, as `step_all`
+    /// carries them out, but without its bounds. No call is done alone and no row ends because there
+    /// are too many operations, or octets of records. So where the disk fails, and memory did not
+    /// run out, all calls behind the first that had something to write were in the write.
+    pub fn step_whole(&mut self, alloc: Global, steps: &[Arc<Step>], room: Vec<Reply>) -> Vec<Reply>
+        requires some { 0 < length steps.now }
+        requires room { (room.items ≡ []) × (length steps.now ≤ vec_capacity room) }
+        ensures some { (0 < length result.items) × (length result.items ≤ length steps.now) }
+        ensures events { EventsOn (state_of R.kept self.old)
+            (take (length result.items) (map arc_value steps.now)) result.items
+            (state_of R.kept self.new) }
+        ensures failures { D.failures (disk_of self.old) + failed_all result.items
+            ≤ D.failures (disk_of self.new) }
+    {
+        play(alloc, self, WHOLE, &steps[0], &steps[1..], room)
     }
 
     /// The gateway's number.

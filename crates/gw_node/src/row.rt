@@ -16,7 +16,7 @@ ghost use Rattle.gw_node.specs.inner.Ahead.{IsWriter};
 ghost use Rattle.gw_node.specs.inner.Rows.{WrittenAllAs, OneMore, WentOn, excused, EndedAs, IsFinished, RowCall};
 ghost use Rattle.jr_journal.specs.Parts.{is_halted as is_stopped};
 
-use super::ahead::{MOST_OPERATIONS, carry_ahead, go_ahead, take_ahead};
+use super::ahead::{Most, carry_ahead, go_ahead, take_ahead};
 use super::carrying::{carry_out, take_in};
 use super::handling::handle_step;
 use super::looking::{Left, look};
@@ -34,6 +34,19 @@ use std::sync::Arc;
 
 /// How many octets of records there are at most before a row ends.
 pub const MOST_OF_A_ROW: usize = 1_048_576;
+
+/// What a row has at most. To copy what more operations of a call replace would take longer than a
+/// sync.
+pub(crate) const USUAL: Most = Most {
+    operations: 64,
+    octets: MOST_OF_A_ROW,
+};
+
+/// A row that has all that memory holds.
+pub(crate) const WHOLE: Most = Most {
+    operations: usize::MAX,
+    octets: usize::MAX,
+};
 
 /// What a node answers to a call, in shares.
 pub type Reply = Result<Shares, Refusal>;
@@ -98,6 +111,7 @@ fn one_more<R: Replica, D: Disk + Drop>(
     node: &mut Node<R, D>,
     aside: &mut R,
     records: &mut Records,
+    most: Most,
     step: &Step,
     replies: &mut Vec<Reply>,
 ) -> bool
@@ -111,10 +125,10 @@ fn one_more<R: Replica, D: Disk + Drop>(
     ensures room { vec_capacity replies.new ≡ vec_capacity replies.old }
     ensures length { vec_len replies.new ≤ vec_len replies.old + 1 }
 {
-    if MOST_OF_A_ROW < records.size() {
+    if most.octets < records.size() {
         return false;
     }
-    match go_ahead(alloc, node, aside, records, step) {
+    match go_ahead(alloc, node, aside, records, most, step) {
         Some(reply) => {
             replies.push_reserved(reply);
             true
@@ -129,6 +143,7 @@ fn go_on<R: Replica, D: Disk + Drop>(
     node: &mut Node<R, D>,
     aside: &mut R,
     records: &mut Records,
+    most: Most,
     rest: &[Arc<Step>],
     replies: &mut Vec<Reply>,
 )
@@ -142,7 +157,7 @@ fn go_on<R: Replica, D: Disk + Drop>(
 {
     for index in 0..rest.len() {
         let step = &rest[index];
-        if !one_more(alloc, node, aside, records, step, replies) {
+        if !one_more(alloc, node, aside, records, most, step, replies) {
             return;
         }
     }
@@ -231,6 +246,7 @@ fn finish<R: Replica, D: Disk + Drop>(
     row: Row<R>,
     answer: Shares,
     excuse: Shares,
+    most: Most,
     rest: &[Arc<Step>],
     mut replies: Vec<Reply>,
 ) -> Vec<Reply>
@@ -247,7 +263,15 @@ fn finish<R: Replica, D: Disk + Drop>(
         mut records,
     } = row;
     replies.push_reserved(Ok(answer));
-    go_on(alloc, node, &mut aside, &mut records, rest, &mut replies);
+    go_on(
+        alloc,
+        node,
+        &mut aside,
+        &mut records,
+        most,
+        rest,
+        &mut replies,
+    );
     end_row(node, aside, dialogs, &records, excuse, replies)
 }
 
@@ -267,6 +291,7 @@ fn own_row<R: Replica, D: Disk + Drop>(
     node: &mut Node<R, D>,
     plan: Plan,
     excuse: Out,
+    most: Most,
     first: &Step,
     rest: &[Arc<Step>],
     replies: Vec<Reply>,
@@ -277,7 +302,7 @@ fn own_row<R: Replica, D: Disk + Drop>(
     ensures { RowCall (state_of R.kept node.old) first.now (map arc_value rest.now) result.items
         (state_of R.kept node.new) }
 {
-    if MOST_OPERATIONS < plan.ops.len() {
+    if most.operations < plan.ops.len() {
         return alone(replies, carry_out(alloc, node, plan, excuse));
     }
     let Ok(mut row) = Row::new(alloc, node) else {
@@ -289,7 +314,7 @@ fn own_row<R: Replica, D: Disk + Drop>(
         return alone(replies, Err(Refusal::Memory));
     };
     match carry_ahead(alloc, node, &mut row.aside, &mut row.records, plan) {
-        Ok(answer) => finish(alloc, node, row, answer, excuse, rest, replies),
+        Ok(answer) => finish(alloc, node, row, answer, excuse, most, rest, replies),
         Err(refusal) => {
             drop(row);
             drop(excuse);
@@ -304,6 +329,7 @@ fn taken_row<R: Replica, D: Disk + Drop>(
     alloc: Global,
     node: &mut Node<R, D>,
     delta: &Delta,
+    most: Most,
     rest: &[Arc<Step>],
     replies: Vec<Reply>,
 ) -> Vec<Reply>
@@ -312,7 +338,7 @@ fn taken_row<R: Replica, D: Disk + Drop>(
     ensures { RowCall (state_of R.kept node.old) (steps.Take delta.now) (map arc_value rest.now)
         result.items (state_of R.kept node.new) }
 {
-    if delta.is_empty() || MOST_OPERATIONS < delta.ops().len() {
+    if delta.is_empty() || most.operations < delta.ops().len() {
         return alone(replies, take_in(alloc, node, delta));
     }
     let Ok(mut row) = Row::new(alloc, node) else {
@@ -323,7 +349,7 @@ fn taken_row<R: Replica, D: Disk + Drop>(
         return alone(replies, Err(Refusal::Memory));
     };
     match take_ahead(alloc, node, &mut row.aside, &mut row.records, delta) {
-        Ok(answer) => finish(alloc, node, row, answer, nothing, rest, replies),
+        Ok(answer) => finish(alloc, node, row, answer, nothing, most, rest, replies),
         Err(refusal) => {
             drop(row);
             drop(nothing);
@@ -337,6 +363,7 @@ fn taken_row<R: Replica, D: Disk + Drop>(
 pub(crate) fn play<R: Replica, D: Disk + Drop>(
     alloc: Global,
     node: &mut Node<R, D>,
+    most: Most,
     first: &Step,
     rest: &[Arc<Step>],
     replies: Vec<Reply>,
@@ -349,11 +376,13 @@ pub(crate) fn play<R: Replica, D: Disk + Drop>(
         return alone(replies, handle_step(alloc, node, first));
     }
     if let Step::Take { delta } = first {
-        return taken_row(alloc, node, delta, rest, replies);
+        return taken_row(alloc, node, delta, most, rest, replies);
     }
     match look(alloc, node, first) {
         Left::Told(reply) => alone(replies, reply),
-        Left::Writes(plan, excuse) => own_row(alloc, node, plan, excuse, first, rest, replies),
+        Left::Writes(plan, excuse) => own_row(
+            alloc, node, plan, excuse, most, first, rest, replies,
+        ),
         Left::Alone => alone(replies, handle_step(alloc, node, first)),
     }
 }

@@ -6,7 +6,7 @@ ghost use Rattle.std.specs.Prelude.{◌≡◌, ◌+◌, ◌++◌, map, IfOk, OnO
 ghost use Rattle.std.specs.Option.{option_to_list};
 ghost use Rattle.gw_play.specs.Printing.{answers_text, answer_text, said_text, deltas_behind, row_text, row_behind, deltas_after, out_text, joined, delta_line, delta_lines, send_line, refusal_text, records_line, views_text, client_text, client_line, stamp_text, session_text, session_lines, moment_text, put_line, retained_line};
 ghost use Rattle.gw_play.specs.Printing as spec;
-ghost use Rattle.gw_play.specs.inner.Printing.{world_fault_line, bad_line_text};
+ghost use Rattle.gw_play.specs.inner.Printing.{world_fault_line, bad_line_text, bad_call_text};
 ghost use Rattle.gw_answer.specs.Answers.{told, said};
 
 use super::session_lines::print_tables;
@@ -412,4 +412,11 @@ pub fn print_bad_line(alloc: Global, number: usize) -> Result<String, AllocError
     ensures { IfOk result (λ text. string_bytes text ≡ bad_line_text number) }
 {
     format!(in alloc; "line {number}: not a command\n")
+}
+
+/// The line of a script in which a line is to be a call and is none.
+pub fn print_bad_call(alloc: Global, number: usize) -> Result<String, AllocError>
+    ensures { IfOk result (λ text. string_bytes text ≡ bad_call_text number) }
+{
+    format!(in alloc; "line {number}: not a call\n")
 }

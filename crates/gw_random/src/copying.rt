@@ -46,7 +46,7 @@ fn copy_event(alloc: Global, event: &Event) -> Result<Event, NoMemory> {
 }
 
 /// An equal call.
-fn copy_call(alloc: Global, call: &Call) -> Result<Call, NoMemory> {
+pub(crate) fn copy_call(alloc: Global, call: &Call) -> Result<Call, NoMemory> {
     match call {
         Call::Frame { from, bytes, now } => Ok(Call::Frame {
             from: *from,

@@ -97,7 +97,7 @@ pub(crate) fn added(answer: &Answer) -> u64 {
 }
 
 /// How many deltas the answers to calls that came together add to the list.
-fn made_by_row(answers: &[Result<Arc<Out>, NodeFault>]) -> u64 {
+pub(crate) fn made_by_row(answers: &[Result<Arc<Out>, NodeFault>]) -> u64 {
     let mut count = 0u64;
     for answer in answers {
         if has_made(answer) {
@@ -108,7 +108,7 @@ fn made_by_row(answers: &[Result<Arc<Out>, NodeFault>]) -> u64 {
 }
 
 /// Whether an answer tells of a delta that was made.
-fn has_made(answer: &Result<Arc<Out>, NodeFault>) -> bool {
+pub(crate) fn has_made(answer: &Result<Arc<Out>, NodeFault>) -> bool {
     match answer {
         Ok(out) => out.made.is_some(),
         Err(_) => false,

@@ -1,5 +1,5 @@
 -- A script grows line by line.
-use Rattle.std.proofs.Common.{◌≡◌, ◌≢◌, ℕ, ◌+◌, ◌-◌, ◌<◌, inl, inr, List, [], ◌∷◌, ◌++◌, zero, suc, length, set, get_or, refl, map, take, Bor, Some, ap, sym, subst, ◌∙◌, arith, Bool, true, false, ◌==◌}
+use Rattle.std.proofs.Common.{◌≡◌, ◌≢◌, ℕ, ◌+◌, ◌-◌, ◌<◌, inl, inr, List, [], ◌∷◌, ◌++◌, zero, suc, length, set, get_or, refl, map, take, drop, Bor, Some, ap, sym, subst, ◌∙◌, arith, Bool, true, false, ◌==◌}
 use Rattle.std.specs.Prelude.{Result, Err, slice_get, position, IsTrue}
 use Rattle.sn_topic.specs.Table.{is_table}
 use Rattle.std.proofs.lemmas.List.{take_more, get_or-map, length-map, length-set}
@@ -17,8 +17,10 @@ use Rattle.std.proofs.lemmas.List.Folds.{list_any_at}
 use Rattle.std.proofs.lemmas.List.Quantifiers.{all_pairs_push}
 use Rattle.sn_local.specs.declared.config.Config.{Config}
 use Rattle.gw_script.specs.declared.command.Command.TheVariants as commands
-use Rattle.gw_script.specs.Scripts.{Adds, config_of, has_gateway, Extends, IsScriptOf, AreGateways, IsBadLine}
-use Rattle.gw_script.specs.Scripts.IsScriptOf.{none, more}
+use Rattle.gw_world.specs.declared.event.Call.{Call}
+use Rattle.gw_script.specs.Rows.{BeginsRow, SpellCalls}
+use Rattle.gw_script.specs.Scripts.{Adds, config_of, with_row, has_gateway, Extends, IsScriptOf, AreGateways, IsBadLine}
+use Rattle.gw_script.specs.Scripts.IsScriptOf.{none, more, row}
 
 -- the octets of lines
 abbrev pub octets_of : List (Bor (List ℕ)) → List (List ℕ)
@@ -49,8 +51,9 @@ one_more lines i d before after within read extends =
 -- the first line that cannot stand where it stands
 pub bad_line : (lines : List (Bor (List ℕ))) (all : List (List ℕ)) (i k : ℕ) (d : Bor (List ℕ)) (before : Script) → i < length lines
     → octets_of lines ≡ all → i + 1 ≡ k → IsScriptOf (take i (octets_of lines)) before
-    → ((after : Script) → Extends before (get_or lines i d).now after → ⊥) → IsBadLine all k
-bad_line lines all i k d before within same next read refused =
+    → ((after : Script) → Extends before (get_or lines i d).now after → ⊥)
+    → ((gateway count : ℕ) → BeginsRow (get_or lines i d).now gateway count → ⊥) → IsBadLine all k
+bad_line lines all i k d before within same next read refused no_row =
     let now : Bor (List ℕ) → List ℕ = λ b. b.now in
     let size : i < length (octets_of lines) = omega (arith, length-map lines now) in
     let there : slice_get (octets_of lines) i ≡ Some (get_or lines i d).now =
@@ -67,6 +70,7 @@ bad_line lines all i k d before within same next read refused =
       there = subst P (sym back) (subst S same there);
       read = subst Q (sym back) (subst R same read);
       refused = refused;
+      no_row = no_row;
     }
 
 -- where no gateway has the number, the gateway at each place has another
@@ -135,3 +139,24 @@ gateways lines script (more earlier line before after read (inr (commands.Lifeti
     subst P (sym adds.5) (told_more before.configs adds.1 adds.2 (record adds.2 { lifetime = seconds }) adds.4 refl (gateways earlier before read))
 gateways lines script (more earlier line before after read (inr (commands.Happens event, spells, adds))) =
     let P : Script → Type 0 = λ s. AreGateways s.configs in subst P (sym adds) (gateways earlier before read)
+gateways lines script (row earlier line behind gateway calls before read begins spelled) = gateways earlier before read
+
+-- the first ones of a list, the next, and some of what is behind it
+parted : {X : Type 0} (xs : List X) (at n : ℕ) (d : X) → at < length xs
+    → take (at + n + 1) xs ≡ take at xs ++ get_or xs at d ∷ take n (drop (at + 1) xs)
+parted [] at n d within = absurd (omega arith)
+parted (x ∷ xs) zero n d within = let e : 0 + n + 1 ≡ suc n = omega arith in rw e refl
+parted (x ∷ xs) (suc at) n d within =
+    let e : suc at + n + 1 ≡ suc (at + n + 1) = omega arith in
+    let f : suc at + 1 ≡ suc (at + 1) = omega arith in
+    rw e (rw f (ap (λ rest. x ∷ rest) (parted xs at n d (omega arith))))
+
+-- the lines read so far, and a row behind them
+pub row_more : (lines : List (List ℕ)) (at next gateway : ℕ) (calls : List Call) (before : Script) → at < length lines
+    → IsScriptOf (take at lines) before → BeginsRow (get_or lines at []) gateway (length calls)
+    → SpellCalls gateway (take (length calls) (drop (at + 1) lines)) calls → next ≡ at + length calls + 1
+    → IsScriptOf (take next lines) (with_row before gateway calls)
+row_more lines at next gateway calls before within read begins spelled is =
+    let P : List (List ℕ) → Type 0 = λ xs. IsScriptOf xs (with_row before gateway calls) in
+    subst P (sym (ap (λ n. take n lines) is ∙ parted lines at (length calls) [] within))
+    (row (take at lines) (get_or lines at []) (take (length calls) (drop (at + 1) lines)) gateway calls before read begins spelled)

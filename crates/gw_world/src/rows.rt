@@ -2,8 +2,9 @@
 //!
 //! The node writes the first ones of them at once, and says how many. The others are asked for
 //! again. A failure of the disk comes with the first write, so where it comes, no call of the event
-//! was written before. Where the node had not put all calls behind into that write, the event says
-//! nothing: which deltas were refused would not follow from the calls.
+//! was written before. The node leaves a call out of a write only where memory runs out. So where
+//! the write failed and a call is left, the event has no answer: which deltas were refused would not
+//! follow from the calls.
 
 ghost use Rattle.std.specs.Prelude.{◌≡◌, ◌⊎◌, ◌++◌, ◌<◌, ◌≤◌, false, IfOk, OnOk, IfErr, length, map, vec_len};
 ghost use Rattle.std.specs.List.{AllByRecursion};
@@ -102,7 +103,7 @@ fn has_failure(replies: &[Reply]) -> bool
     false
 }
 
-/// Whether calls are left that were not in the write that failed.
+/// Whether calls are left that were not in the write that failed, as memory ran out for them.
 fn is_cut(has_failed: bool, answered: usize, asked: usize) -> bool
     ensures { result ≡ false → (has_failed ≡ false) ⊎ (asked ≤ answered) }
 {
@@ -142,7 +143,7 @@ fn one_row<R: Replica>(
 {
     let rest = &steps[answers.len()..];
     let room = Vec::with_capacity(alloc, rest.len())?;
-    let replies = node.step_all(alloc, rest, room);
+    let replies = node.step_whole(alloc, rest, room);
     if node.starved() {
         drop(replies);
         return Err(NoMemory);

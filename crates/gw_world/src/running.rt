@@ -425,9 +425,7 @@ fn play_all<R: Replica>(
 /// that it had, with or without the whole of the delta that it refused: nothing but want of memory
 /// can refuse that. The result has an answer for each event, the list of the deltas that were made
 /// or answered, and the gateways. There is no result where an event names a gateway, as the one
-/// that it is at or as the peer, or else a delta that is not there, or memory runs out. Nor is there
-/// one where a gateway left out a call of a row that came together, as memory ran out for it or it
-/// has too much to write, and the write of those before it failed.
+/// that it is at or as the peer, or else a delta that is not there, or memory runs out.
 pub fn run<R: Replica>(
     alloc: Global,
     configs: &[Config],

@@ -33,8 +33,7 @@ pub enum WorldFault {
     /// Fault 2: the event names no delta.
     #[error("event {event} names a delta that is not there")]
     NoDelta { event: u64 },
-    /// Fault 3: memory ran out; or the write of calls that came together failed, and the gateway had
-    /// left some of them for another.
+    /// Fault 3: memory ran out.
     #[error("out of memory")]
     Memory,
 }
