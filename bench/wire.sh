@@ -73,6 +73,7 @@ listen = "127.0.0.1:$port"
 link = "127.0.0.1:$link"
 journal = "$work/journal"
 END
+    : >"$work/out"
     # shellcheck disable=SC2086
     env $disk "$wire" guard "${1:-$program}" --config "$work/settings.toml" --shifts 1000000 >"$work/out" 2>"$work/err" &
     server=$!
@@ -114,7 +115,7 @@ compare() {
 # goal WORDS NUMBER LEAST: says whether a number is as great as it should be.
 goal() {
     awk -v words="$1" -v n="$2" -v least="$3" 'BEGIN {
-        printf "  %s %.2f; goal %s: %s\n", words, n, least, n + 0 >= least + 0 ? "met" : "missed" }'
+        printf "  %s %.2f; goal %s: %s\n", words, n, least, (n + 0 >= least + 0) ? "met" : "missed" }'
 }
 
 # by A B: a quotient.

@@ -8,7 +8,7 @@ The parts, all where none is named:
   kills   the daemon is killed N times (100) amid publications at quality of service 1 of N clients (32), of which each has one under way, while
           each sync takes 10 ms longer. Behind each start all that was acknowledged is in the journal, and in the end it comes to who sleeps.
           There are fewer syncs than half of what was acknowledged
-  fails   N times (10) a sync fails amid the same: one publication is refused each time at most, and what was acknowledged comes to who sleeps
+  fails   N times (10) a write or a sync fails amid the same: one publication is refused each time, and what was acknowledged comes to who sleeps
   held    the reply to one datagram goes out two seconds late, and a datagram right behind it is answered before, by the other of two workers
   peer    64 deltas that come over a link at once are in the journal with one sync, or with two
 
@@ -132,7 +132,8 @@ class Crowd:
         """All publish for so long, or until something holds."""
         most, end = sum(one.done for one in self.all) + MOST, time.monotonic() + seconds
         for one in self.all:
-            one.next(topic)
+            if not one.octets:
+                one.next(topic)
         while (moment := time.monotonic()) < end and not is_done():
             self.listen(topic, most)
             for one in self.all:
@@ -202,28 +203,39 @@ def kills(program: str, folder: str, options) -> str:
 
 
 def fails(program: str, folder: str, options) -> str:
+    """In turn a write fails, as on a full disk, in the middle of its records, and the gateway goes on; and a sync fails, and the gateway ends, as
+    nobody knows what the file has."""
     with Counted(folder) as slow, Gateway(program, folder, 1) as gateway:
-        gateway.start()
         crowd = Crowd(gateway, options.clients)
         for turn in range(options.failures):
+            if turn % 2 == 0:
+                gateway.room = 1 << 30
+                gateway.start()
             sleeps_at(gateway, b"s-%03d" % turn, topic_of(turn))
             crowd.connect()
             slow.say(LATER)
             crowd.publish(topic_of(turn), 0.3)
-            slow.fail()
             refused = crowd.refused
-            crowd.publish(topic_of(turn), 5, lambda refused=refused: crowd.refused > refused)
+            if turn % 2 == 0:
+                gateway.limit_room(max(map(len, gateway.slots())) + 100)
+            else:
+                slow.fail()
+            crowd.publish(topic_of(turn), 20, lambda refused=refused: crowd.refused > refused)
             slow.say(0)
             expect(crowd.refused > refused, "no publication was refused")
-            crowd.finish(30)
-        expect(crowd.refused <= options.failures, f"{crowd.refused} publications were refused, and {options.failures} syncs failed")
-        told = gateway.told().strip()
-        gateway.alive()
+            if turn % 2 == 0:
+                gateway.make_room()
+                crowd.finish(30)
+            else:
+                status = gateway.process.wait(30)
+                expect((status, gateway.told()) == (2, "sngw: journal J1\n"), f"it ended with {status} and told {gateway.told()!r}")
+            crowd.look()
+        expect(crowd.refused == options.failures, f"{crowd.refused} publications were refused, and {options.failures} writes or syncs failed")
         gateway.kill()
         gateway.start()
         crowd.look()
         got = wake_all(gateway, crowd, options.failures)
-    return f"{len(crowd.kept)} acknowledged, {crowd.refused} refused, {got} got, none of these missing; it told {told!r}"
+    return f"{len(crowd.kept)} acknowledged, {crowd.refused} refused, {got} got, none of these missing"
 
 
 def held(program: str, folder: str, _) -> str:
