@@ -110,11 +110,11 @@ class Crowd:
         self.all = [Publisher(place, gateway) for place in range(count)]
         self.by_socket = {one.client.socket: one for one in self.all}
 
-    def connect(self) -> None:
+    def begin(self) -> None:
+        """Nothing is under way. Who is not known to the gateway connects when it publishes."""
         for one in self.all:
             one.octets = b""
             one.client.flush()
-            one.client.connect()
 
     def listen(self, topic: bytes, most: int) -> None:
         """Hears what has come within a moment. Who is answered publishes on, so many messages in all at most."""
@@ -185,7 +185,7 @@ def kills(program: str, folder: str, options) -> str:
             slowest = max(slowest, time.monotonic() - began)
             crowd.look()
             sleeps_at(gateway, b"s-%03d" % turn, topic_of(turn))
-            crowd.connect()
+            crowd.begin()
             slow.say(LATER)
             before = slow.syncs()
             crowd.publish(topic_of(turn), chance.uniform(0.05, 0.5))
@@ -212,7 +212,7 @@ def fails(program: str, folder: str, options) -> str:
                 gateway.room = 1 << 30
                 gateway.start()
             sleeps_at(gateway, b"s-%03d" % turn, topic_of(turn))
-            crowd.connect()
+            crowd.begin()
             slow.say(LATER)
             crowd.publish(topic_of(turn), 0.3)
             refused = crowd.refused
