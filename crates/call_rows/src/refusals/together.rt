@@ -21,19 +21,17 @@ const CALLS: usize = 3;
 /// written.
 const FRAMES: [&str; CALLS] = [SUBSCRIBE, "07122200016162", "0216"];
 
-/// A gateway at which the client is connected, the calls that are left, and what it keeps.
+/// A gateway at which the client is connected, and the calls that are left.
 #[derive(Drop)]
 pub(crate) struct Togethers<R: Replica> {
     node: Gateway<R>,
     steps: Vec<Arc<Step>>,
-    stood: Vec<u8>,
 }
 
 impl<R: Replica> Made for Togethers<R> {
     fn make(said: &mut Said, _call: &str, _is_second: bool) -> Option<Togethers<R>> {
         match gateway(said, true) {
             Some(node) => Some(Togethers {
-                stood: kept(said, &node),
                 node,
                 steps: steps(said),
             }),
@@ -60,16 +58,19 @@ impl<R: Replica> Calls for Togethers<R> {
 impl<R: Replica> Togethers<R> {
     /// Makes the calls that are left in a row. Says whether none was refused.
     fn call_row(&mut self, said: &mut Said) -> bool {
-        match answered(said, &mut self.node, self.steps.as_slice()) {
-            Some(replies) => self.look_at_all(said, replies),
+        let stood = kept(said, &self.node);
+        let is_done = match answered(said, &mut self.node, self.steps.as_slice()) {
+            Some(replies) => self.look_at_all(said, replies, stood.as_slice()),
             None => false,
-        }
+        };
+        drop(stood);
+        is_done
     }
 
     /// Looks at what was answered, up to a refusal. Says whether there is none.
-    fn look_at_all(&mut self, said: &mut Said, replies: Vec<Reply>) -> bool {
+    fn look_at_all(&mut self, said: &mut Said, replies: Vec<Reply>, stood: &[u8]) -> bool {
         for reply in replies {
-            if !self.look(said, &reply) {
+            if !self.look(said, &reply, stood) {
                 return false;
             }
         }
@@ -77,8 +78,8 @@ impl<R: Replica> Togethers<R> {
     }
 
     /// Looks at the answer to the first call that is left. Says whether that was done: it is left no
-    /// more.
-    fn look(&mut self, said: &mut Said, reply: &Reply) -> bool {
+    /// more. A refusal comes before all other calls of its row: all is as it was.
+    fn look(&mut self, said: &mut Said, reply: &Reply, stood: &[u8]) -> bool {
         match reply {
             Ok(shares) => {
                 show_out(said, shares.out());
@@ -87,12 +88,13 @@ impl<R: Replica> Togethers<R> {
             }
             Err(Refusal::Disk { excuse }) => {
                 said.keep(is_excuse(excuse.out(), NOT_SUBSCRIBED));
-                self.look_halted(said);
+                self.look_halted(said, stood);
                 false
             }
             Err(refusal) => {
                 said.keep(!self.node.is_halted());
                 said.refuse(matches!(refusal, Refusal::Memory));
+                self.look_unchanged(said, stood);
                 false
             }
         }
@@ -105,13 +107,18 @@ impl<R: Replica> Togethers<R> {
         }
     }
 
-    /// Looks at a gateway whose disk failed: all is as it was. Puts one as it was in its place.
-    fn look_halted(&mut self, said: &mut Said) {
+    /// Looks whether the gateway keeps what it kept.
+    fn look_unchanged(&self, said: &mut Said, stood: &[u8]) {
+        let stands = kept(said, &self.node);
+        said.keep(is_same(stands.as_slice(), stood));
+        drop(stands);
+    }
+
+    /// Looks at a gateway whose disk failed. Puts one as it was in its place.
+    fn look_halted(&mut self, said: &mut Said, stood: &[u8]) {
         said.keep(self.node.starved() && self.node.is_halted());
         said.starve();
-        let stands = kept(said, &self.node);
-        said.keep(is_same(stands.as_slice(), self.stood.as_slice()));
-        drop(stands);
+        self.look_unchanged(said, stood);
         if let Some(node) = gateway(said, true) {
             drop(mem::replace(&mut self.node, node));
         }
