@@ -104,6 +104,7 @@ FAULTS = {
     "gw_node::Node::compact": "Halted, Journal, Disk, Memory | call | call, taken, event",
     "gw_node::Node::reopen": "Disk, Journal, Conflict, Full, Memory | call | call, taken, event",
     "gw_node::Node::step": "Halted, Frame, Exhausted, Conflict, Full, Disk, Journal, Memory | call | call, taken, event",
+    "gw_node::Node::step_all": "Halted, Frame, Exhausted, Conflict, Full, Disk, Journal, Memory | events | events",
     "gw_node::Node::held": ROW,
     "gw_node::Node::clients": ROW,
     "gw_node::Node::retained": ROW,
@@ -112,6 +113,7 @@ FAULTS = {
     "gw_play::play": "1 | status, ended | printed",
     "gw_shift::Shift::open": "Memory | err | err",
     "gw_shift::Shift::call": "ShiftFull, Behind, Memory, Node | err | err",
+    "gw_shift::Shift::call_all": "ShiftFull, Behind, Memory | err | err",
     "gw_shift::Shift::after": "Behind, Memory | err | reads",
     "gw_shift::Shift::glance": ROW,
     "gw_shift::Shift::messages_known": ROW,
@@ -172,11 +174,12 @@ def contract(name):
 
 def variants(signature):
     """The faults of the type of faults in a signature."""
-    kind = re.search(r"(\w+Fault)\b", signature.rpartition("->")[2])
-    if "Answer" in signature.rpartition("->")[2]:
-        name = "NodeFault"
-    elif kind:
+    given = signature.rpartition("->")[2]
+    kind = re.search(r"(\w+Fault)\b", given)
+    if kind:
         name = kind[1]
+    elif "Answer" in given or "Reply" in given:
+        name = "NodeFault"
     elif "NoMemory" in signature or "AllocError" in signature:
         return {"Memory"}
     else:

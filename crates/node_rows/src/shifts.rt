@@ -145,7 +145,7 @@ where
 {
     match first {
         "beside" => call_beside(rt, page, shifts, words),
-        "row" => call_in_rows(rt, page, shifts, words),
+        "row" => call_in_row(rt, page, shifts, words),
         "after" => ask_after(rt, page, shifts, words),
         first => make_call(rt, page, shifts, first, words),
     }
@@ -441,56 +441,47 @@ where
     }
 }
 
-/// `row PLACE`: the pass at this place makes the calls that are planned in a row, and in another
-/// those that a row left, up to one that the shift does not make. They are planned no more.
-fn call_in_rows<T: Wait + AllocGlobal, R: Replica>(
+/// `row PLACE COUNT`: the pass at this place makes the calls that are planned in a row. So many are
+/// made, and planned no more; the others are for another row. Fewer are made if memory ran out.
+fn call_in_row<T: Wait + AllocGlobal, R: Replica>(
     rt: &T,
     page: &mut Page,
     shifts: &mut Shifts<R>,
     words: &mut Words,
 ) {
     let place = words.count();
+    let count = words.count();
     words.require(shifts.is_open() && sits(shifts.seats.as_slice(), place));
     if words.end(page) {
-        call_rows(rt, page, shifts, place);
-        shifts.planned.clear();
+        let made = call_planned(rt, page, shifts, place);
+        page.stop_if_short(made < count);
+        forget_first(&mut shifts.planned, made);
     }
 }
 
-/// The pass at a place makes the calls that are planned.
-fn call_rows<T: Wait + AllocGlobal, R: Replica>(
+/// The pass at a place makes the calls that are planned, in one row. Says how many were made.
+fn call_planned<T: Wait + AllocGlobal, R: Replica>(
     rt: &T,
     page: &mut Page,
     shifts: &mut Shifts<R>,
     place: usize,
-) {
-    let mut made = 0usize;
-    for _ in 0..shifts.planned.len() {
-        let count = call_next_row(rt, page, shifts, place, made);
-        if count == 0 {
-            return;
-        }
-        made = made.saturating_add(count);
-    }
-}
-
-/// The pass at a place makes the calls that are planned behind so many, in one row. Says how many
-/// were made.
-fn call_next_row<T: Wait + AllocGlobal, R: Replica>(
-    rt: &T,
-    page: &mut Page,
-    shifts: &mut Shifts<R>,
-    place: usize,
-    made: usize,
 ) -> usize {
-    let from = made.min(shifts.planned.len());
-    let (_made, left) = shifts.planned.as_slice().split_at(from);
     if let Some(shift) = &shifts.open {
         if let Some(seat) = shifts.seats.get_mut(place) {
-            return play_one_row(rt, page, shift, seat, left);
+            return play_one_row(rt, page, shift, seat, shifts.planned.as_slice());
         }
     }
     0
+}
+
+/// So many of the first calls are planned no more.
+fn forget_first(planned: &mut Vec<Arc<Step>>, count: usize) {
+    for _ in 0..count {
+        if planned.is_empty() {
+            return;
+        }
+        drop(planned.remove(0));
+    }
 }
 
 /// The pass in a seat makes the first of these calls in a row. Says how many were made.
@@ -499,9 +490,9 @@ fn play_one_row<T: Wait + AllocGlobal, R: Replica>(
     page: &mut Page,
     shift: &Shift<R, MemoryDisk>,
     seat: &mut Seat,
-    left: &[Arc<Step>],
+    steps: &[Arc<Step>],
 ) -> usize {
-    match call_row(rt, rt.alloc(), shift, seat, left) {
+    match call_row(rt, rt.alloc(), shift, seat, steps) {
         Some(Ok((answers, first))) => {
             print_row(page, answers.as_slice(), first);
             let count = answers.len();

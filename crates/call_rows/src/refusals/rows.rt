@@ -16,6 +16,7 @@ use crate::refusals::reports::Reports;
 use crate::refusals::said::{Said, Stop};
 use crate::refusals::sessions::Sessions;
 use crate::refusals::steps::Steps;
+use crate::refusals::together::Togethers;
 use crate::refusals::topics::Topics;
 use crate::refusals::worlds::Worlds;
 use crate::refusals::{serving, shifts};
@@ -100,6 +101,7 @@ pub(crate) const ROWS: &str = "
     gw_node::Node::compact
     gw_node::Node::reopen
     gw_node::Node::step
+    gw_node::Node::step_all
     gw_node::Node::held
     gw_node::Node::clients
     gw_node::Node::retained
@@ -108,6 +110,7 @@ pub(crate) const ROWS: &str = "
     gw_play::play
     gw_shift::Shift::open
     gw_shift::Shift::call
+    gw_shift::Shift::call_all
     gw_shift::Shift::after
     gw_shift::Shift::glance
     gw_shift::Shift::messages_known
@@ -266,6 +269,8 @@ fn play_on<R: Replica>(said: &mut Said, home: &str, call: &str) {
 fn play_node<R: Replica>(said: &mut Said, call: &str) {
     if is_word(call, "Node::open") {
         play::<Openings<R>>(said, call);
+    } else if is_word(call, "Node::step_all") {
+        play::<Togethers<R>>(said, call);
     } else {
         play::<Gateways<R>>(said, call);
     }
