@@ -314,7 +314,7 @@ module _ (P : List Op → Type 0) (none : P [] → ⊥) (both : (A B : List Op) 
         row-explained Q old (λ e. inl (inr e)) (ShortStands old gateway called h.calm h.said h.mid made)
         (λ g mid call rest step answer more first w call_is does. short-next old gateway called h.calm h.said h.mid made g mid call rest step answer more first w call_is does)
         (λ g call rest answer more w occasion now plan called_is planned new ends.
-            of-among g occasion now plan (short-among old number i gateway at called answers h.calm h.said h.mid made led failed g call rest more w occasion now plan.sends called_is) planned new)
+            of-among g occasion now plan (short-among old number i gateway at called answers h.calm h.said h.mid made led failed g call rest (answer ∷ more) w occasion now plan.sends called_is) planned new)
         (record h.mid { drive = record h.mid.drive { plan = None } }) h.torn.there c.rest (h.call ∷ h.behind) h.torn.would h.torn.made
         (short-first old gateway called h.calm h.said h.mid made c.calm c.rest h.torn.would c.whole c.first) c.last h.torn.led before.by_taken before.by_refused in record {
           by_taken = λ e. before.by_taken (subst P (ap (λ (g : Gateway). g.taken) h.torn.halted) e);

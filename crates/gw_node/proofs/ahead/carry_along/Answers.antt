@@ -4,11 +4,11 @@ use Rattle.gw_node.specs.Parts.{state_of}
 use Rattle.gw_node.proofs.Unwritten.{nothing_done, carried_for, made_for}
 use Rattle.gw_node.proofs.ahead.carry_along.Goals as goal
 
-pub returns-then-len-gt-operations-clause-call : goal.returns-then-len-gt-operations-clause-call
-returns-then-len-gt-operations-clause-call g c = nothing_done (state_of g.R.Replica.kept c.args.node.now)
+pub returns-then-most-len-clause-call : goal.returns-then-most-len-clause-call
+returns-then-most-len-clause-call g c = nothing_done (state_of g.R.Replica.kept c.args.node.now)
 
-pub returns-then-len-gt-operations-clause-records : goal.returns-then-len-gt-operations-clause-records
-returns-then-len-gt-operations-clause-records g c = sym (append-nil c.args.records.now)
+pub returns-then-most-len-clause-records : goal.returns-then-most-len-clause-records
+returns-then-most-len-clause-records g c = sym (append-nil c.args.records.now)
 
 pub returns-clause-call : goal.returns-clause-call
 returns-clause-call g c =

@@ -5,11 +5,11 @@ use Rattle.gw_node.specs.Parts.{state_of}
 use Rattle.gw_node.proofs.Unwritten.{nothing_done, went_for, puts_for}
 use Rattle.gw_node.proofs.ahead.take_along.Goals as goal
 
-pub returns-then-ops-gt-operations-clause-call : goal.returns-then-ops-gt-operations-clause-call
-returns-then-ops-gt-operations-clause-call g c = nothing_done (state_of g.R.Replica.kept c.args.node.now)
+pub returns-then-most-ops-clause-call : goal.returns-then-most-ops-clause-call
+returns-then-most-ops-clause-call g c = nothing_done (state_of g.R.Replica.kept c.args.node.now)
 
-pub returns-then-ops-gt-operations-clause-records : goal.returns-then-ops-gt-operations-clause-records
-returns-then-ops-gt-operations-clause-records g c = sym (append-nil c.args.records.now)
+pub returns-then-most-ops-clause-records : goal.returns-then-most-ops-clause-records
+returns-then-most-ops-clause-records g c = sym (append-nil c.args.records.now)
 
 pub returns-clause-call : goal.returns-clause-call
 returns-clause-call g c =

@@ -15,8 +15,8 @@ carry_out-requires-clause-some g c = writer_some (state_of g.R.Replica.kept c.ar
 pub carry_out-requires-clause-excuse : goal.carry_out-requires-clause-excuse
 carry_out-requires-clause-excuse g c = writer_sends (state_of g.R.Replica.kept c.args.node.now) c.args.first.now c.args.plan c.args.excuse c.requires.writer
 
-pub returns-then-len-gt-operations : goal.returns-then-len-gt-operations
-returns-then-len-gt-operations g c =
+pub returns-then-most-len : goal.returns-then-most-len
+returns-then-most-len g c =
     let old = state_of g.R.Replica.kept c.args.node.now in
     let new = state_of g.R.Replica.kept c.carry_out.new.node in
     by_itself old new c.args.first.now (map arc_value c.args.rest.now) c.alone.result.items c.carry_out.result c.alone.ensures
