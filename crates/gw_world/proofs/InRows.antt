@@ -127,7 +127,7 @@ turn-fed old new [] (answer ∷ answers) made fed h = absurd h
 turn-fed old new (step ∷ called) [] made fed h = absurd h
 
 -- the list only grows
-step-later : (field : Field) (i : ℕ) (next : Gateway) (made : List (List Op)) (call : Call) (step : Step) → IsStepOf field call step → IsStepOf (changed field i next made) call step
+pub step-later : (field : Field) (i : ℕ) (next : Gateway) (made : List (List Op)) (call : Call) (step : Step) → IsStepOf field call step → IsStepOf (changed field i next made) call step
 step-later field i next made (calls.Frame from bytes now) step h = h
 step-later field i next made (calls.Tick now) step h = h
 step-later field i next made (calls.Take delta) step h = (h.0, (h.1.0, got-before field.deltas made (delta - 1) h.0 h.1.1), h.2)

@@ -1,5 +1,5 @@
 -- What a gateway accepts it serves.
-use Rattle.std.proofs.Common.{◌≡◌, ℕ, ◌⊎◌, List, [], slice_get, Option, Some, Contains, Result, Ok, refl, sym, ap, ◌∙◌, subst, inl, inr}
+use Rattle.std.proofs.Common.{false, ◌≡◌, ℕ, ◌⊎◌, List, [], slice_get, Option, Some, Contains, Result, Ok, refl, sym, ap, ◌∙◌, subst, inl, inr}
 use Rattle.std.specs.Option.{option_to_list}
 use Rattle.std.proofs.lemmas.Option.{same_Some}
 use Rattle.std.proofs.lemmas.List.Elements.{Contains-push}

@@ -88,7 +88,7 @@ due-home c m deltas number taken (delta ∷ refused) due there =
     ]
 
 -- the answer to an event that is one call
-IsOne : Answer → Type 0
+abbrev IsOne : Answer → Type 0
 IsOne (Node answer) = Unit {0}
 IsOne (Row answers) = ⊥
 IsOne (Views views topics) = ⊥
