@@ -1,9 +1,9 @@
 -- A node is asked calls with one write, the first ones and then the others: it does them as if it had been asked them at once.
-use Rattle.std.proofs.Common.{◌≡◌, ◌⊎◌, ◌<◌, ◌≤◌, ◌+◌, ℕ, zero, suc, false, List, [], ◌∷◌, ◌++◌, length, map, take, drop, Option, Some, None, Result, Ok, Err, refl, sym, ap, ◌∙◌, subst, append-nil, append_assoc, inl, inr, arith}
+use Rattle.std.proofs.Common.{◌≡◌, ◌⊎◌, ◌<◌, ◌≤◌, ◌+◌, ◌-◌, ℕ, zero, suc, false, List, [], ◌∷◌, ◌++◌, length, map, take, drop, Option, Some, None, Result, Ok, Err, refl, sym, ap, ◌∙◌, subst, append-nil, append_assoc, inl, inr, arith}
 use Rattle.std.specs.List.{AllByRecursion}
 use Rattle.std.specs.Option.{option_to_list}
 use Rattle.std.proofs.lemmas.Option.{none-some}
-use Rattle.std.proofs.lemmas.List.{length-append}
+use Rattle.std.proofs.lemmas.List.{length-append, take_all}
 use Rattle.rep_op.specs.declared.op.Op.{Op}
 use Rattle.rep_model.proofs.Joins.{all-left, all-right}
 use Rattle.sn_plan.specs.declared.plan.Plan.{Plan}
@@ -382,30 +382,50 @@ module _ {D : Type 0} {G : Ghosts D} {X Y : Type 0} (value : X → Step) (heard 
       subst (λ (xs : Answers). RowDone old (map value steps) (map heard before) xs new) (sym t.told)
       (row-done old new (map value steps) (map heard before) replies honest unstarved can fed asked (ways-told t ways) (omega (arith, size, third, less)))
 
-module _ {D : Type 0} {G : Ghosts D} {X Y : Type 0} (value : X → Step) (heard : Y → Result Out Refusal) (old new : State G) (steps : List X) (before after : List Y) (replies : Answers) (a b : ℕ) where
+-- one answer more is told
+pub told-on : {X Y : Type 0} (f : X → Y) (before : List X) (x : X) (more : List Y) → map f (before ++ x ∷ []) ++ more ≡ map f before ++ f x ∷ more
+told-on f [] x more = refl
+told-on f (b ∷ before) x more = ap (λ ys. f b ∷ ys) (told-on f before x more)
+
+-- a list of no length is none
+pub none-left : {X : Type 0} (n : ℕ) (xs : List X) → n ≡ 0 → n ≡ length xs → xs ≡ []
+none-left n [] e is = refl
+none-left n (x ∷ xs) e is = absurd (omega (arith, e, is))
+
+drop-short : {X : Type 0} (n : ℕ) (xs : List X) → length (drop n xs) ≤ length xs - n
+drop-short zero xs = omega arith
+drop-short (suc n) [] = omega arith
+drop-short (suc n) (x ∷ xs) = let rest = drop-short n xs in omega (arith, rest)
+
+-- a slice from a place on is the list from there
+pub slice-rest : {X : Type 0} (n a : ℕ) (xs : List X) → n ≡ a → take (length xs - n) (drop n xs) ≡ drop a xs
+slice-rest n a xs is = take_all (length xs - n) (drop n xs) (drop-short n xs) ∙ ap (λ (k : ℕ). drop k xs) is
+
+module _ {D : Type 0} {G : Ghosts D} {X Y : Type 0} (value : X → Step) (heard : Y → Result Out Refusal) (old new : State G) (steps part : List X) (before after : List Y) (replies : Answers) (a b : ℕ) where
   -- the same by how long the program's lists are
   pub record Heard : Type 0 where
+    pub part_is : part ≡ drop a steps
     pub front : a ≡ length before
     pub all : b ≡ length after
     pub told : map heard after ≡ map heard before ++ replies
     pub some : 0 < length replies
-    pub most : length replies ≤ length (drop a steps)
+    pub most : length replies ≤ length part
     pub less : a < length steps
 
   pub told-of : Heard → Told value heard old new steps before after replies
   told-of h = record {
     told = h.told;
     some = h.some;
-    most = subst (λ (n : ℕ). length replies ≤ length (drop n steps)) h.front h.most;
+    most = subst (λ (n : ℕ). length replies ≤ length (drop n steps)) h.front (subst (λ (xs : List X). length replies ≤ length xs) h.part_is h.most);
     less = subst (λ (n : ℕ). n < length steps) h.front h.less;
   }
 
   pub heard-row : Heard → G.honest → G.starved (disk_of new.journal) ≡ false → AllByRecursion CanWrite (map value steps) → AllByRecursion IsFed replies
-      → EventsOn old (take (length replies) (map value (drop a steps))) replies new → NoneFailed replies ⊎ (length steps ≤ b)
+      → EventsOn old (take (length replies) (map value part)) replies new → NoneFailed replies ⊎ (length steps ≤ b)
       → RowDone old (map value steps) (map heard before) (map heard after) new
   heard-row h honest unstarved can fed event ways =
       row-of-node value heard old new steps before after replies (told-of h) honest unstarved can fed
-      (subst (λ (n : ℕ). EventsOn old (take (length replies) (map value (drop n steps))) replies new) h.front event)
+      (subst (λ (n : ℕ). EventsOn old (take (length replies) (map value (drop n steps))) replies new) h.front (subst (λ (xs : List X). EventsOn old (take (length replies) (map value xs)) replies new) h.part_is event))
       (subst (λ (n : ℕ). NoneFailed replies ⊎ (length steps ≤ n)) h.all ways)
 
   pub heard-more : Heard → a < b
@@ -415,9 +435,9 @@ module _ {D : Type 0} {G : Ghosts D} {X Y : Type 0} (value : X → Step) (heard 
   heard-most h = let most = most-told value heard old new steps before after replies (told-of h) in let all = h.all in omega (arith, most, all)
 
 -- so many answers as calls
-pub both-long : {X Y : Type 0} (value : X → Step) (heard : Y → Result Out Refusal) (steps : List X) (answers : List Y) (a : ℕ) → a ≡ length answers → a ≤ length steps → (a < length steps → ⊥) → length (map heard answers) ≡ length (map value steps)
-both-long value heard steps answers a is few not_less =
+pub both-long : {X Y : Type 0} (value : X → Step) (heard : Y → Result Out Refusal) (steps : List X) (answers : List Y) (a n : ℕ) → a ≡ length answers → n ≡ a → a ≤ length steps → length steps ≤ n → length (map heard answers) ≡ length (map value steps)
+both-long value heard steps answers a n is same_long few all =
     let first = map-long heard answers in
     let second = map-long value steps in
-    let same : a ≡ length steps = omega (arith, few, not_less) in
+    let same : a ≡ length steps = omega (arith, few, same_long, all) in
     omega (arith, first, second, is, same)
