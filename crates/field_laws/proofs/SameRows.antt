@@ -122,11 +122,11 @@ pub record Fell (g : Gateway) (calm : List Step) (said : Answers) (step : Step) 
   pub led : InTurnBy StepOf g calm said mid m
   pub torn : AreTorn mid step answer behind n
 
-head-or : {X : Type 0} → X → List X → X
+abbrev head-or : {X : Type 0} → X → List X → X
 head-or x [] = x
 head-or x (y ∷ ys) = y
 
-tail-of : {X : Type 0} → List X → List X
+abbrev tail-of : {X : Type 0} → List X → List X
 tail-of [] = []
 tail-of (y ∷ ys) = ys
 

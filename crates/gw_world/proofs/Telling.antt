@@ -175,7 +175,7 @@ halted-told : (behind : List Step) → made_of_all (halted_all behind) ≡ []
 halted-told [] = refl
 halted-told (step ∷ behind) = halted-told behind
 
-short-told : (old new : Field) (number : ℕ) (called : List Call) (answers : Answers) (c : CutShort old number called answers new) → made_of_all answers ≡ made_of_all c.said
+pub short-told : (old new : Field) (number : ℕ) (called : List Call) (answers : Answers) (c : CutShort old number called answers new) → made_of_all answers ≡ made_of_all c.said
 short-told old new number called answers c =
     let last : made_of_all (c.answer ∷ halted_all c.steps_behind) ≡ [] = ap (λ (a : Result Out Refusal). made_of a ++ made_of_all (halted_all c.steps_behind)) c.torn.told ∙ halted-told c.steps_behind in
     ap (λ (xs : Answers). made_of_all xs) c.answers_are ∙ flat_map-append made_of c.said (c.answer ∷ halted_all c.steps_behind)
