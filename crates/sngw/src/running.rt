@@ -681,21 +681,53 @@ where
         return Ok(());
     }
     for _ in rt.forever() {
-        let tended = tend_behind(rt, alloc, node, shared, keeper, said)?;
-        if is_written(tended) {
-            keeper.note_written();
-            shared.board.set(Number::Halted, 0);
+        if write_once(rt, alloc, node, inlet, shared, keeper, said)? {
             return Ok(());
         }
-        if tended == Tended::Starved {
-            tell(rt, alloc, node, said);
-        }
-        let silence = keeper.wait_longer();
-        shared.board.set(Number::Halted, 1);
-        shared.board.note_failed(rt);
-        be_silent(rt, inlet, shared, silence);
     }
     unreachable!()
+}
+
+/// Tries it once, and waits if it is not written. True if it is.
+fn write_once<T, R, D>(
+    rt: &T,
+    alloc: Global,
+    node: &mut Node<R, D>,
+    inlet: &mut Inlet,
+    shared: &Shared,
+    keeper: &mut Keeper<'_>,
+    said: Said<'_>,
+) -> Result<bool, Stop>
+where
+    T: Wait + Clock + Print + Eprint + Files<File = File>,
+    R: Replica,
+    D: Disk + Drop,
+{
+    let tended = tend_behind(rt, alloc, node, shared, keeper, said)?;
+    if tended == Tended::Starved {
+        tell(rt, alloc, node, said);
+    }
+    let is_done = is_written(tended);
+    if is_done {
+        keeper.note_written();
+        shared.board.set(Number::Halted, 0);
+    } else {
+        wait_halted(rt, inlet, shared, keeper);
+    }
+    Ok(is_done)
+}
+
+/// Notes that the gateway cannot write, and waits. What has come meanwhile is dropped.
+fn wait_halted<T: Clock + Wait>(
+    rt: &T,
+    inlet: &mut Inlet,
+    shared: &Shared,
+    keeper: &mut Keeper<'_>,
+) {
+    let silence = keeper.wait_longer();
+    shared.board.set(Number::Halted, 1);
+    shared.board.note_failed(rt);
+    be_silent(rt, inlet, shared, silence);
 }
 
 /// Waits so many seconds. What has come meanwhile is dropped.
