@@ -1,6 +1,6 @@
 //! A gateway that threads share.
 
-ghost use Rattle.std.specs.Prelude.{◌≡◌, ◌≤◌, ◌<◌, ℕ, IfOk, IfErr, Ok, length, map, vec_capacity, List, []};
+ghost use Rattle.std.specs.Prelude.{◌≡◌, ◌≤◌, ◌<◌, ◌+◌, ℕ, IfOk, IfErr, Ok, length, map, vec_capacity, List, []};
 ghost use Rattle.std.specs.Arc.{arc_value};
 ghost use Rattle.rep_op.specs.declared.op.Op.{Op};
 ghost use Rattle.rep_model.specs.Held.{IsHeld};
@@ -164,6 +164,7 @@ impl<R: Replica, D: Disk + Drop> Shift<R, D> {
         requires { 0 < length steps.now }
         ensures ok { IfOk result (λ r. MadeInRow pass (map arc_value steps.now)
             (map said r.1.items) r.2 r.0) }
+        ensures numbers { IfOk result (λ r. r.2 + length r.1.items ≤ MAX_STEPS + 1) }
         ensures err { IfErr result (λ refused. NoneMade pass refused.1 refused.0) }
     {
         let mut pass = pass;

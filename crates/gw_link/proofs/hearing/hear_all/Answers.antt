@@ -7,7 +7,3 @@ returns-in-Err-heard g c = adds_more is_of_link _ _ _ c.loop.invariant c.hear_ro
 
 pub loop-preserved : goal.loop-preserved
 loop-preserved g c = adds_more is_of_link _ _ _ c.loop.invariant c.hear_row-after.ensures
-
-pub loop-preserved-in_default-heard : goal.loop-preserved-in_default-heard
-loop-preserved-in_default-heard g c =
-    adds_more is_of_link _ _ _ c.loop.invariant c.hear_row-after.ensures

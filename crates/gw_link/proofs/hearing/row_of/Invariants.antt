@@ -5,4 +5,4 @@ use Rattle.gw_link.proofs.hearing.row_of.Given as goal
 
 -- all that are in the row are another gateway's
 abbrev pub invariant-loop-index : goal.invariant-loop-index
-invariant-loop-index l = AllAre is_of_link (map arc_value l.row.steps.items)
+invariant-loop-index g l = AllAre is_of_link (map arc_value l.row.steps.items)
