@@ -152,7 +152,7 @@ one_and_many() {
     compare "$1 PUBLISH of one client$2, $octets octets of the journal each" "$proved_line" "$plain_line"
     alone=$(told rate "$proved_line")
     if [ -n "${BEFORE:-}" ]; then
-        goal "of what the daemon before does it does" "$(by "$alone" "$(told rate "$(best "$work/before")")")" 1
+        goal "of what the daemon before does it does" "$(by "$alone" "$(told rate "$(best "$work/before")")")" 0.95
     fi
     puts 32 "$1"
     compare "$1 PUBLISH of 32 clients$2, $octets octets of the journal each" "$proved_line" "$plain_line"

@@ -7,7 +7,7 @@ The parts, all where none is named:
 
   kills   the daemon is killed N times (100) amid publications at quality of service 1 of N clients (32), of which each has one under way, while
           each sync takes 10 ms longer. Behind each start all that was acknowledged is in the journal, and in the end it comes to who sleeps.
-          There are fewer syncs than half of what was acknowledged
+          There are fewer syncs than half of what was acknowledged, though the clients connect anew behind each start
   fails   N times (10) a write or a sync fails amid the same: one publication is refused each time, and what was acknowledged comes to who sleeps
   held    the reply to one datagram goes out two seconds late, and a datagram right behind it is answered before, by the other of two workers
   peer    64 deltas that come over a link at once are in the journal with one sync, or with two
@@ -188,7 +188,8 @@ def kills(program: str, folder: str, options) -> str:
             crowd.begin()
             slow.say(LATER)
             before = slow.syncs()
-            crowd.publish(topic_of(turn), chance.uniform(0.05, 0.5))
+            wanted = len(crowd.kept) + chance.randint(1, 3 * options.clients)
+            crowd.publish(topic_of(turn), 60, lambda wanted=wanted: len(crowd.kept) >= wanted)
             gateway.kill()
             syncs += slow.syncs() - before
             crowd.drain()

@@ -452,6 +452,7 @@ fn call_in_row<T: Wait + AllocGlobal, R: Replica>(
     let place = words.count();
     let count = words.count();
     words.require(shifts.is_open() && sits(shifts.seats.as_slice(), place));
+    words.require(count <= shifts.planned.len());
     if words.end(page) {
         let made = call_planned(rt, page, shifts, place);
         page.stop_if_short(made < count);

@@ -23,7 +23,8 @@ pub(crate) fn there_and_back(
     let first = next(number);
     let second = next(first);
     if let Some(one) = delta(words, first, size) {
-        back_over(words, pair, one, delta(words, second, size), is_plain);
+        let other = delta(words, second, size);
+        back_over(words, pair, one, other, is_plain);
     }
     second
 }
