@@ -1,10 +1,12 @@
 //! Datagrams that a worker took at once: their calls are made in as few calls of the shift as may
 //! be, mostly one, and their replies are sent when all are made.
 
-ghost use Rattle.std.specs.Prelude.{◌≡◌, ◌≤◌, ◌<◌, ◌+◌, ◌^◌, ◌++◌, ◌∷◌, [], true, Some, None, IfOk, IfSome, OnOk, All, length, map, take, drop, vec_len, vec_capacity};
+ghost use Rattle.std.specs.Prelude.{◌≡◌, ℕ, ◌≤◌, ◌<◌, ◌+◌, ◌^◌, ◌++◌, ◌∷◌, [], true, Some, None, IfOk, IfSome, OnOk, All, length, map, take, drop, vec_len, vec_capacity};
 ghost use Rattle.std.specs.Arc.{arc_value};
 ghost use Rattle.crossbeam_channel.specs.Claims.{view, IsSeatAt};
 ghost use Rattle.crossbeam_channel.specs.Ends.{receives_on};
+ghost use Rattle.gw_shift.specs.Calls.{Holder};
+ghost use Rattle.gw_shift.specs.Calling.{NoneMade};
 ghost use Rattle.gw_serve.specs.Serving.{is_frame, Gains};
 ghost use Rattle.gw_serve.specs.inner.Queue.{hand};
 ghost use Rattle.gw_serve.specs.inner.Rows.{IsRow, IsEmptyRow, HasTaken, IsCalled, IsEnd, numbers_from};
@@ -157,7 +159,11 @@ pub fn call_row<T: Wait, R: Replica, D: Disk + Drop, P: Post, G: Gate>(
 }
 
 /// Why a row has no more calls, if the shift made none of what is left.
-fn end_of(fault: CallFault) -> End {
+#[tactic(auto, using(crate::proofs::Rows::end_behind, crate::proofs::Rows::end_memory))]
+fn end_of(fault: CallFault) -> End
+    ensures { (before after : Holder) (count made : ℕ) → NoneMade before fault after
+        → IsEnd count made result after }
+{
     match fault {
         CallFault::ShiftFull => End::Full,
         CallFault::Behind { .. } => End::Failed(Trouble::Behind),
