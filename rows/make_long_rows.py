@@ -433,17 +433,18 @@ def many_operations():
 
 
 def refused_within():
-    """The deltas of parked_operations are taken in one row of calls, which fails. All survives of it but what is refused."""
-    parked = parked_operations()
-    at = next(at for at, (line, _) in enumerate(parked) if line.startswith("take "))
-    row = Row()
-    row.lines = parked[:at]
-    calls = [(line, printed) for line, printed in parked[at:] if line.startswith("take ")]
-    row.line("fail 2 sync")
-    row.together(2, (calls[0][0], ["refused N3"]), *[(line, ["refused N2"]) for line, _ in calls[1:]])
-    row.line("show 2", "empty")
-    row.line("restart 2 all", "records %d" % sum(list(printed) == ["quiet"] for _, printed in calls))
-    row.lines.append(parked[-1])
+    """1,024 clients: a delta that names another one is refused within a row of calls, and within one that fails and survives."""
+    row = Row(1, 2)
+    row.made("frame 2 7 0 " + connect("z1", 4), "to 7 030500")
+    numbers = range(1, 1025)
+    row.together(1, *[("frame 1 %d 0 %s" % (number, connect("c%04d" % number, 4)), ["to %d 030500" % number, "delta"]) for number in numbers])
+    ask = "frame 1 %d 1 07122200016162"
+    take = ("take 1 1", ["refused N5"])
+    row.together(1, (ask % 1, ["to 1 0813200000000100", "delta"]), take, (ask % 2, ["to 2 0813200000000100", "delta"]))
+    row.line("fail 1 sync")
+    row.together(1, (ask % 3, ["to 3 0813200000000101", "refused N3"]), (take[0], ["refused N2"]), (ask % 4, ["refused N2"]))
+    row.line("restart 1 all", "records 1028")
+    row.line(*take[:1], *take[1])
     return row.lines
 
 
