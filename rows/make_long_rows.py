@@ -432,22 +432,6 @@ def many_operations():
     return row.lines
 
 
-def refused_within():
-    """1,024 clients: a delta that names another one is refused within a row of calls, and within one that fails and survives."""
-    row = Row(1, 2)
-    row.made("frame 2 7 0 " + connect("z1", 4), "to 7 030500")
-    numbers = range(1, 1025)
-    row.together(1, *[("frame 1 %d 0 %s" % (number, connect("c%04d" % number, 4)), ["to %d 030500" % number, "delta"]) for number in numbers])
-    ask = "frame 1 %d 1 07122200016162"
-    take = ("take 1 1", ["refused N5"])
-    row.together(1, (ask % 1, ["to 1 0813200000000100", "delta"]), take, (ask % 2, ["to 2 0813200000000100", "delta"]))
-    row.line("fail 1 sync")
-    row.together(1, (ask % 3, ["to 3 0813200000000101", "refused N3"]), (take[0], ["refused N2"]), (ask % 4, ["refused N2"]))
-    row.line("restart 1 all", "records 1028")
-    row.line(*take[:1], *take[1])
-    return row.lines
-
-
 ROWS = {
     "handed-as-a-stamp-ends": stamps,
     "limit-of-a-delta": size_of_a_delta,
@@ -462,6 +446,5 @@ ROWS = {
     "together-roll-over": rolled_over,
     "together-roll-over-fails": roll_over_fails,
     "together-roll-over-survives": roll_over_survives,
-    "together-with-a-delta-that-is-refused": refused_within,
     "together-with-more-than-64-operations": many_operations,
 }
