@@ -432,21 +432,6 @@ def many_operations():
     return row.lines
 
 
-def refused_within():
-    """The deltas of parked_operations are taken in one row of calls, which fails. All survives of it but what is refused."""
-    parked = parked_operations()
-    at = next(at for at, (line, _) in enumerate(parked) if line.startswith("take "))
-    row = Row()
-    row.lines = parked[:at]
-    calls = [(line, printed) for line, printed in parked[at:] if line.startswith("take ")]
-    row.line("fail 2 sync")
-    row.together(2, (calls[0][0], ["refused N3"]), *[(line, ["refused N2"]) for line, _ in calls[1:]])
-    row.line("show 2", "empty")
-    row.line("restart 2 all", "records %d" % sum(list(printed) == ["quiet"] for _, printed in calls))
-    row.lines.append(parked[-1])
-    return row.lines
-
-
 ROWS = {
     "handed-as-a-stamp-ends": stamps,
     "limit-of-a-delta": size_of_a_delta,
@@ -461,6 +446,5 @@ ROWS = {
     "together-roll-over": rolled_over,
     "together-roll-over-fails": roll_over_fails,
     "together-roll-over-survives": roll_over_survives,
-    "together-with-a-delta-that-is-refused": refused_within,
     "together-with-more-than-64-operations": many_operations,
 }
