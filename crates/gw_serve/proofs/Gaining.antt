@@ -1,5 +1,5 @@
 -- What steps add to a pass.
-use Rattle.std.proofs.Common.{◌≡◌, ◌<◌, ◌≤◌, ◌+◌, ℕ, Result, true, All, List, [], ◌∷◌, ◌++◌, length, map, Option, IfSome, Some, None, is_some, inl, inr, true≢false, sym, refl, ap, ◌∙◌, subst, append-nil, arith}
+use Rattle.std.proofs.Common.{eqb-true, false, ◌==◌, ◌≡◌, ◌<◌, ◌≤◌, ◌+◌, ℕ, Result, true, All, List, [], ◌∷◌, ◌++◌, length, map, Option, IfSome, Some, None, is_some, inl, inr, true≢false, sym, refl, ap, ◌∙◌, subst, append-nil, arith}
 use Rattle.std.proofs.lemmas.List.{map-append}
 use Rattle.std.proofs.lemmas.Option.{same_Some, none-some}
 use Rattle.std.proofs.lemmas.List.Elements.{All-append, All-cons, All-head, All-nil, All-tail}
@@ -95,6 +95,14 @@ pub kept : (before : Holder) (v v' : Hand) (t t' : List Taken) (l l' : List ℕ)
 kept before v v' t t' l l' pass a b d was =
     subst (λ (x : Hand). IsWorking before x t' l' pass) (sym a) (subst (λ (x : List Taken). IsWorking before v x l' pass) (sym b) (subst (λ (x : List ℕ). IsWorking before v t x pass) (sym d) was))
 
+-- two tests
+pub is_zero : (n : ℕ) → true ≡ (n == 0) → n ≡ 0
+is_zero n e = eqb-true n 0 (sym e)
+
+pub none_of : (o : Option Trouble) → is_some o ≡ false → o ≡ None
+none_of None e = refl
+none_of (Some trouble) e = absurd (true≢false e)
+
 -- what a row of numbers does to a seat
 pub handled : (before : Holder) (v w : Hand) (t t' : List Taken) (l l' numbers : List ℕ) (pass after : Holder) → IsWorking before v t l pass → HasTaken v numbers w
     → IsHandled pass numbers t l None t' l' after → IsWorking before w t' l' after
@@ -160,4 +168,18 @@ module _ {Q M L A : Type 0} (c : Rows (Badge (Key Datagram)) (Doing Datagram Han
         gains = (map (λ (u : Taken). u.step) taken ++ gains.0.0, gains_more before pass seat.pass (map (λ (u : Taken). u.step) taken) gains.0.0 was.gains gains.0.1);
         working = λ none. absurd (true≢false (ap is_some (sym fault ∙ none)));
         behind = λ e. gains.1 (same_Some cause troubles.Behind (sym fault ∙ e));
+      }
+
+  -- a row was handled, and the worker ends
+  pub ended : (before : Holder) (v : Hand) (taken : List Taken) (left : List ℕ) (pass : Holder) (numbers : List ℕ) (seat : Seat) → IsWorking before v taken left pass → IsSeatAt c seat.ticket → HasTaken v numbers (view seat.ticket)
+      → IsHandled pass numbers taken left seat.fault seat.taken.items seat.left.items seat.pass → IsWorked c before seat
+  ended before v taken left pass numbers seat was channel is h =
+      record {
+        channel = channel;
+        part = ap (λ (u : Hand). u.parts) is ∙ was.part;
+        unsent = ap (λ (u : Hand). u.sent) is ∙ was.unsent;
+        gains = (map (λ (u : Taken). u.step) taken ++ h.gains.0, gains_more before pass seat.pass (map (λ (u : Taken). u.step) taken) h.gains.0 was.gains h.gains.1);
+        working = λ none. handled before v (view seat.ticket) taken seat.taken.items left seat.left.items numbers pass seat.pass was is
+            (subst (λ (f : Option Trouble). IsHandled pass numbers taken left f seat.taken.items seat.left.items seat.pass) none h);
+        behind = h.behind;
       }

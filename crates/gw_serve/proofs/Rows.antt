@@ -1,5 +1,5 @@
 -- What becomes of a row.
-use Rattle.std.proofs.Common.{◌≡◌, ◌≤◌, ◌<◌, ◌+◌, ◌-◌, ℕ, zero, suc, true, All, Result, Option, Some, None, is_some, true≢false, List, [], ◌∷◌, ◌++◌, length, map, take, drop, sym, refl, ap, ◌∙◌, subst, append-nil, arith}
+use Rattle.std.proofs.Common.{◌≡◌, ◌≤◌, ◌<◌, ◌+◌, ◌-◌, ℕ, zero, suc, true, All, Result, Option, IfSome, Some, None, is_some, true≢false, List, [], ◌∷◌, ◌++◌, length, map, take, drop, sym, refl, ap, ◌∙◌, subst, append-nil, arith}
 use Rattle.std.proofs.lemmas.List.{take-append-drop, drop_all, take_all, length-drop, drop-map}
 use Rattle.std.proofs.lemmas.List.Elements.{All-drop}
 use Rattle.std.proofs.lemmas.Option.{same_Some}
@@ -18,7 +18,7 @@ use Rattle.gw_shift.specs.declared.fault.CallFault.TheVariants as faults
 use Rattle.gw_serve.specs.declared.row.End.TheVariants.{Failed}
 use Rattle.gw_serve.specs.inner.Rows.{IsCalled, IsEnd, numbers_from}
 use Rattle.gw_serve.specs.Serving.{is_frame, Gains}
-use Rattle.gw_serve.proofs.Gaining.{gains_row, gains_more, none_behind, memory_is_not_behind}
+use Rattle.gw_serve.proofs.Gaining.{gains_row, gains_more, only_memory, memory_is_not_behind}
 
 abbrev taken_of : Called → Taken
 taken_of c = c.taken
@@ -33,10 +33,10 @@ both_maps : (f : Taken → ℕ) (called : List Called) → map f (map taken_of c
 both_maps f [] = refl
 both_maps f (c ∷ called) = ap (λ (ns : List ℕ). f c.taken ∷ ns) (both_maps f called)
 
--- the first became calls, and the others are left
-pub row_rest : (before : Holder) (numbers : List ℕ) (called : List Called) (taken all : List Taken) (left rest : List ℕ) (after : Holder) → IsCalled before numbers called after
-    → all ≡ taken ++ map taken_of called → rest ≡ left ++ drop (length called) numbers → IsHandled before numbers taken left None all rest after
-row_rest before numbers called taken all left rest after made noted kept =
+-- the first became calls, and the others are left; memory may have run out at the gateway
+pub row_rest : (before : Holder) (numbers : List ℕ) (called : List Called) (taken all : List Taken) (left rest : List ℕ) (trouble : Option Trouble) (after : Holder) → IfSome trouble (λ t. t ≡ troubles.Memory)
+    → IsCalled before numbers called after → all ≡ taken ++ map taken_of called → rest ≡ left ++ drop (length called) numbers → IsHandled before numbers taken left trouble all rest after
+row_rest before numbers called taken all left rest trouble after only made noted kept =
     let more : List Taken = map taken_of called in
     let steps : Gains before (map step_of more) after =
     subst (λ (ns : List ℕ). Gains before ns after) (sym (both_maps step_of called)) made.gains in
@@ -50,16 +50,16 @@ row_rest before numbers called taken all left rest after made noted kept =
         ap (λ (ns : List ℕ). ns ++ drop (length called) numbers) (both_maps datagram_of called ∙ made.datagrams) ∙ take-append-drop (length called) numbers,
         steps,
       );
-      behind = λ e. absurd (none_behind e);
+      behind = λ e. absurd (only_memory trouble only e);
     }
 
 -- all became calls
-pub row_all : (before : Holder) (numbers : List ℕ) (called : List Called) (taken all : List Taken) (left rest : List ℕ) (after : Holder) → IsCalled before numbers called after
-    → length called ≡ length numbers → all ≡ taken ++ map taken_of called → rest ≡ left → IsHandled before numbers taken left None all rest after
-row_all before numbers called taken all left rest after made whole noted kept =
+pub row_all : (before : Holder) (numbers : List ℕ) (called : List Called) (taken all : List Taken) (left : List ℕ) (trouble : Option Trouble) (after : Holder) → IfSome trouble (λ t. t ≡ troubles.Memory)
+    → IsCalled before numbers called after → length called ≡ length numbers → all ≡ taken ++ map taken_of called → IsHandled before numbers taken left trouble all left after
+row_all before numbers called taken all left trouble after only made whole noted =
     let none : drop (length called) numbers ≡ [] = drop_all (length called) numbers (omega (arith, whole)) in
-    row_rest before numbers called taken all left rest after made noted
-    (kept ∙ sym (append-nil left) ∙ ap (λ (ns : List ℕ). left ++ ns) (sym none))
+    row_rest before numbers called taken all left left trouble after only made noted
+    (sym (append-nil left) ∙ ap (λ (ns : List ℕ). left ++ ns) (sym none))
 
 -- the worker must end
 pub row_failed : (before : Holder) (numbers : List ℕ) (called : List Called) (taken all : List Taken) (left rest : List ℕ) (trouble : Trouble) (after : Holder)
@@ -69,12 +69,6 @@ row_failed before numbers called taken all left rest trouble after made behind =
   done = λ none. absurd (true≢false (ap is_some none));
   behind = λ e. behind (same_Some trouble troubles.Behind e);
 }
-
--- so it must if the gateway ran out of memory
-pub row_wanting : (before : Holder) (numbers : List ℕ) (called : List Called) (taken all : List Taken) (left rest : List ℕ) (after : Holder) → IsCalled before numbers called after
-    → IsHandled before numbers taken left (Some troubles.Memory) all rest after
-row_wanting before numbers called taken all left rest after made =
-    row_failed before numbers called taken all left rest troubles.Memory after made (λ e. absurd (memory_is_not_behind e))
 
 -- ---- why a row has no more calls
 
@@ -106,9 +100,9 @@ pub called_on : (before pass after : Holder) (numbers : List ℕ) (steps : List 
     → (map (λ (c : Called). c.taken.datagram) new ≡ take (length new) numbers) × Gains before (map (λ (c : Called). c.taken.step) new) after
 called_on before pass after numbers steps answers number old new n d same gains frames made is at long datagrams stepped = (
   datagrams ∙ ap (λ (k : ℕ). map (λ (c : Called). c.taken.datagram) old ++ take n (drop k numbers)) at ∙ ap (λ (ns : List ℕ). ns ++ take n (drop (length old) numbers)) same
-  ∙ take-plus (length old) n numbers ∙ ap (λ (k : ℕ). take k numbers) (sym long),
+      ∙ take-plus (length old) n numbers ∙ ap (λ (k : ℕ). take k numbers) (sym long),
   subst (λ (ns : List ℕ). Gains before ns after) (sym (stepped ∙ ap (λ (k : ℕ). map (λ (c : Called). c.taken.step) old ++ numbers_from number k) is))
-  (gains_more before pass after (map (λ (c : Called). c.taken.step) old) (numbers_from number (length answers)) gains (gains_row pass steps answers number after frames made)),
+      (gains_more before pass after (map (λ (c : Called). c.taken.step) old) (numbers_from number (length answers)) gains (gains_row pass steps answers number after frames made)),
 )
 
 -- the frames that are left
@@ -116,3 +110,8 @@ pub frames_left : {X : Type 0} (value : X → Step) (n : ℕ) (xs : List X) → 
 frames_left value n xs frames =
     subst (λ (ys : List Step). All (λ (step : Step). is_frame step ≡ true) ys) (drop-map value n xs ∙ ap (λ ys. map value ys) (sym (slice_rest n xs)))
     (All-drop (λ (step : Step). is_frame step ≡ true) n (map value xs) frames)
+
+-- a list of no length is none
+pub none_left : {X : Type 0} (n : ℕ) (xs : List X) → n ≡ 0 → n ≡ length xs → xs ≡ []
+none_left n [] e is = refl
+none_left n (x ∷ xs) e is = absurd (omega (arith, e, is))

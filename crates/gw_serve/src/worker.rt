@@ -3,6 +3,7 @@
 ghost use Rattle.std.specs.Prelude.{◌≡◌, ◌≤◌, ◌+◌, vec_len, vec_capacity, None, [], IfSome};
 ghost use Rattle.crossbeam_channel.specs.Ends.{receives_on};
 ghost use Rattle.gw_serve.specs.declared.queue.TheConstants.{CAPACITY};
+ghost use Rattle.gw_serve.specs.declared.worker.Trouble.TheVariants as troubles;
 ghost use Rattle.gw_serve.specs.inner.Handling.{IsHandled};
 ghost use Rattle.gw_serve.specs.inner.Rows.{IsRow, IsEmptyRow};
 ghost use Rattle.gw_serve.specs.inner.Work.{IsFresh, IsWorked};
@@ -216,7 +217,6 @@ fn room_for(alloc: Global, taken: &mut Vec<Taken>, left: &mut Vec<u64>) -> Optio
 
 /// Makes the calls of a row, which ends the worker's turn, and sends their replies after the lock.
 /// What the shift does not make is left, and the reader is to stop.
-#[tactic(auto, using(crate::proofs::Rows::row_all, crate::proofs::Rows::row_rest, crate::proofs::Rows::row_failed, crate::proofs::Rows::row_wanting))]
 fn handle<T: Wait, R: Replica, D: Disk + Drop, P: Post, G: Gate>(
     shared: &Shared<'_, T, R, D, P, G>,
     pass: Pass,
@@ -243,12 +243,22 @@ fn handle<T: Wait, R: Replica, D: Disk + Drop, P: Post, G: Gate>(
     let is_wanting = tell_all(shared.post, shared.gate, called, taken);
     match end {
         End::Failed(trouble) => (pass, Some(trouble)),
-        _ if is_wanting => (pass, Some(Trouble::Memory)),
-        End::Done => (pass, None),
+        End::Done => (pass, trouble_if(is_wanting)),
         End::Full => {
             leave_rest(numbers.as_slice(), count, left);
             shared.stop.store(true, Ordering::SeqCst);
-            (pass, None)
+            (pass, trouble_if(is_wanting))
         }
+    }
+}
+
+/// That memory ran out, if it did.
+fn trouble_if(is_wanting: bool) -> Option<Trouble>
+    ensures { IfSome result (λ trouble. trouble ≡ troubles.Memory) }
+{
+    if is_wanting {
+        Some(Trouble::Memory)
+    } else {
+        None
     }
 }

@@ -56,7 +56,6 @@ new-place configs j gateway e = found (slice_get configs j) (sym (slice_get-map 
 module _ (P : List Op → Type 0) (none : P [] → ⊥) (both : (A B : List Op) → P (A ++ B) → P A ⊎ P B) (left : (A B : List Op) → P A → P (A ++ B)) (right : (A B : List Op) → P B → P (A ++ B))
     (of-delta : (ops delta : List Op) → IsDeltaOf ops delta → P delta → P ops) (of-answered : (S : List Op) (made : List (List Op)) → Answered S made → P (all_of made) → P S)
     (New : Gateway → Occasion → ℕ → Plan → Type 0) (first : (gateway : Gateway) (occasion : Occasion) (now : ℕ) (plan : Plan) → IsPlan gateway occasion now (Some plan) → P plan.ops → P gateway.taken ⊎ New gateway occasion now plan) where
-
   -- the field has it: a gateway has taken it, or refused it when its disk failed, or the deltas of the list have it
   abbrev pub IsIn : Field → Type 0
   IsIn field = ((j : ℕ) × (gateway : Gateway) × (slice_get field.gateways j ≡ Some gateway) × (P gateway.taken ⊎ P (all_of gateway.refused))) ⊎ P (listed field)
@@ -298,7 +297,7 @@ module _ (P : List Op → Type 0) (none : P [] → ⊥) (both : (A B : List Op) 
         row-explained Q old (λ e. inl (inr e)) (Whole behind later)
         (λ g mid call rest step answer more first w call_is does. whole-next old gateway called (map said answers) behind later g mid call rest step answer more first w call_is does)
         (λ g call rest answer more w occasion now plan called_is planned new ends.
-            of-among g occasion now plan (whole-among old number i gateway at called answers behind later g call rest answer more w occasion now plan.sends called_is ends) planned new)
+        of-among g occasion now plan (whole-among old number i gateway at called answers behind later g call rest answer more w occasion now plan.sends called_is ends) planned new)
         gateway next front given told made (whole-first old gateway called (map said answers) behind later front told all_is told_is) is h
         (here-taken Q old inl i gateway at.1) (here-refused Q old inl i gateway at.1)
 
@@ -314,7 +313,7 @@ module _ (P : List Op → Type 0) (none : P [] → ⊥) (both : (A B : List Op) 
         row-explained Q old (λ e. inl (inr e)) (ShortStands old gateway called h.calm h.said h.mid made)
         (λ g mid call rest step answer more first w call_is does. short-next old gateway called h.calm h.said h.mid made g mid call rest step answer more first w call_is does)
         (λ g call rest answer more w occasion now plan called_is planned new ends.
-            of-among g occasion now plan (short-among old number i gateway at called answers h.calm h.said h.mid made led failed g call rest (answer ∷ more) w occasion now plan.sends called_is) planned new)
+        of-among g occasion now plan (short-among old number i gateway at called answers h.calm h.said h.mid made led failed g call rest (answer ∷ more) w occasion now plan.sends called_is) planned new)
         (record h.mid { drive = record h.mid.drive { plan = None } }) h.torn.there c.rest (h.call ∷ h.behind) h.torn.would h.torn.made
         (short-first old gateway called h.calm h.said h.mid made c.calm c.rest h.torn.would c.whole c.first) c.last h.torn.led before.by_taken before.by_refused in record {
           by_taken = λ e. before.by_taken (subst P (ap (λ (g : Gateway). g.taken) h.torn.halted) e);

@@ -188,7 +188,7 @@ module _ (c : List ℕ) (name : ℕ × ℕ) where
     more-good old next made delta sets by config taken refused listed = record {
       config = config;
       sets = λ n. subst (λ (R : List (List Op)). Good (with_refused n next.taken R)) (sym refused)
-      (subst (λ (T : List Op). Good (with_refused n T old.refused)) (sym taken) (inserted n old.taken delta old.refused sets by));
+          (subst (λ (T : List Op). Good (with_refused n T old.refused)) (sym taken) (inserted n old.taken delta old.refused sets by));
       kept = λ has. subst HasPut (sym taken) (put-left old.taken delta has);
       told = λ e. subst (λ (T : List Op). HasPut T ⊎ H) (sym taken) (up old.taken delta (listed e));
     }

@@ -11,9 +11,11 @@ pub returns-in-Ok-clause-made : goal.returns-in-Ok-clause-made
 returns-in-Ok-clause-made g c =
     let claimed = c.claim_all-claimed.result in
     let steps = map arc_value c.args.steps.now in
-    let answers = map said c.in-Ok.answers.items in
-    (c.in-Ok.number, made_front c.args.pass c.in-Ok.pass claimed c.in-Ok.number steps answers
-    (subst (λ xs. MadeInRow c.args.pass xs answers c.in-Ok.number c.in-Ok.pass) (sym (take-map arc_value claimed c.args.steps.now)) c.in-Ok.ensures.ok))
+    let answers = map said c.in-Ok.answers.items in (
+      c.in-Ok.number,
+      made_front c.args.pass c.in-Ok.pass claimed c.in-Ok.number steps answers
+          (subst (λ xs. MadeInRow c.args.pass xs answers c.in-Ok.number c.in-Ok.pass) (sym (take-map arc_value claimed c.args.steps.now)) c.in-Ok.ensures.ok),
+    )
 
 pub returns-in-Ok-clause-adds : goal.returns-in-Ok-clause-adds
 returns-in-Ok-clause-adds g c = λ is are.

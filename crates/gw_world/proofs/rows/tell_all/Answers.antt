@@ -13,8 +13,8 @@ loop-reply-preserved c =
     let answer = c.in_ok-answer.answer in
     let steps = c.in-Some.ensures.steps.0 in (
       ap (λ xs. map said xs ++ rest) c.in_ok-push.ensures.items ∙ told-on said before answer rest
-      ∙ ap (λ told. map said before ++ told ∷ rest) (c.in_ok-answer.ensures.same ∙ c.one_share.ensures)
-      ∙ ap (λ xs. map said before ++ xs) (sym steps) ∙ c.loop-reply.invariant.0,
+          ∙ ap (λ told. map said before ++ told ∷ rest) (c.in_ok-answer.ensures.same ∙ c.one_share.ensures)
+          ∙ ap (λ xs. map said before ++ xs) (sym steps) ∙ c.loop-reply.invariant.0,
       λ fed. c.loop-reply.invariant.1 (subst (λ xs. AllByRecursion IsFed xs) (sym steps) (subst IsFed c.one_share.ensures c.in_ok-answer.ensures.memory, fed)),
     )
 

@@ -25,6 +25,6 @@ returns-clause-ok g c =
       map arc_value c.in-Ok.steps.items,
       subst (λ ds. AreStepsOf (listing ds) c.args.calls.now (map arc_value c.in-Ok.steps.items)) c.as_slice.ensures.value c.in-Ok.ensures.ok,
       subst (λ answers. RowAt olds c.args.place (map arc_value c.in-Ok.steps.items) (map said answers) news) (sym is)
-      (subst (λ ss. RowAt olds c.args.place (map arc_value ss) (map said c.in_ok-answers.answers.items) news) c.as_slice-2.ensures.value c.in_ok-answers.ensures),
+          (subst (λ ss. RowAt olds c.args.place (map arc_value ss) (map said c.in_ok-answers.answers.items) news) c.as_slice-2.ensures.value c.in_ok-answers.ensures),
       subst (λ answers. Join c.args.deltas.now.items (made_of_all (map said answers)) c.record_row.new.deltas.items) (c.as_slice-3.ensures.value ∙ sym is) c.in_ok-record_row.ensures,
     )
