@@ -166,6 +166,8 @@ NAMED = set("""
     gw_world/Places/place_of gw_world/Steps/AnswerStep sn_local/Bindings/address_of sn_local/Bindings/client_at
     sn_local/Bindings/is_owned sn_local/WillDialogs/dialog_at sn_flow/Connection/has_bit sn_exchange/Exchanges/is_served
     gw_node/Standing/IsClear gw_node/Standing/WentWell gw_event/Event/IsRefused gw_event/Event/IsTooMuch
+    gw_event/Drives/torn_all gw_event/Together/CanWrite gw_event/Together/FailsLast gw_event/Together/halted_all gw_event/Together/if_any
+    gw_event/Together/AreAlike gw_event/Together/AreTorn gw_event/Together/put_by_all gw_world/Field/AreFed gw_world/Field/AreStepsOf promise_laws/Stepping/HaveFailed
 """.split())
 
 # What comes before the words that are named.

@@ -120,42 +120,7 @@ After old (Restart number kept) (Records count) new =
 After old (Show number) (Views views topics) new =
     (i : ℕ) × (gateway : Gateway) × IsAt old number i gateway × (views ≡ shown gateway.taken)
     × (new ≡ old) × (topics ≡ all_retained gateway.taken)
-After old (Frame number from bytes now) (Views views topics) new = ⊥
-After old (Tick number now) (Views views topics) new = ⊥
-After old (Take number delta) (Views views topics) new = ⊥
-After old (Asks number peer) (Views views topics) new = ⊥
-After old (Compact number) (Views views topics) new = ⊥
-After old (Restart number kept) (Views views topics) new = ⊥
-After old (Restart number kept) (Node answer) new = ⊥
-After old (Show number) (Node answer) new = ⊥
-After old (Frame number from bytes now) (Records count) new = ⊥
-After old (Tick number now) (Records count) new = ⊥
-After old (Take number delta) (Records count) new = ⊥
-After old (Asks number peer) (Records count) new = ⊥
-After old (Compact number) (Records count) new = ⊥
-After old (Show number) (Records count) new = ⊥
-After old (WriteFails number bytes sync) (Node answer) new = ⊥
-After old (WriteFails number bytes sync) (Views views topics) new = ⊥
-After old (WriteFails number bytes sync) (Records count) new = ⊥
-After old (Frame number from bytes now) Nothing new = ⊥
-After old (Tick number now) Nothing new = ⊥
-After old (Take number delta) Nothing new = ⊥
-After old (Asks number peer) Nothing new = ⊥
-After old (Compact number) Nothing new = ⊥
-After old (Restart number kept) Nothing new = ⊥
-After old (Show number) Nothing new = ⊥
-After old (AtOnce number calls) (Node answer) new = ⊥
-After old (AtOnce number calls) (Views views topics) new = ⊥
-After old (AtOnce number calls) (Records count) new = ⊥
-After old (AtOnce number calls) Nothing new = ⊥
-After old (Frame number from bytes now) (Row answers) new = ⊥
-After old (Tick number now) (Row answers) new = ⊥
-After old (Take number delta) (Row answers) new = ⊥
-After old (Asks number peer) (Row answers) new = ⊥
-After old (WriteFails number bytes sync) (Row answers) new = ⊥
-After old (Compact number) (Row answers) new = ⊥
-After old (Restart number kept) (Row answers) new = ⊥
-After old (Show number) (Row answers) new = ⊥
+After old event answer new = ⊥
 
 -- what a list of events may do, one after the other
 abbrev pub Run : Field → List Event → List Answer → Field → Type 0
@@ -184,14 +149,7 @@ gateway_of (Show number) = number
 -- the other gateway that an event names, if it names one
 abbrev pub peer_of : Event → Option ℕ
 peer_of (Asks number peer) = Some peer
-peer_of (Frame number from bytes now) = None
-peer_of (Tick number now) = None
-peer_of (Take number delta) = None
-peer_of (AtOnce number calls) = None
-peer_of (WriteFails number bytes sync) = None
-peer_of (Compact number) = None
-peer_of (Restart number kept) = None
-peer_of (Show number) = None
+peer_of event = None
 
 -- the event names a gateway that is not there, as the one that it is at or as the other
 abbrev pub NamesNoGateway : Field → Event → Type 0
@@ -215,13 +173,7 @@ NamesNoDelta field (AtOnce number called) =
     ((i : ℕ) × (place_of number field.gateways ≡ Some i))
     × ((delta : ℕ) × Contains called (calls.Take delta)
     × ((ops : List Op) → IsDeltaAt field delta ops → ⊥))
-NamesNoDelta field (Frame number from bytes now) = ⊥
-NamesNoDelta field (Tick number now) = ⊥
-NamesNoDelta field (Asks number peer) = ⊥
-NamesNoDelta field (WriteFails number bytes sync) = ⊥
-NamesNoDelta field (Compact number) = ⊥
-NamesNoDelta field (Restart number kept) = ⊥
-NamesNoDelta field (Show number) = ⊥
+NamesNoDelta field event = ⊥
 
 -- a call of several as an event by itself
 abbrev pub by_itself : ℕ → Call → Event

@@ -60,9 +60,7 @@ made_of_all answers = flat_map made_of answers
 abbrev pub made_by : Answer → List (List Op)
 made_by (Node answer) = made_of (said answer)
 made_by (Row answers) = made_of_all (map said answers)
-made_by (Views views topics) = []
-made_by (Records count) = []
-made_by Nothing = []
+made_by answer = []
 
 -- a call that makes nothing: a delta is taken
 abbrev pub MakesNone : Call → Type 0
@@ -75,24 +73,12 @@ abbrev pub MayMake : Event → Type 0
 MayMake (AtOnce number calls) = ¬ (AllByRecursion MakesNone calls)
 MayMake (Frame number from bytes now) = Unit {0}
 MayMake (Tick number now) = Unit {0}
-MayMake (Take number delta) = ⊥
-MayMake (Asks number peer) = ⊥
-MayMake (WriteFails number bytes sync) = ⊥
-MayMake (Compact number) = ⊥
-MayMake (Restart number kept) = ⊥
-MayMake (Show number) = ⊥
+MayMake event = ⊥
 
 -- an event that arranges a failure
 abbrev pub Arranges : Event → Type 0
 Arranges (WriteFails number bytes sync) = Unit {0}
-Arranges (Frame number from bytes now) = ⊥
-Arranges (Tick number now) = ⊥
-Arranges (Take number delta) = ⊥
-Arranges (AtOnce number calls) = ⊥
-Arranges (Asks number peer) = ⊥
-Arranges (Compact number) = ⊥
-Arranges (Restart number kept) = ⊥
-Arranges (Show number) = ⊥
+Arranges event = ⊥
 
 -- no event of the list arranges a failure
 abbrev pub NoneFails : List Event → Type 0
@@ -107,9 +93,7 @@ told answers = flat_map made_by answers
 abbrev pub brought_by : Answer → List (List Op)
 brought_by (Node answer) = made_of (said answer) ++ answered_of (said answer)
 brought_by (Row answers) = made_of_all (map said answers)
-brought_by (Views views topics) = []
-brought_by (Records count) = []
-brought_by Nothing = []
+brought_by answer = []
 
 -- all deltas that the answers bring, in their order
 abbrev pub brought : List Answer → List (List Op)
