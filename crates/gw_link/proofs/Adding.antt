@@ -10,7 +10,8 @@ use Rattle.gw_shift.specs.Passes.{held_as, held_from, with_calls}
 use Rattle.gw_shift.specs.Calling.{Made, MadeInRow, NotMade}
 use Rattle.gw_shift.specs.declared.fault.CallFault.{CallFault}
 use Rattle.gw_shift.specs.declared.fault.CallFault.TheVariants as faults
-use Rattle.gw_link.specs.Adding.{AddsEach, Adds, AllAre}
+use Rattle.gw_link.specs.Adding.{AddsEach, Adds}
+use Rattle.gw_link.specs.inner.Rows.{AllAre}
 use Rattle.gw_shift.proofs.Gained.{with_none, with_both}
 
 pub each_none : (IsSuch : Held → Type 0) (before after : Holder) → after ≡ before → AddsEach IsSuch before after

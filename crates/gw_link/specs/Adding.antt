@@ -14,10 +14,6 @@ AddsEach IsSuch before after =
 abbrev pub Adds : (Step → Bool) → Holder → Holder → Type 0
 Adds is before after = AddsEach (λ (held : Held). is held.step ≡ true) before after
 
--- all of the calls are of this kind
-abbrev pub AllAre : (Step → Bool) → List Step → Type 0
-AllAre is steps = All (λ (step : Step). is step ≡ true) steps
-
 -- another gateway's: a delta is taken, a digest is given or answered
 abbrev pub is_of_link : Step → Bool
 is_of_link (steps.Frame from bytes now) = false

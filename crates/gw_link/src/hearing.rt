@@ -2,7 +2,8 @@
 
 ghost use Rattle.std.specs.Prelude.{◌≡◌, ◌++◌, ◌∷◌, [], true, IfOk, OnOk, map};
 ghost use Rattle.std.specs.Arc.{arc_value};
-ghost use Rattle.gw_link.specs.Adding.{Adds, AllAre, is_of_link};
+ghost use Rattle.gw_link.specs.Adding.{Adds, is_of_link};
+ghost use Rattle.gw_link.specs.inner.Rows.{AllAre};
 ghost use Rattle.gw_link.specs.inner.Calling as spec;
 
 use crate::calling::{End, call, call_all, drop_refusal};

@@ -1,6 +1,7 @@
 use Rattle.std.proofs.Common.{map}
 use Rattle.std.specs.Arc.{arc_value}
-use Rattle.gw_link.specs.Adding.{AllAre, is_of_link}
+use Rattle.gw_link.specs.Adding.{is_of_link}
+use Rattle.gw_link.specs.inner.Rows.{AllAre}
 use Rattle.gw_link.proofs.hearing.row_of.Given as goal
 
 -- all that are in the row are another gateway's
