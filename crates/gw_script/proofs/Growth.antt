@@ -2,7 +2,7 @@
 use Rattle.std.proofs.Common.{◌≡◌, ◌≢◌, ℕ, ◌+◌, ◌-◌, ◌<◌, ◌≤◌, inl, inr, List, [], ◌∷◌, ◌++◌, zero, suc, length, set, get_or, refl, map, take, drop, Bor, Option, Some, ap, sym, subst, ◌∙◌, arith, Bool, true, false, ◌==◌}
 use Rattle.std.specs.Prelude.{Result, Err, slice_get, position, IsTrue}
 use Rattle.sn_topic.specs.Table.{is_table}
-use Rattle.std.proofs.lemmas.List.{take_more, length-set}
+use Rattle.std.proofs.lemmas.List.{take_more, length-map, length-set}
 use Rattle.std.proofs.lemmas.Option.{slice_get-get_or}
 use Rattle.gw_script.specs.declared.command.Command.{Command}
 use Rattle.gw_script.specs.declared.fault.LineFault.{LineFault}
@@ -46,7 +46,7 @@ one_more lines at before after within read extends =
     subst P (sym (take_more lines at [] within)) (more (take at lines) (get_or lines at []) before after read extends)
 
 -- the first line that cannot stand where it stands
-pub bad_line : (lines : List (List ℕ)) (at k : ℕ) (before : Script) → at < length lines → k ≡ at + 1
+bad_line : (lines : List (List ℕ)) (at k : ℕ) (before : Script) → at < length lines → k ≡ at + 1
     → IsScriptOf (take at lines) before → NoLineAt before lines at → IsBadLine lines k
 bad_line lines at k before within is read nothing =
     let back : k - 1 ≡ at = omega arith in
@@ -157,7 +157,7 @@ slice_get-drop [] (suc n) i = refl
 slice_get-drop (x ∷ xs) (suc n) i = let e : suc n + i ≡ suc (n + i) = omega arith in rw e (slice_get-drop xs n i)
 
 -- the lines read so far, and what the next ones say
-pub read_more : (lines : List (List ℕ)) (at next : ℕ) (before after : Script) → at < length lines
+read_more : (lines : List (List ℕ)) (at next : ℕ) (before after : Script) → at < length lines
     → IsScriptOf (take at lines) before → LineRead before lines at after next → IsScriptOf (take next lines) after
 read_more lines at next before after within read (inl (is, extends)) =
     let P : ℕ → Type 0 = λ n. IsScriptOf (take n lines) after in
@@ -167,13 +167,13 @@ read_more lines at next before after within read (inr (gateway, calls, begins, s
     subst P (sym made) (row_more lines at next gateway calls before within read begins spelled is)
 
 -- the place moves on, and not past the end
-pub moves_on : (lines : List (List ℕ)) (at next : ℕ) (before after : Script) → at < length lines
+moves_on : (lines : List (List ℕ)) (at next : ℕ) (before after : Script) → at < length lines
     → LineRead before lines at after next → (at < next) × (next ≤ length lines)
 moves_on lines at next before after within (inl (is, extends)) = (omega arith, omega arith)
 moves_on lines at next before after within (inr (gateway, calls, begins, spelled, is, most, made)) = (omega arith, most)
 
 -- the lines before a row, and the first line of it that spells no call
-pub bad_call : (lines : List (List ℕ)) (at k : ℕ) (before : Script) → at < length lines
+bad_call : (lines : List (List ℕ)) (at k : ℕ) (before : Script) → at < length lines
     → IsScriptOf (take at lines) before → NoCallBehind lines at k → IsBadCall lines k
 bad_call lines at k before within read (gateway, count, begins, (calls, spelled, fewer, is, refused)) =
     let place : at + 1 + length calls ≡ k - 1 = omega arith in
@@ -193,3 +193,35 @@ bad_call lines at k before within read (gateway, count, begins, (calls, spelled,
       counted = omega arith;
       refused = subst P (slice_get-drop lines (at + 1) (length calls) ∙ ap (λ n. slice_get lines n) place) refused;
     }
+
+-- one turn more of the reader
+pub one_turn : (lines part : List (Bor (List ℕ))) (n m at next : ℕ) (before after : Script) → part ≡ lines → n ≡ length lines → m ≡ n → at < m
+    → IsScriptOf (take at (octets_of lines)) before → LineRead before (octets_of part) at after next
+    → (at < next) × (next ≤ n) × IsScriptOf (take next (octets_of lines)) after
+one_turn lines part n m at next before after same size long within read reads =
+    let count = length-map lines (λ (b : Bor (List ℕ)). b.now) in
+    let inside : at < length (octets_of lines) = omega (arith, count) in
+    let P : List (Bor (List ℕ)) → Type 0 = λ xs. LineRead before (octets_of xs) at after next in
+    let reads_ = subst P same reads in
+    let on = moves_on (octets_of lines) at next before after inside reads_ in
+    (on.0, omega (arith, count, on.1), read_more (octets_of lines) at next before after inside read reads_)
+
+-- the reader's line is bad
+pub told_bad : (lines part : List (Bor (List ℕ))) (all : List (List ℕ)) (n m at k : ℕ) (before : Script) → part ≡ lines
+    → octets_of lines ≡ all → n ≡ length lines → m ≡ n → at < m → IsScriptOf (take at (octets_of lines)) before
+    → (k ≡ at + 1) × NoLineAt before (octets_of part) at → IsBadLine all k
+told_bad lines part all n m at k before same whole size long within read told =
+    let inside : at < length (octets_of lines) = omega (arith, length-map lines (λ (b : Bor (List ℕ)). b.now)) in
+    let P : List (Bor (List ℕ)) → Type 0 = λ xs. NoLineAt before (octets_of xs) at in
+    let Q : List (List ℕ) → Type 0 = λ xs. IsBadLine xs k in
+    subst Q whole (bad_line (octets_of lines) at k before inside told.0 read (subst P same told.1))
+
+-- a line behind the reader's is no call
+pub told_bad_call : (lines part : List (Bor (List ℕ))) (all : List (List ℕ)) (n m at k : ℕ) (before : Script) → part ≡ lines
+    → octets_of lines ≡ all → n ≡ length lines → m ≡ n → at < m → IsScriptOf (take at (octets_of lines)) before
+    → NoCallBehind (octets_of part) at k → IsBadCall all k
+told_bad_call lines part all n m at k before same whole size long within read told =
+    let inside : at < length (octets_of lines) = omega (arith, length-map lines (λ (b : Bor (List ℕ)). b.now)) in
+    let P : List (Bor (List ℕ)) → Type 0 = λ xs. NoCallBehind (octets_of xs) at k in
+    let Q : List (List ℕ) → Type 0 = λ xs. IsBadCall xs k in
+    subst Q whole (bad_call (octets_of lines) at k before inside read (subst P same told))

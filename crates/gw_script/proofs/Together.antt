@@ -1,12 +1,10 @@
 -- Calls that come together, and the lines that spell them.
-use Rattle.std.proofs.Common.{◌≡◌, ◌≢◌, ℕ, ◌+◌, ◌-◌, ◌<◌, ◌≤◌, ◌⊎◌, inl, inr, List, [], ◌∷◌, ◌++◌, length, get_or, refl, map, take, drop, Bor, Option, Some, None, ap, sym, subst, ◌∙◌, arith}
-use Rattle.std.specs.Prelude.{Result, Ok, Err, slice_get}
-use Rattle.std.proofs.lemmas.List.{take_more, take_all, take_rest, get_or-map, drop-map, length-map, length-drop}
+use Rattle.std.proofs.Common.{◌≡◌, ℕ, ◌+◌, ◌-◌, ◌<◌, ◌≤◌, List, [], ◌∷◌, ◌++◌, length, get_or, take, drop, Bor, Option, Some, None, ap, sym, subst, ◌∙◌, arith}
+use Rattle.std.specs.Prelude.{Result, Err, slice_get}
+use Rattle.std.proofs.lemmas.List.{take_more, take_rest, get_or-map, drop-map, length-map, length-drop}
 use Rattle.std.proofs.lemmas.Option.{slice_get-get_or, slice_get_past}
 use Rattle.gw_world.specs.declared.event.Call.{Call}
-use Rattle.gw_world.specs.declared.event.Call.TheVariants as calls_
-use Rattle.gw_world.specs.declared.event.Event.{Event}
-use Rattle.gw_world.specs.Field.{by_itself, gateway_of}
+use Rattle.gw_world.specs.Field.{by_itself}
 use Rattle.gw_script.specs.declared.command.Command.{Command}
 use Rattle.gw_script.specs.declared.command.Command.TheVariants as commands
 use Rattle.gw_script.specs.declared.fault.LineFault.{LineFault}
@@ -14,26 +12,10 @@ use Rattle.gw_script.specs.declared.fault.LineFault.TheVariants as faults
 use Rattle.gw_script.specs.declared.script.Script.{Script}
 use Rattle.gw_script.specs.Commands.{Spells}
 use Rattle.gw_script.specs.Rows.{BeginsRow, SpellsCall, SpellCalls, SpellsNoCall}
-use Rattle.gw_script.specs.Scripts.{with_row}
-use Rattle.gw_script.specs.inner.Rows.{IsNoCall, RowRead, NoCallBehind}
+use Rattle.gw_script.specs.Scripts.{with_row, Extends}
+use Rattle.gw_script.specs.inner.Commands.{Reads}
+use Rattle.gw_script.specs.inner.Rows.{IsNoCall, RowRead, NoLineAt, NoCallBehind}
 use Rattle.gw_script.proofs.Growth.{octets_of}
-
--- a call by itself is at its gateway
-own : (gateway : ℕ) (call : Call) → gateway_of (by_itself gateway call) ≡ gateway
-own gateway (calls_.Frame from bytes now) = refl
-own gateway (calls_.Tick now) = refl
-own gateway (calls_.Take delta) = refl
-
--- an event of another gateway is no call at this one
-pub elsewhere : (event : Event) (gateway : ℕ) → gateway_of event ≢ gateway → (call : Call) → event ≢ by_itself gateway call
-elsewhere event gateway other call is = other (ap gateway_of is ∙ own gateway call)
-
--- a line that spells no call at the gateway, as its reader says
-pub no_call : (gateway : ℕ) (line : List ℕ) (r : Result Command LineFault)
-    → ((command : Command) → Spells line command → (r ≡ Ok command) ⊎ (r ≡ Err faults.Memory)) → r ≢ Err faults.Memory
-    → ((call : Call) → r ≢ Ok (commands.Happens (by_itself gateway call))) → (call : Call) → SpellsCall gateway line call → ⊥
-no_call gateway line r only fed other call spells =
-    elim (only (commands.Happens (by_itself gateway call)) spells) [ inl same ↦ other call same | inr memory ↦ fed memory ]
 
 -- one more line spells one more call
 spell_push : (gateway : ℕ) (lines : List (List ℕ)) (calls : List Call) (line : List ℕ) (call : Call)
@@ -45,36 +27,37 @@ spell_push gateway [] (one ∷ calls) line call spelled spells = absurd spelled
 spell_push gateway (first ∷ lines) [] line call spelled spells = absurd spelled
 
 -- the line at a place, with its octets
-at_place : (lines : List (Bor (List ℕ))) (i : ℕ) (d : Bor (List ℕ)) → i < length lines → d ≡ get_or lines i d
-    → get_or (octets_of lines) i [] ≡ d.now
-at_place lines i d within is =
-    let now : Bor (List ℕ) → List ℕ = λ b. b.now in
-    get_or-map now lines i d [] within ∙ ap now (sym is)
+at_place : (lines : List (Bor (List ℕ))) (i : ℕ) (d : Bor (List ℕ)) → i < length lines
+    → get_or (octets_of lines) i [] ≡ (get_or lines i d).now
+at_place lines i d within = get_or-map (λ (b : Bor (List ℕ)). b.now) lines i d [] within
+
+-- a line is no call where its reader refuses
+pub refuses : (gateway : ℕ) (line : List ℕ) (r : Result Command LineFault) → Reads (Spells line) r → r ≡ Err faults.NotACommand
+    → (call : Call) → SpellsCall gateway line call → ⊥
+refuses gateway line r reads refused call = (rw refused at reads) (commands.Happens (by_itself gateway call))
 
 -- one more of the lines spells one more call
 pub one_call_more : (gateway : ℕ) (lines : List (Bor (List ℕ))) (i : ℕ) (d : Bor (List ℕ)) (calls after : List Call) (call : Call)
-    → i < length lines → d ≡ get_or lines i d → SpellCalls gateway (take i (octets_of lines)) calls → SpellsCall gateway d.now call
+    → i < length lines → SpellCalls gateway (take i (octets_of lines)) calls → SpellsCall gateway (get_or lines i d).now call
     → after ≡ calls ++ call ∷ [] → SpellCalls gateway (take (i + 1) (octets_of lines)) after
-one_call_more gateway lines i d calls after call within is spelled spells made =
-    let now : Bor (List ℕ) → List ℕ = λ b. b.now in
-    let size : i < length (octets_of lines) = omega (arith, length-map lines now) in
+one_call_more gateway lines i d calls after call within spelled spells made =
+    let size : i < length (octets_of lines) = omega (arith, length-map lines (λ (b : Bor (List ℕ)). b.now)) in
     let P : List (List ℕ) → Type 0 = λ xs. SpellCalls gateway xs after in
-    let Q : List Call → Type 0 = λ xs. SpellCalls gateway (take i (octets_of lines) ++ d.now ∷ []) xs in
-    subst P (sym (take_more (octets_of lines) i [] size ∙ ap (λ line. take i (octets_of lines) ++ line ∷ []) (at_place lines i d within is)))
-    (subst Q (sym made) (spell_push gateway (take i (octets_of lines)) calls d.now call spelled spells))
+    let Q : List Call → Type 0 = λ xs. SpellCalls gateway (take i (octets_of lines) ++ (get_or lines i d).now ∷ []) xs in
+    subst P (sym (take_more (octets_of lines) i [] size ∙ ap (λ line. take i (octets_of lines) ++ line ∷ []) (at_place lines i d within)))
+    (subst Q (sym made) (spell_push gateway (take i (octets_of lines)) calls (get_or lines i d).now call spelled spells))
 
 -- the line behind those that spell calls spells none
 pub told_at : (gateway count before k : ℕ) (lines : List (Bor (List ℕ))) (i : ℕ) (d : Bor (List ℕ)) (calls : List Call)
-    → i < length lines → d ≡ get_or lines i d → length calls ≡ i → i < count → k ≡ before + i + 1
-    → SpellCalls gateway (take i (octets_of lines)) calls → ((call : Call) → SpellsCall gateway d.now call → ⊥)
+    → i < length lines → length calls ≡ i → i < count → k ≡ before + i + 1
+    → SpellCalls gateway (take i (octets_of lines)) calls → ((call : Call) → SpellsCall gateway (get_or lines i d).now call → ⊥)
     → IsNoCall gateway count (octets_of lines) before k
-told_at gateway count before k lines i d calls within is size fewer told spelled none =
-    let now : Bor (List ℕ) → List ℕ = λ b. b.now in
-    let inside : i < length (octets_of lines) = omega (arith, length-map lines now) in
+told_at gateway count before k lines i d calls within size fewer told spelled none =
+    let inside : i < length (octets_of lines) = omega (arith, length-map lines (λ (b : Bor (List ℕ)). b.now)) in
     let P : ℕ → Type 0 = λ n. SpellCalls gateway (take n (octets_of lines)) calls in
     let Q : Option (List ℕ) → Type 0 = λ line. SpellsNoCall gateway line in
-    let there : slice_get (octets_of lines) (length calls) ≡ Some d.now =
-    ap (λ n. slice_get (octets_of lines) n) size ∙ slice_get-get_or (octets_of lines) i [] inside ∙ ap (λ line. Some line) (at_place lines i d within is) in
+    let there : slice_get (octets_of lines) (length calls) ≡ Some (get_or lines i d).now =
+    ap (λ n. slice_get (octets_of lines) n) size ∙ slice_get-get_or (octets_of lines) i [] inside ∙ ap (λ line. Some line) (at_place lines i d within) in
     (calls, subst P (sym size) spelled, omega arith, omega arith, subst Q (sym there) none)
 
 -- the lines end before there are calls enough
@@ -98,26 +81,39 @@ behind lines part n is =
 
 -- a line that begins a row, and the calls of the lines behind it
 pub row_read : (lines part : List (Bor (List ℕ))) (at gateway count next n : ℕ) (d : Bor (List ℕ)) (calls : List Call) (old new : Script)
-    → at < length lines → d ≡ get_or lines at d → part ≡ take (length lines - (at + 1)) (drop (at + 1) lines)
-    → BeginsRow d.now gateway count → n ≡ length calls → n ≡ count → n ≤ length part
+    → at < length lines → part ≡ take (length lines - (at + 1)) (drop (at + 1) lines)
+    → BeginsRow (get_or lines at d).now gateway count → n ≡ length calls → n ≡ count → n ≤ length part
     → SpellCalls gateway (take count (octets_of part)) calls → next ≡ at + 1 + n → new ≡ with_row old gateway calls
     → RowRead old (octets_of lines) at new next
-row_read lines part at gateway count next n d calls old new within is rest begins size many most spelled told made =
-    let now : Bor (List ℕ) → List ℕ = λ b. b.now in
+row_read lines part at gateway count next n d calls old new within rest begins size many most spelled told made =
     let all : count ≡ length calls = omega arith in
-    let P : ℕ → Type 0 = λ m. BeginsRow d.now gateway m in
+    let P : ℕ → Type 0 = λ m. BeginsRow (get_or lines at d).now gateway m in
     let Q : List ℕ → Type 0 = λ line. BeginsRow line gateway (length calls) in
     let R : ℕ → Type 0 = λ m. SpellCalls gateway (take m (octets_of part)) calls in
     let S : List (List ℕ) → Type 0 = λ xs. SpellCalls gateway (take (length calls) xs) calls in
-    let left : length part ≡ length lines - (at + 1) = ap (λ (xs : List (Bor (List ℕ))). length xs) (rest ∙ take_rest lines (at + 1)) ∙ length-drop (at + 1) lines in
-    (gateway, calls, subst Q (sym (at_place lines at d within is)) (subst P all begins), subst S (behind lines part (at + 1) rest) (subst R all spelled),
-      omega arith, omega (arith, length-map lines now), made)
+    let left : length part ≡ length lines - (at + 1) = ap (λ (xs : List (Bor (List ℕ))). length xs) (rest ∙ take_rest lines (at + 1)) ∙ length-drop (at + 1) lines in (
+      gateway,
+      calls,
+      subst Q (sym (at_place lines at d within)) (subst P all begins),
+      subst S (behind lines part (at + 1) rest) (subst R all spelled),
+      omega arith,
+      omega (arith, length-map lines (λ (b : Bor (List ℕ)). b.now)),
+      made,
+    )
 
 -- a line that begins a row, and a line behind it that spells no call
-pub call_behind : (lines part : List (Bor (List ℕ))) (at gateway count k : ℕ) (d : Bor (List ℕ)) → at < length lines → d ≡ get_or lines at d
-    → part ≡ take (length lines - (at + 1)) (drop (at + 1) lines) → BeginsRow d.now gateway count
+pub call_behind : (lines part : List (Bor (List ℕ))) (at gateway count k : ℕ) (d : Bor (List ℕ)) → at < length lines
+    → part ≡ take (length lines - (at + 1)) (drop (at + 1) lines) → BeginsRow (get_or lines at d).now gateway count
     → IsNoCall gateway count (octets_of part) (at + 1) k → NoCallBehind (octets_of lines) at k
-call_behind lines part at gateway count k d within is rest begins none =
+call_behind lines part at gateway count k d within rest begins none =
     let P : List ℕ → Type 0 = λ line. BeginsRow line gateway count in
     let Q : List (List ℕ) → Type 0 = λ xs. IsNoCall gateway count xs (at + 1) k in
-    (gateway, count, subst P (sym (at_place lines at d within is)) begins, subst Q (behind lines part (at + 1) rest) none)
+    (gateway, count, subst P (sym (at_place lines at d within)) begins, subst Q (behind lines part (at + 1) rest) none)
+
+-- a line that says no command in its place, and begins no row
+pub no_line : (lines : List (Bor (List ℕ))) (at : ℕ) (d : Bor (List ℕ)) (old : Script) → at < length lines
+    → ((after : Script) → Extends old (get_or lines at d).now after → ⊥)
+    → ((gateway count : ℕ) → BeginsRow (get_or (octets_of lines) at []) gateway count → ⊥) → NoLineAt old (octets_of lines) at
+no_line lines at d old within refused none =
+    let P : List ℕ → Type 0 = λ line. (after : Script) → Extends old line after → ⊥ in
+    (subst P (sym (at_place lines at d within)) refused, none)

@@ -96,7 +96,8 @@ fn as_call(event: Event) -> Option<Call>
 
 /// The event as a call of several that holds no octets, if it is one.
 fn short_call(event: &Event) -> Option<Call>
-    ensures { MatchOption result ((call : Call) → IsShort call → event.now ≢ by_itself (gateway_of event.now) call)
+    ensures { MatchOption result ((call : Call) → IsShort call
+        → event.now ≢ by_itself (gateway_of event.now) call)
         (λ call. event.now ≡ by_itself (gateway_of event.now) call) }
 {
     match event {
