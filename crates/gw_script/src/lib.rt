@@ -12,7 +12,8 @@
 //!
 //! The definitions are in `specs/`: `Commands`, `Octets`, `Rows` (lines), `Scripts` (all lines, and
 //! the first bad one); what digits write is `Decimal` of `octets`. Lemmas are in `proofs/`: `Lines`
-//! (a line is read in one way), `Growth` (how a script grows line by line).
+//! (a line is read in one way), `Together` (lines of calls that come together), `Growth` (how a
+//! script grows line by line).
 #![tactic(auto)]
 
 mod bytes;

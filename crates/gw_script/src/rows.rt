@@ -3,9 +3,9 @@
 ghost use Rattle.std.specs.Prelude.{◌≡◌, ◌≢◌, ◌+◌, ◌<◌, ◌≤◌, ◌^◌, ◌↔◌, ℕ, true, Err, IfOk, MatchOption, codes, length, map, take, vec_len};
 ghost use Rattle.octets.specs.Decimal.{IsNumber};
 ghost use Rattle.gw_world.specs.declared.event.Call.{Call};
-ghost use Rattle.gw_world.specs.Field.{by_itself};
+ghost use Rattle.gw_world.specs.Field.{by_itself, gateway_of};
 ghost use Rattle.gw_script.specs.Rows.{SaysRow, BeginsRow, SpellsCall, SpellCalls};
-ghost use Rattle.gw_script.specs.inner.Rows.{IsNoCall};
+ghost use Rattle.gw_script.specs.inner.Rows.{IsNoCall, IsShort};
 
 use super::command::{Command, cut, read_command};
 use super::fault::{LineFault, ScriptFault};
@@ -66,23 +66,44 @@ fn call_of(event: Event, gateway: u8) -> Option<Call>
     ensures { MatchOption result ((call : Call) → event ≢ by_itself gateway call)
         (λ call. event ≡ by_itself gateway call) }
 {
-    if event.gateway() != gateway {
+    if event.gateway() == gateway {
+        as_call(event)
+    } else {
         drop(event);
-        return None;
+        None
     }
+}
+
+/// The event as a call of several, if it is one.
+fn as_call(event: Event) -> Option<Call>
+    ensures { MatchOption result ((call : Call) → event ≢ by_itself (gateway_of event) call)
+        (λ call. event ≡ by_itself (gateway_of event) call) }
+{
     match event {
         Event::Frame {
-            gateway: _,
+            gateway: _gateway,
             from,
             bytes,
             now,
         } => Some(Call::Frame { from, bytes, now }),
-        Event::Tick { gateway: _, now } => Some(Call::Tick { now }),
-        Event::Take { gateway: _, delta } => Some(Call::Take { delta }),
         other => {
+            let call = short_call(&other);
             drop(other);
-            None
+            call
         }
+    }
+}
+
+/// The event as a call of several that holds no octets, if it is one.
+fn short_call(event: &Event) -> Option<Call>
+    ensures { MatchOption result ((call : Call) → IsShort call
+        → event.now ≢ by_itself (gateway_of event.now) call)
+        (λ call. event.now ≡ by_itself (gateway_of event.now) call) }
+{
+    match event {
+        Event::Tick { now, .. } => Some(Call::Tick { now: *now }),
+        Event::Take { delta, .. } => Some(Call::Take { delta: *delta }),
+        _ => None,
     }
 }
 

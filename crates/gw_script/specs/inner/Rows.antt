@@ -1,9 +1,16 @@
 -- The lines of calls that come together.
 use Rattle.std.specs.Prelude.{◌≡◌, ◌+◌, ◌<◌, ◌≤◌, ◌⊎◌, ℕ, List, [], length, take, drop, get_or, slice_get}
 use Rattle.gw_world.specs.declared.event.Call.{Call}
+use Rattle.gw_world.specs.declared.event.Call.TheVariants as calls
 use Rattle.gw_script.specs.declared.script.Script.{Script}
 use Rattle.gw_script.specs.Rows.{BeginsRow, SpellCalls, SpellsNoCall}
 use Rattle.gw_script.specs.Scripts.{Extends, with_row}
+
+-- the call holds no octets
+abbrev pub IsShort : Call → Type 0
+IsShort (calls.Frame from bytes now) = ⊥
+IsShort (calls.Tick now) = Unit {0}
+IsShort (calls.Take delta) = Unit {0}
 
 -- Of these lines, so many of which are to spell calls, the first ones do, and the next is the first
 -- that does not, or is not there. It has this number among all, where so many lines are in front of

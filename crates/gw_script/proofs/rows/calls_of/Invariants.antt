@@ -1,5 +1,5 @@
 -- The lines so far spell the calls so far.
-use Rattle.std.proofs.Common.{◌≡◌, ◌≤◌, length, map, take}
+use Rattle.std.proofs.Common.{◌≡◌, ◌≤◌, length, take}
 use Rattle.gw_script.specs.Rows.{SpellCalls}
 use Rattle.gw_script.proofs.Growth.{octets_of}
 use Rattle.gw_script.proofs.rows.calls_of.Given as goal
