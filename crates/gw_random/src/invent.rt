@@ -1,5 +1,7 @@
 //! A script from a seed.
 
+ghost use Rattle.std.specs.Prelude.{◌<◌, vec_len, IfSome};
+
 use super::copying::append;
 use super::draw::Draw;
 use super::field::{Field, added};
@@ -374,9 +376,11 @@ impl Invention {
     }
 
     /// The index of a frame that a client answers to a gateway.
-    fn reply_at(&self, gateway: u8) -> Option<usize> {
-        for (index, event) in self.replies.as_slice().iter().enumerate() {
-            if event.gateway() == gateway {
+    fn reply_at(&self, gateway: u8) -> Option<usize>
+        ensures { IfSome result (λ index. index < vec_len self.entry.now.replies) }
+    {
+        for index in 0..self.replies.len() {
+            if self.replies[index].gateway() == gateway {
                 return Some(index);
             }
         }
