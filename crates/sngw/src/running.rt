@@ -460,7 +460,7 @@ where
         worked,
         inlet,
         shared,
-        number + 1,
+        number.saturating_add(1),
         keeper,
         said,
     )
