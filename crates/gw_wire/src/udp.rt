@@ -101,19 +101,20 @@ impl Socket {
     {
         let mut socket = UdpSocket::bind(net, address(addr))?;
         ask_for_room(&socket);
-        let poll = Poll::new(net)?;
-        let events = Events::with_capacity(alloc, 4)?;
-        poll.registry()
-            .register(&mut socket, Token(0), Interest::READABLE)?;
-        let local = socket.local_addr()?;
-        Ok(Socket {
-            socket,
-            poll,
-            events,
-            choked: AtomicBool::new(false),
-            local,
-            failures: Failures::none(),
-        })
+        match watched(net, alloc, &mut socket) {
+            Ok((poll, events, local)) => Ok(Socket {
+                socket,
+                poll,
+                events,
+                choked: AtomicBool::new(false),
+                local,
+                failures: Failures::none(),
+            }),
+            Err(error) => {
+                drop(socket);
+                Err(error)
+            }
+        }
     }
 
     /// The two sides, of which one gives each datagram the moment of this clock. Those who read
@@ -141,6 +142,21 @@ impl Socket {
         };
         (ears, Mouth { socket, choked })
     }
+}
+
+/// A poll that tells when there is something to read of a socket, room for what it tells, and where
+/// the socket is bound.
+fn watched<N: Net>(
+    net: &N,
+    alloc: Global,
+    socket: &mut UdpSocket,
+) -> io::Result<(Poll, Events, SocketAddr)> {
+    let poll = Poll::new(net)?;
+    let events = Events::with_capacity(alloc, 4)?;
+    poll.registry()
+        .register(socket, Token(0), Interest::READABLE)?;
+    let local = socket.local_addr()?;
+    Ok((poll, events, local))
 }
 
 /// Asks the system to keep more of what was not read yet, and of what has not gone out yet, than it
