@@ -152,11 +152,30 @@ fn watched<N: Net>(
     socket: &mut UdpSocket,
 ) -> io::Result<(Poll, Events, SocketAddr)> {
     let poll = Poll::new(net)?;
-    let events = Events::with_capacity(alloc, 4)?;
-    poll.registry()
-        .register(socket, Token(0), Interest::READABLE)?;
+    match watch(alloc, &poll, socket) {
+        Ok((events, local)) => Ok((poll, events, local)),
+        Err(error) => {
+            drop(poll);
+            Err(error)
+        }
+    }
+}
+
+/// Has the poll tell when there is something to read of a socket: room for what it tells, and where
+/// the socket is bound.
+fn watch(alloc: Global, poll: &Poll, socket: &mut UdpSocket) -> io::Result<(Events, SocketAddr)> {
     let local = socket.local_addr()?;
-    Ok((poll, events, local))
+    let events = Events::with_capacity(alloc, 4)?;
+    match poll
+        .registry()
+        .register(socket, Token(0), Interest::READABLE)
+    {
+        Ok(()) => Ok((events, local)),
+        Err(error) => {
+            drop(events);
+            Err(error)
+        }
+    }
 }
 
 /// Asks the system to keep more of what was not read yet, and of what has not gone out yet, than it
