@@ -372,7 +372,8 @@ fn plan_expiry<R: Replica>(
         (seen_of (R.kept replica.now)) (expiry.expire_all (seen_of (R.kept replica.now))
         dialogs.now.local now client.now draft)) }
 {
-    expire(alloc, replica, dialogs, now, client, &mut draft)?;
+    let done = expire(alloc, replica, dialogs, now, client, &mut draft);
+    let draft = finished(draft, done)?;
     plan_of(alloc, config.gateway, replica, client, draft)
 }
 
