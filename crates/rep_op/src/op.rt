@@ -167,9 +167,9 @@ impl Op {
         ensures { IfOk result (λ made. made ≡ spec.subject_of self.now) }
     {
         match self {
-            Op::Session { client, .. } => Ok(Subject::Client(client.copied(alloc)?)),
-            Op::Put { client, .. } => Ok(Subject::Client(client.copied(alloc)?)),
-            Op::Ack { client, .. } => Ok(Subject::Client(client.copied(alloc)?)),
+            Op::Session { client, .. } | Op::Put { client, .. } | Op::Ack { client, .. } => {
+                Ok(Subject::Client(client.copied(alloc)?))
+            }
             Op::Retain { topic, .. } => Ok(Subject::Topic(topic.copied(alloc)?)),
         }
     }
