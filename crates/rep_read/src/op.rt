@@ -1,18 +1,36 @@
 //! Operations.
 
 ghost use Rattle.std.specs.Prelude.{◌≡◌, nat_le};
-ghost use Rattle.rep_read.specs.Reading.{Gives, session_op_at, later_at, content_at, put_op_at, range_at, ack_at, retain_op_at, last_kind, op_at};
+ghost use Rattle.std.specs.Int.{w64};
+ghost use Rattle.rep_read.specs.Reading.{Gives, both, by_first, ranged, is_counted, octet_at, number_at, topic_at, body_at, qos_at, change_at, session_op_at, later_at, content_at, put_op_at, range_at, ack_at, retain_op_at, last_kind, op_at};
 
 use super::field::{
     read_body, read_client, read_counted_eight, read_counted_octet, read_eight, read_octet,
     read_topic,
 };
-use super::part::{level_of, read_flag};
+use super::part::{read_flag, read_qos};
 use super::session::read_change;
 use rep_op::{Op, OpsFault, Put, Retained, Stamp, Version};
-use sn_session::Message;
+use sn_session::{Message, SessionOp};
 use sn_tables::QosLevel;
+use sn_topic::TopicName;
 use std::alloc::Global;
+
+/// The epoch and the gateway of a stamp, a counter, and a change of a session.
+type Stamped = (u64, u8, u8, SessionOp);
+
+/// What stands after the client of a session operation.
+fn read_stamped(alloc: Global, bytes: &[u8]) -> Result<(Stamped, &[u8]), OpsFault>
+    ensures { Gives (λ x. ((x.0.0, (x.0.1, (x.0.2, x.0.3))), x.1.now)) result
+        (both (ranged is_counted (number_at w64))
+        (both (ranged is_counted octet_at) (by_first octet_at change_at)) bytes.now) }
+{
+    let (epoch, rest) = read_counted_eight(bytes)?;
+    let (gateway, rest) = read_counted_octet(rest)?;
+    let (counter, rest) = read_octet(rest)?;
+    let (change, rest) = read_change(alloc, counter, rest)?;
+    Ok(((epoch, gateway, counter, change), rest))
+}
 
 /// The session operation after its kind.
 #[tactic(auto, unfolding(crate::specs::Reading::session_op_at))]
@@ -20,10 +38,7 @@ fn read_session_op(alloc: Global, bytes: &[u8]) -> Result<(Op, &[u8]), OpsFault>
     ensures { Gives (λ x. (x.0, x.1.now)) result (session_op_at bytes.now) }
 {
     let (client, rest) = read_client(alloc, bytes)?;
-    let (epoch, rest) = read_counted_eight(rest)?;
-    let (gateway, rest) = read_counted_octet(rest)?;
-    let (counter, rest) = read_octet(rest)?;
-    let (change, rest) = read_change(alloc, counter, rest)?;
+    let ((epoch, gateway, counter, change), rest) = read_stamped(alloc, rest)?;
     let op = Op::Session {
         client,
         stamp: Stamp { epoch, gateway },
@@ -52,16 +67,35 @@ fn read_later(version: Version, bytes: &[u8]) -> Result<((bool, u64), &[u8]), Op
 type Content = (QosLevel, (bool, u64), Message);
 
 /// What stands after the topic of a message.
-#[tactic(auto, unfolding(crate::specs::Reading::content_at, crate::specs::Reading::qos_at))]
+#[tactic(auto, unfolding(crate::specs::Reading::content_at))]
 fn read_content(alloc: Global, version: Version, bytes: &[u8]) -> Result<(Content, &[u8]), OpsFault>
     ensures { Gives (λ x. ((x.0.0, (x.0.1, x.0.2)), x.1.now)) result
         (content_at version bytes.now) }
 {
-    let (number, rest) = read_octet(bytes)?;
-    let qos = level_of(number)?;
+    let (qos, rest) = read_qos(bytes)?;
     let (later, rest) = read_later(version, rest)?;
     let (body, rest) = read_body(alloc, rest)?;
     Ok(((qos, later, body), rest))
+}
+
+/// The origin, the sequence number and the topic of a message, and its content.
+type Fields = (u8, u64, TopicName, Content);
+
+/// What stands after the client of a message.
+fn read_put_fields(
+    alloc: Global,
+    version: Version,
+    bytes: &[u8],
+) -> Result<(Fields, &[u8]), OpsFault>
+    ensures { Gives (λ x. ((x.0.0, (x.0.1, (x.0.2, (x.0.3.0, (x.0.3.1, x.0.3.2))))), x.1.now))
+        result (both (ranged is_counted octet_at) (both (ranged is_counted (number_at w64))
+        (both topic_at (content_at version))) bytes.now) }
+{
+    let (origin, rest) = read_counted_octet(bytes)?;
+    let (seq, rest) = read_counted_eight(rest)?;
+    let (topic, rest) = read_topic(alloc, rest)?;
+    let (content, rest) = read_content(alloc, version, rest)?;
+    Ok(((origin, seq, topic, content), rest))
 }
 
 /// The put after its kind.
@@ -70,10 +104,8 @@ fn read_put(alloc: Global, version: Version, bytes: &[u8]) -> Result<(Op, &[u8])
     ensures { Gives (λ x. (x.0, x.1.now)) result (put_op_at version bytes.now) }
 {
     let (client, rest) = read_client(alloc, bytes)?;
-    let (origin, rest) = read_counted_octet(rest)?;
-    let (seq, rest) = read_counted_eight(rest)?;
-    let (topic, rest) = read_topic(alloc, rest)?;
-    let ((qos, (retain, expires), body), rest) = read_content(alloc, version, rest)?;
+    let (fields, rest) = read_put_fields(alloc, version, rest)?;
+    let (origin, seq, topic, (qos, (retain, expires), body)) = fields;
     let put = Put {
         origin,
         seq,
@@ -116,17 +148,29 @@ fn read_ack(alloc: Global, bytes: &[u8]) -> Result<(Op, &[u8]), OpsFault>
     Ok((op, rest))
 }
 
+/// The clock, the gateway and the quality of service of what is retained, and its octets.
+type Kept = (u64, u8, QosLevel, Message);
+
+/// What stands after the topic of what is retained.
+fn read_kept(alloc: Global, bytes: &[u8]) -> Result<(Kept, &[u8]), OpsFault>
+    ensures { Gives (λ x. ((x.0.0, (x.0.1, (x.0.2, x.0.3))), x.1.now)) result
+        (both (ranged is_counted (number_at w64))
+        (both (ranged is_counted octet_at) (both qos_at body_at)) bytes.now) }
+{
+    let (clock, rest) = read_counted_eight(bytes)?;
+    let (gateway, rest) = read_counted_octet(rest)?;
+    let (qos, rest) = read_qos(rest)?;
+    let (body, rest) = read_body(alloc, rest)?;
+    Ok(((clock, gateway, qos, body), rest))
+}
+
 /// What is retained, after its kind.
-#[tactic(auto, unfolding(crate::specs::Reading::retain_op_at, crate::specs::Reading::qos_at))]
+#[tactic(auto, unfolding(crate::specs::Reading::retain_op_at))]
 fn read_retain(alloc: Global, bytes: &[u8]) -> Result<(Op, &[u8]), OpsFault>
     ensures { Gives (λ x. (x.0, x.1.now)) result (retain_op_at bytes.now) }
 {
     let (topic, rest) = read_topic(alloc, bytes)?;
-    let (clock, rest) = read_counted_eight(rest)?;
-    let (gateway, rest) = read_counted_octet(rest)?;
-    let (number, rest) = read_octet(rest)?;
-    let qos = level_of(number)?;
-    let (body, rest) = read_body(alloc, rest)?;
+    let ((clock, gateway, qos, body), rest) = read_kept(alloc, rest)?;
     let retained = Retained {
         clock,
         gateway,

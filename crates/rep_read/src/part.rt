@@ -1,8 +1,7 @@
 //! The parts of a session.
 
-ghost use Rattle.std.specs.Prelude.{◌≡◌, true, false, IfOk, IfErr};
-ghost use Rattle.sn_tables.specs.Levels.{is_qos};
-ghost use Rattle.rep_read.specs.Reading.{Gives, flag_at, presence_at, phase_at, filter_at, entry_at, subscription_at, will_topic_at, will_at, exchange_at, some_will_at, some_topic_at, some_exchange_at};
+ghost use Rattle.std.specs.Prelude.{◌≡◌};
+ghost use Rattle.rep_read.specs.Reading.{Gives, flag_at, presence_at, phase_at, filter_at, qos_at, entry_at, subscription_at, will_topic_at, will_at, exchange_at, some_will_at, some_topic_at, some_exchange_at};
 
 use super::field::{
     read_body, read_counted_eight, read_counted_octet, read_octet, read_octets, read_topic,
@@ -70,13 +69,14 @@ pub fn read_filter(alloc: Global, bytes: &[u8]) -> Result<(Filter, &[u8]), OpsFa
     Ok((Filter::new(alloc, name)?, rest))
 }
 
-/// The quality of service of this number.
-pub fn level_of(number: u8) -> Result<QosLevel, OpsFault>
-    ensures ok { IfOk result (λ qos. (qos ≡ number) × (is_qos number ≡ true)) }
-    ensures err { IfErr result (λ fault. (fault ≡ OpsFault.Kind) × (is_qos number ≡ false)) }
+/// A quality of service.
+#[tactic(auto, unfolding(crate::specs::Reading::qos_at))]
+pub fn read_qos(bytes: &[u8]) -> Result<(QosLevel, &[u8]), OpsFault>
+    ensures { Gives (λ x. (x.0, x.1.now)) result (qos_at bytes.now) }
 {
+    let (number, rest) = read_octet(bytes)?;
     match QosLevel::new(number) {
-        Some(qos) => Ok(qos),
+        Some(qos) => Ok((qos, rest)),
         None => Err(OpsFault::Kind),
     }
 }
@@ -93,23 +93,21 @@ pub fn read_entry(alloc: Global, bytes: &[u8]) -> Result<(TopicEntry, &[u8]), Op
 }
 
 /// A subscription.
-#[tactic(auto, unfolding(crate::specs::Reading::subscription_at, crate::specs::Reading::qos_at))]
+#[tactic(auto, unfolding(crate::specs::Reading::subscription_at))]
 pub fn read_subscription(alloc: Global, bytes: &[u8]) -> Result<(Subscription, &[u8]), OpsFault>
     ensures { Gives (λ x. (x.0, x.1.now)) result (subscription_at bytes.now) }
 {
     let (filter, rest) = read_filter(alloc, bytes)?;
-    let (number, rest) = read_octet(rest)?;
-    let qos = level_of(number)?;
+    let (qos, rest) = read_qos(rest)?;
     Ok((Subscription { filter, qos }, rest))
 }
 
 /// A will's topic.
-#[tactic(auto, unfolding(crate::specs::Reading::will_topic_at, crate::specs::Reading::qos_at))]
+#[tactic(auto, unfolding(crate::specs::Reading::will_topic_at))]
 fn read_will_topic(alloc: Global, bytes: &[u8]) -> Result<(WillTopic, &[u8]), OpsFault>
     ensures { Gives (λ x. (x.0, x.1.now)) result (will_topic_at bytes.now) }
 {
-    let (number, rest) = read_octet(bytes)?;
-    let qos = level_of(number)?;
+    let (qos, rest) = read_qos(bytes)?;
     let (retain, rest) = read_flag(rest)?;
     let (topic, rest) = read_topic(alloc, rest)?;
     let asked = WillTopic { topic, qos, retain };

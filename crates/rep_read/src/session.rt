@@ -1,7 +1,7 @@
 //! Sessions and their changes.
 
 ghost use Rattle.std.specs.Prelude.{◌≡◌, ◌≤◌};
-ghost use Rattle.rep_read.specs.Reading.{Gives, head_at, parts_at, session_at, set_presence_at, set_outbound_at, fields_at, change_at};
+ghost use Rattle.rep_read.specs.Reading.{Gives, both, some_will_at, received_at, some_exchange_at, head_at, parts_at, session_at, set_presence_at, set_outbound_at, fields_at, change_at};
 
 use super::field::{read_body, read_counted_two, read_octet, read_two};
 use super::part::{
@@ -35,6 +35,20 @@ type Parts = (
     Option<Outbound>,
 );
 
+/// A will, received message ids and an exchange.
+type LaterParts = (Option<Will>, Received, Option<Outbound>);
+
+/// What stands after the topic ids and the subscriptions of a session.
+fn read_later_parts(alloc: Global, bytes: &[u8]) -> Result<(LaterParts, &[u8]), OpsFault>
+    ensures { Gives (λ x. ((x.0.0, (x.0.1, x.0.2)), x.1.now)) result
+        (both some_will_at (both received_at some_exchange_at) bytes.now) }
+{
+    let (will, rest) = read_some_will(alloc, bytes)?;
+    let (received, rest) = read_received(alloc, rest)?;
+    let (outbound, rest) = read_some_exchange(rest)?;
+    Ok(((will, received, outbound), rest))
+}
+
 /// The tables of a session, its will and its exchange.
 #[tactic(auto, unfolding(crate::specs::Reading::parts_at))]
 fn read_parts(alloc: Global, bytes: &[u8]) -> Result<(Parts, &[u8]), OpsFault>
@@ -43,9 +57,7 @@ fn read_parts(alloc: Global, bytes: &[u8]) -> Result<(Parts, &[u8]), OpsFault>
 {
     let (topics, rest) = read_topics(alloc, bytes)?;
     let (subscriptions, rest) = read_subscriptions(alloc, rest)?;
-    let (will, rest) = read_some_will(alloc, rest)?;
-    let (received, rest) = read_received(alloc, rest)?;
-    let (outbound, rest) = read_some_exchange(rest)?;
+    let ((will, received, outbound), rest) = read_later_parts(alloc, rest)?;
     Ok(((topics, subscriptions, will, received, outbound), rest))
 }
 
