@@ -178,7 +178,10 @@ fn hold(slot: Slot, content: SlotContent, size: usize) -> Opening
             found,
             size,
         },
-        _ => Opening::New,
+        other => {
+            drop(other);
+            Opening::New
+        }
     }
 }
 
@@ -281,11 +284,15 @@ fn opening_in(
         (λ fault. slots_fault first second (beside == 0 && nat_lt size 14) ≡ Some fault) }
 {
     if let Some(fault) = fault_in(&first, &second, beside == 0 && size < SEALED_HEADER) {
+        drop(first);
+        drop(second);
         return Err(fault);
     }
     if is_first_read(&first, &second) {
+        drop(second);
         return Ok(hold(Slot::First, first, size));
     }
+    drop(first);
     Ok(hold(Slot::Second, second, beside))
 }
 
@@ -308,8 +315,13 @@ pub(crate) fn read_slots<D: Disk>(
         IsFault (fault_of gateway (image (D.slots disk.old))) fault) }
 {
     let (first, size) = see_slot(alloc, disk, gateway, Slot::First)?;
-    let (second, beside) = see_slot(alloc, disk, gateway, Slot::Second)?;
-    opening_in(first, size, second, beside)
+    match see_slot(alloc, disk, gateway, Slot::Second) {
+        Ok((second, beside)) => opening_in(first, size, second, beside),
+        Err(fault) => {
+            drop(first);
+            Err(fault)
+        }
+    }
 }
 
 /// The deltas of a journal, with the slot in which it goes on.
