@@ -78,9 +78,11 @@ fn disk_of(alloc: Global, first: &[u8], second: &[u8]) -> Result<MemoryDisk, NoM
 {
     let mut disk = MemoryDisk::new(alloc);
     if disk.append(Slot::First, first).is_err() {
+        drop(disk);
         return Err(NoMemory);
     }
     if disk.append(Slot::Second, second).is_err() {
+        drop(disk);
         return Err(NoMemory);
     }
     Ok(disk)
