@@ -9,6 +9,7 @@ use super::message::LinkMessage;
 use octets::NoMemory;
 use std::alloc::Global;
 use std::marker::Model;
+use std::mem;
 
 /// What a piece gave.
 #[derive(Drop)]
@@ -72,8 +73,11 @@ impl LinkIn {
         if let Ok(fed) = &result {
             self.failed = fed.fault.is_some();
         }
-        self.waiting = Some(waiting);
-        Ok(result?)
+        drop(mem::replace(&mut self.waiting, Some(waiting)));
+        match result {
+            Ok(fed) => Ok(fed),
+            Err(_) => Err(LinkFault::Memory),
+        }
     }
 }
 
