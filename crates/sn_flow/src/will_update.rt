@@ -30,9 +30,13 @@ fn is_retained(flags: Flags) -> bool
 fn topic_from(name: Option<TopicName>, qos: Option<QosLevel>, retain: bool) -> Option<WillTopic>
     ensures { result ≡ spec.topic_from name qos retain }
 {
-    match (name, qos) {
-        (Some(topic), Some(qos)) => Some(WillTopic { topic, qos, retain }),
-        _ => None,
+    let topic = name?;
+    match qos {
+        Some(qos) => Some(WillTopic { topic, qos, retain }),
+        None => {
+            drop(topic);
+            None
+        }
     }
 }
 
