@@ -137,7 +137,10 @@ fn write_granted(
 {
     let NamedId { id, change } = named;
     let before = session.subscription(&filter);
-    draft.change_if(change)?;
+    if draft.change_if(change).is_err() {
+        drop(filter);
+        return Err(NoMemory);
+    }
     draft.change_if(subscribe_change(filter, qos, before))?;
     draft.send(alloc, to, suback(flags, id, msg_id, ACCEPTED))
 }
@@ -230,12 +233,18 @@ fn subscribe_to<R: Replica>(
         to session.now flags.bits msg_id field.now filter qos) }
 {
     if session.subscriptions.has_no_room(&filter) {
+        drop(filter);
         return refuse(alloc, to, flags, msg_id, CONGESTION);
     }
-    let named = id_asked(alloc, session, flags.kind(), field, &filter)?;
-    subscribed(
-        alloc, replica, waiting, to, session, flags, msg_id, filter, qos, named,
-    )
+    match id_asked(alloc, session, flags.kind(), field, &filter) {
+        Ok(named) => subscribed(
+            alloc, replica, waiting, to, session, flags, msg_id, filter, qos, named,
+        ),
+        Err(fault) => {
+            drop(filter);
+            Err(fault)
+        }
+    }
 }
 
 /// Subscribes to what is asked for, at this quality of service.
