@@ -2,10 +2,13 @@
  *
  * wire ports COUNT                                   free ports, one a line; the system gives them
  * wire guard PROGRAM ARGUMENT..                      runs the program, which ends with the shell that started it
- * wire plain [FILE OCTETS]                           the plain server; prints its port; appends so many octets, synced, before a PUBACK
+ * wire plain [FILE OCTETS [MOST]]                    the plain server; prints its port; appends so many octets, synced, before a PUBACK;
+ *                                                    with MOST it takes so many datagrams that wait, and syncs once for them
  * wire pings PORT ROUNDS                             PINGREQ of one client, one at a time
  * wire puts PORT CLIENTS MESSAGES APIECE [FILE]      PUBLISH at quality of service 1, one at a time of each client; what FILE grows by
- * wire flood PORT RATE SECONDS APIECE                so many PUBLISH per second, then PINGREQ
+ * wire flood PORT RATE SECONDS APIECE                so many PUBLISH per second, then PINGREQ; SECONDS may be a fraction
+ * wire deltas LINK COUNT FILE SYNCS                  so many deltas of gateway 2 at once, over a link; how often was synced until FILE, the
+ *                                                    journal, has them: what SYNCS, to which each sync adds an octet, grows by
  * wire turn PORT LINK CLIENTS LINKS MESSAGES APIECE  as puts, with links that read what comes; the longest gaps between answers
  * wire memory PORT PROCESS FEW MANY                  messages put, delivered and acknowledged; VmRSS behind FEW and behind MANY
  *
@@ -341,7 +344,7 @@ static double answer_behind(struct flood *flood)
 static void flood(long port, double rate, double seconds, long apiece)
 {
     double most = 60000 / rate; /* each message has an id of its own */
-    long total = (long)(rate * (seconds < most ? seconds : most));
+    long total = (long)(rate * (seconds < most ? seconds : most) + 0.5);
     sleepers(port, (total + apiece - 1) / apiece);
     struct flood flood = { .fd = client_at(port, "flood") };
     int size = 4 << 20;
@@ -357,6 +360,48 @@ static void flood(long port, double rate, double seconds, long apiece)
     }
     printf("sent %ld rate %.1f answered %ld dropped %.4f after %.0f\n", flood.sent, flood.sent / poured, flood.answered,
            1 - (double)flood.answered / flood.sent, waited * 1e6);
+}
+
+/* ---- deltas of a peer */
+
+enum { MOST_DELTAS = 100, LONGEST_DELTA = 64 };
+
+/* A link's message: what gateway 2 makes of the first CONNECT of a client. */
+static size_t delta_of(uint8_t *at, long place)
+{
+    static const uint8_t front[] = { 3, 0, 0, 0, 36, 1, 0, 0, 0, 1, 1, 4 };
+    static const uint8_t back[] = { 0, 0, 0, 0, 0, 0, 0, 1, 2, 0, 0, 0, 1, 0, 60, 0, 1, 0, 0, 0, 0, 0, 0, 0, 0 };
+    const uint8_t name[4] = { 'd', '-', (uint8_t)('0' + place / 10), (uint8_t)('0' + place % 10) };
+    memcpy(at, front, sizeof front);
+    memcpy(at + sizeof front, name, 4);
+    memcpy(at + sizeof front + 4, back, sizeof back);
+    return sizeof front + 4 + sizeof back;
+}
+
+/* Waits until a file has so many octets and has not grown for half a second. */
+static void settle(const char *file, long octets)
+{
+    static const struct timespec half = { 0, 500000000 };
+    double end = now() + 20;
+    for (long before = -1, size; (size = size_of(file)) != before || size < octets; before = size) {
+        if (now() > end) stop("wire: the deltas are not in the journal within 20 seconds");
+        nanosleep(&half, NULL);
+    }
+}
+
+static void deltas(long link, long count, const char *file, const char *syncs)
+{
+    static uint8_t octets[MOST_DELTAS * LONGEST_DELTA];
+    uint8_t hello[] = { 1, 0, 0, 0, 1, 2, 2, 0, 0, 0, 5, 1, 0, 0, 0, 0 }, answer[4096];
+    size_t len = 0;
+    int fd = opened(SOCK_STREAM, link, connect, "a link");
+    if (send(fd, hello, sizeof hello, 0) != sizeof hello || recv(fd, answer, sizeof answer, 0) <= 0) failed("a link");
+    settle(file, 0);
+    for (long place = 0; place < count; place++) len += delta_of(octets + len, place);
+    long had = size_of(file), before = size_of(syncs);
+    if (send(fd, octets, len, 0) != (ssize_t)len) failed("a link");
+    settle(file, had + (long)len);
+    printf("deltas %ld syncs %ld octets %ld\n", count, size_of(syncs) - before, size_of(file) - had);
 }
 
 /* ---- memory */
@@ -407,16 +452,18 @@ static void memory(long port, long process, long few, long many)
 
 /* ---- the plain server */
 
+/* How many datagrams it takes at most before one sync and their answers, and of how many octets. */
+enum { MOST_TAKEN = 64, LONGEST = 2048 };
+
+struct taken {
+    uint8_t octets[LONGEST], answer[64];
+    struct sockaddr_in from;
+    size_t back;
+};
+
 static uint8_t *kept;
 static size_t kept_len;
 static int kept_file = -1;
-
-static void keep_octets(void)
-{
-    if (kept_file < 0) return;
-    if (write(kept_file, kept, kept_len) != (ssize_t)kept_len) failed("a write");
-    if (fdatasync(kept_file)) failed("fdatasync");
-}
 
 /* The answer to a datagram, if it is answered. */
 static size_t answer_to(const uint8_t *octets, size_t len, uint8_t *answer)
@@ -437,7 +484,6 @@ static size_t answer_to(const uint8_t *octets, size_t len, uint8_t *answer)
         return message(answer, SUBACK, body, 6);
     case PUBLISH:
         if (len < 7) return 0;
-        keep_octets();
         memcpy(body, octets + 3, 4);
         return message(answer, PUBACK, body, 5);
     default:
@@ -445,9 +491,39 @@ static size_t answer_to(const uint8_t *octets, size_t len, uint8_t *answer)
     }
 }
 
-/* The calls of the daemon's socket: recvfrom; where nothing is there, epoll_wait and recvfrom; sendto. */
-static void plain(const char *file, long octets)
+/* Appends as much as one publication takes. */
+static long keep_octets(const struct taken *one, size_t len)
 {
+    if (kept_file < 0 || len < 7 || one->octets[1] != PUBLISH) return 0;
+    if (write(kept_file, kept, kept_len) != (ssize_t)kept_len) failed("a write");
+    return 1;
+}
+
+/* Takes what waits, so many datagrams at most: one sync for what they keep, and then their answers. How many came. */
+static long take_some(int fd, struct taken *all, long most)
+{
+    long came = 0, puts = 0;
+    for (; came < most; came++) {
+        struct taken *one = all + came;
+        socklen_t size = sizeof one->from;
+        ssize_t len = recvfrom(fd, one->octets, sizeof one->octets, 0, (struct sockaddr *)&one->from, &size);
+        if (len < 0 && errno == EAGAIN) break;
+        if (len < 0) failed("a receive");
+        one->back = answer_to(one->octets, (size_t)len, one->answer);
+        puts += keep_octets(one, (size_t)len);
+    }
+    if (puts && fdatasync(kept_file)) failed("fdatasync");
+    for (long place = 0; place < came; place++) {
+        struct taken *one = all + place;
+        if (one->back) sendto(fd, one->answer, one->back, 0, (struct sockaddr *)&one->from, sizeof one->from);
+    }
+    return came;
+}
+
+/* The calls of the daemon's socket: recvfrom; where nothing is there, epoll_wait and recvfrom; sendto. */
+static void plain(const char *file, long octets, long most)
+{
+    static struct taken all[MOST_TAKEN];
     int fd = opened(SOCK_DGRAM, 0, bind, "a socket"), ready = epoll_create1(0);
     struct epoll_event event = { .events = EPOLLIN | EPOLLET };
     if (prctl(PR_SET_PDEATHSIG, SIGKILL)) failed("prctl");
@@ -461,20 +537,8 @@ static void plain(const char *file, long octets)
     }
     printf("%ld\n", port_of(fd));
     fflush(stdout);
-    for (;;) {
-        static uint8_t came[65536];
-        uint8_t answer[64];
-        struct sockaddr_in from;
-        socklen_t size = sizeof from;
-        ssize_t len = recvfrom(fd, came, sizeof came, 0, (struct sockaddr *)&from, &size);
-        if (len < 0 && errno == EAGAIN) {
-            epoll_wait(ready, &event, 1, 100);
-            continue;
-        }
-        if (len < 0) failed("a receive");
-        size_t back = answer_to(came, (size_t)len, answer);
-        if (back) sendto(fd, answer, back, 0, (struct sockaddr *)&from, size);
-    }
+    for (;;)
+        if (!take_some(fd, all, most)) epoll_wait(ready, &event, 1, 100);
 }
 
 /* ---- all */
@@ -501,13 +565,15 @@ int main(int count, char **words)
     for (int place = 2; place < count && place < 8; place++) n[place] = atol(words[place]);
     if (!strcmp(what, "ports") && count == 3) ports(n[2]);
     else if (!strcmp(what, "guard") && count > 2) guard(words + 2);
-    else if (!strcmp(what, "plain") && count == 2) plain(NULL, 0);
-    else if (!strcmp(what, "plain") && count == 4) plain(words[2], n[3]);
+    else if (!strcmp(what, "plain") && count == 2) plain(NULL, 0, 1);
+    else if (!strcmp(what, "plain") && count == 4) plain(words[2], n[3], 1);
+    else if (!strcmp(what, "plain") && count == 5 && n[4] >= 1 && n[4] <= MOST_TAKEN) plain(words[2], n[3], n[4]);
     else if (!strcmp(what, "pings") && count == 4) pings(n[2], n[3]);
     else if (!strcmp(what, "puts") && (count == 6 || count == 7) && n[5] >= 1) puts_of(n[2], n[3], n[4], n[5], words[6]);
-    else if (!strcmp(what, "flood") && count == 6 && n[3] > 0 && n[5] >= 1) flood(n[2], n[3], n[4], n[5]);
+    else if (!strcmp(what, "flood") && count == 6 && n[3] > 0 && n[5] >= 1) flood(n[2], n[3], atof(words[4]), n[5]);
+    else if (!strcmp(what, "deltas") && count == 6 && n[3] >= 1 && n[3] <= MOST_DELTAS) deltas(n[2], n[3], words[4], words[5]);
     else if (!strcmp(what, "turn") && count == 8 && n[7] >= 1) turn(n[2], n[3], n[4], n[5], n[6], n[7]);
     else if (!strcmp(what, "memory") && count == 6) memory(n[2], n[3], n[4], n[5]);
-    else stop("usage: wire ports|guard|plain|pings|puts|flood|turn|memory .. (the head of bench/wire.c says what of)");
+    else stop("usage: wire ports|guard|plain|pings|puts|flood|deltas|turn|memory .. (the head of bench/wire.c says what of)");
     return 0;
 }

@@ -6,12 +6,15 @@
 # Of the daemon PROGRAM, three times in turn with the plain server, the best of which counts: ROUNDS (20,000) PINGREQ of one client, and
 # MESSAGES (5,000) PUBLISH at quality of service 1, of one client and of 32, each with one under way. They wait for sleepers, 100
 # for each. The plain server answers the same frames; before a PUBACK it appends as many octets to a file as the journal grew by,
-# and calls fdatasync. Then, of either, a flood of twice what was handled, for some five seconds; and of the daemon the longest gaps
-# between answers to 32 clients over the turn of shifts, in TURN (20,480) PUBLISH with 4 links; and its memory behind 1,000 messages that
-# were delivered and acknowledged, and behind MANY (20,000).
+# and calls fdatasync: once for each, and of 32 clients also once for all that wait, 64 at most. The same of PUBLISH on a slow disk,
+# of which each sync takes 10 ms longer, a tenth as many. On that disk 300 PUBLISH within 2 ms, and 64 deltas that come over a link at
+# once. Then, of either server, a flood of twice what was handled, for some five seconds; and of the daemon the longest gaps between
+# answers to 32 clients over the turn of shifts, in TURN (20,480) PUBLISH with 4 links; and its memory behind 1,000 messages that were
+# delivered and acknowledged, and behind MANY (20,000). If BEFORE names another daemon, that has its turns with the PUBLISH of one
+# client, too.
 #
 # Time is that on the clock, so the figures mean something on a machine that does nothing else. Files lie in TMPDIR or /var/tmp,
-# which should be on a disk. All goes on at 127.0.0.1, at ports that the system gives.
+# which should be on a disk. All goes on at 127.0.0.1, at ports that the system gives. What follows `goal` is met or missed.
 set -eu
 top=$(cd "$(dirname "$0")/.." && pwd)
 if [ $# -lt 1 ] || [ $# -gt 5 ] || [ ! -x "$1" ]; then
@@ -38,6 +41,11 @@ trap 'finish; rm -rf "$work"' EXIT
 trap 'exit 1' INT TERM HUP
 wire=$work/wire
 gcc -O2 -Wall -o "$wire" "$top/bench/wire.c"
+gcc -O1 -Wall -shared -fPIC -nostdlib -fno-stack-protector -o "$work/slow.so" "$top/trials/slow_sync.c"
+echo 10 >"$work/slow"
+# What a server is given so that its disk is slow, and its syncs are counted; nothing for the disk as it is.
+disk=
+slow="LD_PRELOAD=$work/slow.so SLOW_SYNC=$work/slow SYNCS_COUNTED=$work/syncs"
 
 # await COMMAND..: waits until the command has status 0, twenty seconds at most.
 await() {
@@ -52,7 +60,7 @@ await() {
     done
 }
 
-# daemon: a new daemon with nothing in its journal. Its ports are $port and $link.
+# daemon [PROGRAM]: a new daemon with nothing in its journal. Its ports are $port and $link.
 daemon() {
     finish
     rm -f "$work"/journal.*
@@ -65,17 +73,20 @@ listen = "127.0.0.1:$port"
 link = "127.0.0.1:$link"
 journal = "$work/journal"
 END
-    "$wire" guard "$program" --config "$work/settings.toml" --shifts 1000000 >"$work/out" 2>"$work/err" &
+    : >"$work/out"
+    # shellcheck disable=SC2086
+    env $disk "$wire" guard "${1:-$program}" --config "$work/settings.toml" --shifts 1000000 >"$work/out" 2>"$work/err" &
     server=$!
     await grep -q '^gateway 1 records' "$work/out"
 }
 
-# plain [FILE OCTETS]: the plain server. Its port is $port.
+# plain [FILE OCTETS [MOST]]: the plain server. Its port is $port.
 plain() {
     finish
     rm -f "$work/plain.file"
     : >"$work/out"
-    "$wire" plain "$@" >"$work/out" 2>"$work/err" &
+    # shellcheck disable=SC2086
+    env $disk "$wire" plain "$@" >"$work/out" 2>"$work/err" &
     server=$!
     await test -s "$work/out"
     port=$(cat "$work/out")
@@ -101,19 +112,71 @@ compare() {
         printf "  the daemon does %.2f of plain C\n", a / b }'
 }
 
-# puts CLIENTS: publications of so many clients, to both servers in turn.
+# goal WORDS NUMBER LEAST: says whether a number is as great as it should be.
+goal() {
+    awk -v words="$1" -v n="$2" -v least="$3" 'BEGIN {
+        printf "  %s %.2f; goal %s: %s\n", words, n, least, (n + 0 >= least + 0) ? "met" : "missed" }'
+}
+
+# by A B: a quotient.
+by() {
+    awk -v a="$1" -v b="$2" 'BEGIN { print b + 0 ? a / b : 0 }'
+}
+
+# puts CLIENTS MESSAGES: so many publications of so many clients, to servers in turn: the daemon, the plain one; of many clients also
+# the plain one that syncs once for all that wait, and of one also the daemon BEFORE.
 puts() {
-    rm -f "$work/proved" "$work/plain"
+    rm -f "$work/proved" "$work/plain" "$work/grouped" "$work/before"
     for _ in 1 2 3; do
         daemon
-        "$wire" puts "$port" "$1" "$messages" "$apiece" "$work/journal.0" >>"$work/proved"
+        "$wire" puts "$port" "$1" "$2" "$apiece" "$work/journal.0" >>"$work/proved"
         octets=$(told octets "$(tail -n 1 "$work/proved")")
         plain "$work/plain.file" "${octets%.*}"
-        "$wire" puts "$port" "$1" "$messages" "$apiece" >>"$work/plain"
+        "$wire" puts "$port" "$1" "$2" "$apiece" >>"$work/plain"
+        if [ "$1" -gt 1 ]; then
+            plain "$work/plain.file" "${octets%.*}" 64
+            "$wire" puts "$port" "$1" "$2" "$apiece" >>"$work/grouped"
+        elif [ -n "${BEFORE:-}" ]; then
+            daemon "$BEFORE"
+            "$wire" puts "$port" "$1" "$2" "$apiece" >>"$work/before"
+        fi
     done
     proved_line=$(best "$work/proved")
     plain_line=$(best "$work/plain")
     octets=$(told octets "$proved_line")
+}
+
+# one_and_many MESSAGES WORDS TIMES: publications of one client, and of 32, which should be answered so many times as often.
+one_and_many() {
+    puts 1 "$1"
+    compare "$1 PUBLISH of one client$2, $octets octets of the journal each" "$proved_line" "$plain_line"
+    alone=$(told rate "$proved_line")
+    if [ -n "${BEFORE:-}" ]; then
+        goal "of what the daemon before does it does" "$(by "$alone" "$(told rate "$(best "$work/before")")")" 0.95
+    fi
+    puts 32 "$1"
+    compare "$1 PUBLISH of 32 clients$2, $octets octets of the journal each" "$proved_line" "$plain_line"
+    rate=$(told rate "$proved_line")
+    grouped=$(told rate "$(best "$work/grouped")")
+    echo "  plain C with one sync for all that wait ${grouped%.*} per second"
+    goal "of what that does the daemon does" "$(by "$rate" "$grouped")" 0.6
+    goal "of what it does for one client it does" "$(by "$rate" "$alone")" "$3"
+}
+
+# burst: 300 publications within 2 ms, to the daemon.
+burst() {
+    daemon
+    line=$("$wire" flood "$port" 150000 0.002 500)
+    awk -v sent="$(told sent "$line")" -v answered="$(told answered "$line")" -v after="$(told after "$line")" 'BEGIN {
+        printf "  %d sent, %d dropped; goal none: %s; an answer %.0f ms behind them\n", sent, sent - answered,
+            sent == answered ? "met" : "missed", after / 1000 }'
+}
+
+# peer: 64 deltas at once, over a link to the daemon.
+peer() {
+    daemon
+    line=$("$wire" deltas "$link" 64 "$work/journal.0" "$work/syncs")
+    awk -v syncs="$(told syncs "$line")" 'BEGIN { printf "  %d syncs; goal 1: %s\n", syncs, syncs == 1 ? "met" : "missed" }'
 }
 
 # flood WORDS RATE: twice the rate, to the server that runs.
@@ -136,18 +199,22 @@ for _ in 1 2 3; do
 done
 compare "$rounds PINGREQ of one client" "$(best "$work/pings")" "$(best "$work/echoes")"
 
-puts 1
-compare "$messages PUBLISH of one client, $octets octets of the journal each" "$proved_line" "$plain_line"
-alone=$(told rate "$proved_line")
-puts 32
-compare "$messages PUBLISH of 32 clients, $octets octets of the journal each" "$proved_line" "$plain_line"
-awk -v a="$(told rate "$proved_line")" -v b="$alone" 'BEGIN { printf "  the daemon does %.2f of what it does for one client\n", a / b }'
+one_and_many "$messages" "" 5
+fast_line=$proved_line
+fast_plain=$plain_line
+disk=$slow
+one_and_many $((messages / 10)) ", each sync 10 ms longer" 15
+echo "300 PUBLISH within 2 ms, each sync 10 ms longer"
+burst
+echo "64 deltas that come over a link at once, each sync 10 ms longer"
+peer
+disk=
 
 echo "a flood of twice as many PUBLISH as were handled"
 daemon
-flood daemon "$(told rate "$proved_line")"
+flood daemon "$(told rate "$fast_line")"
 plain "$work/plain.file" "${octets%.*}"
-flood "plain C" "$(told rate "$plain_line")"
+flood "plain C" "$(told rate "$fast_plain")"
 
 daemon
 line=$("$wire" turn "$port" "$link" 32 4 "$turn" "$apiece")

@@ -251,6 +251,19 @@ def compare(rows):
         raise Fault(f"crates/gw_sim/{name} is not what the rows give: {which}; rows/join_rows.py writes it")
 
 
+def ends_of_events(lines):
+    """The places of the lines that end an event: each by itself, and the last call of those that come together."""
+    ends, calls = [], 0
+    for at, line in enumerate(lines):
+        together = re.fullmatch(rb"together \d+ (\d+)\n?", line)
+        if calls == 0 and together:
+            calls = int(together[1]) or 1
+        elif calls > 0 or line != b"\n" and not line.startswith(HEADS):
+            calls -= calls > 0
+            ends += [at] if calls == 0 else []
+    return ends
+
+
 def split(name, script, program):
     """A script as a row. A gateway that it does not have answers a SEARCHGW behind each event, which ends what that printed."""
     used = {int(number) for number in re.findall(rb"(?m)^gateway 0*(\d+)$", script)}
@@ -258,20 +271,17 @@ def split(name, script, program):
     marker, answer = b"frame %d 65000 0 030100\n" % other, b"to 65000 0302%02x\n" % other
     row, lines = Row(name, ""), re.findall(rb"[^\n]*\n|[^\n]+$", script)
     play = lambda text: subprocess.run([program], input=text, capture_output=True, check=False).stdout
-    whole, marked = play(script), [b"gateway %d\n" % other]
-    for line in lines:
-        marked += [line] if line.startswith(HEADS) or line == b"\n" else [line.removesuffix(b"\n") + b"\n", marker]
+    whole, marked, ends = play(script), [b"gateway %d\n" % other], ends_of_events(lines)
+    for at, line in enumerate(lines):
+        marked += [line.removesuffix(b"\n") + b"\n", marker] if at in ends else [line]
     parts = play(b"".join(marked)).split(answer)
-    events = [line for line in lines if not line.startswith(HEADS) and line != b"\n"]
-    if is_refused(whole) or len(parts) != len(events) + 1 or b"".join(parts) != whole or parts[-1]:
+    if is_refused(whole) or len(parts) != len(ends) + 1 or b"".join(parts) != whole or parts[-1]:
         parts = None
-    at = 0
-    for line in lines:
+    for at, line in enumerate(lines):
         row.add_line(line.removesuffix(b"\n"), line.endswith(b"\n"))
-        if parts and not line.startswith(HEADS) and line != b"\n":
-            for one in parts[at].splitlines():
+        if parts and at in ends:
+            for one in parts[ends.index(at)].splitlines():
                 row.add_output(one)
-            at += 1
     if not parts:
         for one in whole.splitlines():
             row.add_output(one)

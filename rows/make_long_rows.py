@@ -20,6 +20,17 @@ class Row:
         self.deltas += 1
         self.line(line, *printed, "delta %d" % self.deltas)
 
+    def together(self, gateway, *calls):
+        """Calls that come to a gateway together: pairs of a line and what it prints, "delta" for the next delta."""
+        self.lines.append(("together %d %d" % (gateway, len(calls)), []))
+        all_printed = []
+        for line, printed in calls:
+            self.lines.append((line, []))
+            for one in printed:
+                self.deltas += one == "delta"
+                all_printed.append("delta %d" % self.deltas if one == "delta" else one)
+        self.lines[-1] = (calls[-1][0], all_printed)
+
 
 def connect(client, flags):
     """CONNECT without a duration."""
@@ -343,6 +354,84 @@ def stretched():
     return row.lines
 
 
+SLEEP = "frame 1 7 1 0418012c"
+
+
+def begun(sleeps):
+    """A client that falls asleep so many times, again and again, all in one row of calls with its CONNECT."""
+    row = Row(1)
+    first = ("frame 1 7 0 08040401003c7331", ["to 7 030500", "delta"])
+    row.together(1, first, *[(SLEEP, ["to 7 0218", "delta"])] * sleeps)
+    return row
+
+
+def asleep(stamp, prefix):
+    return "client 7331 stamp %d.1 prefix %d asleep clean 300 next 1" % (stamp, prefix)
+
+
+def rolled_over():
+    """256 operations under a stamp; the next call begins another one. All of it is one row of calls."""
+    row = begun(257)
+    row.line("show 1", asleep(2, 3))
+    row.line("restart 1 0", "records 258")
+    row.line("show 1", asleep(2, 3))
+    return row.lines
+
+
+def roll_over_that_fails(row):
+    """255 operations under a stamp; a row of three calls, the second of which begins another one, fails."""
+    row.line("show 1", asleep(1, 255))
+    row.line("fail 1 sync")
+    row.together(1, (SLEEP, ["refused N3"]), (SLEEP, ["refused N2"]), (SLEEP, ["refused N2"]))
+    row.line("show 1", asleep(1, 255))
+
+
+def roll_over_fails():
+    """Nothing of it survives, and the same calls come again."""
+    row = begun(254)
+    roll_over_that_fails(row)
+    row.line("restart 1 0", "records 255")
+    row.line("show 1", asleep(1, 255))
+    row.line("frame 1 7 2 04167331", "to 7 0217")
+    row.together(1, *[(SLEEP, ["to 7 0218", "delta"])] * 3)
+    row.line("show 1", asleep(2, 3))
+    row.line("restart 1 0", "records 258")
+    return row.lines
+
+
+def roll_over_survives():
+    """All of it survives."""
+    row = begun(254)
+    roll_over_that_fails(row)
+    row.line("restart 1 all", "records 258")
+    row.line("show 1", asleep(2, 3))
+    return row.lines
+
+
+def many_operations():
+    """A message for 70 clients, first in a row of calls that fails, and behind another call in one that fails and survives."""
+    row = Row(1)
+    calls = []
+    for number in range(1, 71):
+        calls.append(("frame 1 %d 0 %s" % (number, connect("%04d" % number, 4)), ["to %d 030500" % number, "delta"]))
+        calls.append(("frame 1 %d 0 07122200016162" % number, ["to %d 0813200000000100" % number, "delta"]))
+    row.together(1, *calls)
+    publish, other = "frame 1 99 0 080c626162000078", "frame 1 99 0 080c626162000079"
+    arrival = "frame 1 9 0 " + connect("p1", 4)
+    row.line("fail 1 sync")
+    row.together(1, (publish, ["refused N3"]), (arrival, ["refused N2"]), (other, ["refused N2"]))
+    row.line("restart 1 0", "records 140")
+    row.line("fail 1 sync")
+    row.together(1, (arrival, ["to 9 030501", "refused N3"]), (publish, ["refused N2"]), (other, ["refused N2"]))
+    row.line("restart 1 all", "records 143")
+    shown = []
+    for number in range(1, 71):
+        shown.append("client %s stamp 1.1 prefix 2 active clean 0 next 1" % ("%04d" % number).encode().hex())
+        shown += ["  sub 6162 1", "  put 1.1 0 6162 78", "  put 2.1 0 6162 79"]
+    row.line("show 1", *shown, "client 7031 stamp 1.1 prefix 1 active clean 0 next 1")
+    return row.lines
+
+
 ROWS = {
     "handed-as-a-stamp-ends": stamps,
     "limit-of-a-delta": size_of_a_delta,
@@ -354,4 +443,8 @@ ROWS = {
     "nothing-expires-far-after-one-that-stays": stretched,
     "retained-behind-256-ids": ids_received,
     "retained-bodies": bodies,
+    "together-roll-over": rolled_over,
+    "together-roll-over-fails": roll_over_fails,
+    "together-roll-over-survives": roll_over_survives,
+    "together-with-more-than-64-operations": many_operations,
 }

@@ -65,17 +65,22 @@ FAULTS = {
     "rep_plain::clients": COPY,
     "rep_plain::held": COPY,
     "rep_plain::retained_matching": COPY,
+    "rep_plain::aside": COPY,
+    "rep_plain::save": "Memory | err | can, back",
     "rep_state::empty": COPY,
     "rep_state::prepare": "Conflict, Full, Memory | fault | unchanged",
     "rep_state::clients": COPY,
     "rep_state::held": COPY,
     "rep_state::retained_matching": COPY,
+    "rep_state::aside": COPY,
+    "rep_state::save": "Memory | err | can, back",
     "rep_digest::digest_of": "Limit, Memory | fault | reads",
     "rep_digest::Digest::encode": "Memory | memory | err",
     "rep_digest::Digest::decode": f"{READING} | exact, only | reads",
     "rep_answer::answer": COPY,
     "sn_local::Config::copy": COPY,
     "sn_local::Dialogs::prepare": "Memory | type | unchanged",
+    "sn_local::Dialogs::copied": ROW,
     **dict.fromkeys([f"sn_flow::{it}" for it in ("connect", "disconnect", "will_topic", "will_msg", "will_topic_update", "will_msg_update")], ROW),
     **dict.fromkeys([f"sn_subscribe::{it}" for it in ("register", "subscribe", "unsubscribe")], ROW),
     "sn_plan::other": ROW,
@@ -85,6 +90,8 @@ FAULTS = {
     "sn_tick::tick": PLAN,
     "jr_journal::Journal::open": "Disk, Foreign, BadRecord, Memory | cause, fault, found | kept, leaves",
     "jr_journal::Journal::append": "Halted, Memory, Disk | halted, faults, cause | stays, refused, halts, torn",
+    "jr_journal::Records::push": "Memory | type | err",
+    "jr_journal::Journal::append_all": "Halted, Disk | halted, faults, cause | stays, halts, torn",
     "jr_journal::Journal::compact": "Halted, Foreign, Memory, Disk | halted, last, faults, cause | refused, halts, torn",
     "jr_journal::Journal::reopen": "Disk, Foreign, BadRecord, Memory | cause, fault, found | wanting, halts, kept, leaves",
     "gw_node::Node::open": "Disk, Journal, Conflict, Full, Memory | may, cause, fault | slots, leaves",
@@ -97,6 +104,7 @@ FAULTS = {
     "gw_node::Node::compact": "Halted, Journal, Disk, Memory | call | call, taken, event",
     "gw_node::Node::reopen": "Disk, Journal, Conflict, Full, Memory | call | call, taken, event",
     "gw_node::Node::step": "Halted, Frame, Exhausted, Conflict, Full, Disk, Journal, Memory | call | call, taken, event",
+    "gw_node::Node::step_all": "Halted, Frame, Exhausted, Conflict, Full, Disk, Journal, Memory | events | events",
     "gw_node::Node::held": ROW,
     "gw_node::Node::clients": ROW,
     "gw_node::Node::retained": ROW,
@@ -105,6 +113,7 @@ FAULTS = {
     "gw_play::play": "1 | status, ended | printed",
     "gw_shift::Shift::open": "Memory | err | err",
     "gw_shift::Shift::call": "ShiftFull, Behind, Memory, Node | err | err",
+    "gw_shift::Shift::call_all": "ShiftFull, Behind, Memory | err | err",
     "gw_shift::Shift::after": "Behind, Memory | err | reads",
     "gw_shift::Shift::glance": ROW,
     "gw_shift::Shift::messages_known": ROW,
@@ -165,11 +174,12 @@ def contract(name):
 
 def variants(signature):
     """The faults of the type of faults in a signature."""
-    kind = re.search(r"(\w+Fault)\b", signature.rpartition("->")[2])
-    if "Answer" in signature.rpartition("->")[2]:
-        name = "NodeFault"
-    elif kind:
+    given = signature.rpartition("->")[2]
+    kind = re.search(r"(\w+Fault)\b", given)
+    if kind:
         name = kind[1]
+    elif "Answer" in given or "Reply" in given:
+        name = "NodeFault"
     elif "NoMemory" in signature or "AllocError" in signature:
         return {"Memory"}
     else:

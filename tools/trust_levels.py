@@ -146,26 +146,27 @@ NAMED = set("""
     sn_frame/FlagBits/qos_of sn_frame/frame/Frame sn_topic/Matching/Matches sn_tables/Received/is_received
     sn_tables/subscriptions/Subscription sn_session/Session/applied sn_session/Session/empty_session
     sn_session/change/SessionOp sn_session/outbound/Outbound sn_session/outbound/Phase sn_session/presence/Presence
-    sn_session/session/Session rep_ops/Making/AreApart rep_ops/Making/IsDeltaOf rep_ops/Spelling/IsWithinLimit
-    rep_model/Fresh/next_clock rep_model/Fresh/next_epoch rep_model/Fresh/next_seq rep_model/Topics/topic_in rep_model/Limits/first_passed rep_model/Roomy/IsRoomy
-    rep_model/Views/is_named rep_model/Views/named jr_disk/disk/Plan jr_disk/disk/Slot
+    sn_session/session/Session rep_ops/Making/AreApart rep_ops/Making/IsDeltaOf rep_model/Fresh/next_clock
+    rep_model/Fresh/next_epoch rep_model/Fresh/next_seq rep_model/Topics/topic_in rep_model/Limits/first_passed
+    rep_model/Roomy/IsRoomy rep_model/Views/is_named rep_model/Views/named jr_disk/disk/Plan jr_disk/disk/Slot
     jr_journal/Faults/fault_of jr_journal/Faults/is_fresh jr_journal/Parts/disk_of jr_journal/Parts/gateway_of
     jr_journal/Parts/slot_of jr_journal/Records/records jr_journal/journal/Journal sn_local/Locals/after_all
     sn_local/Locals/owned sn_local/config/Addr sn_local/config/Config sn_local/local/Binding sn_local/local/LocalChange
     sn_local/local/Timer sn_local/local/WillDialog gw_answer/Answers/only_sends gw_answer/Answers/said gw_answer/out/Out
     gw_answer/refusal/Refusal gw_answer/step/Step sn_plan/Drafts/session_after sn_exchange/Delivery/id_to_tell
-    sn_exchange/Exchanges/open_exchange sn_exchange/Following/peer_at sn_exchange/Forms/form_of sn_exchange/Forms/publication
-    sn_exchange/form/Form sn_exchange/peer/Peer sn_publish/Publishing/publication_meant sn_publish/Recipients/qos_for sn_publish/meaning/Meant
-    sn_deliver/Steps/row_for sn_deliver/Steps/step sn_tick/Expiry/is_under_way sn_tick/Expiry/under_way
-    sn_tick/Ticking/tick put_laws/Causes/gives_message
-    put_laws/Causes/gives_topic gw_event/Drives/has_more gw_event/Drives/left_by gw_event/Drives/opened
+    sn_exchange/Exchanges/open_exchange sn_exchange/Following/peer_at sn_exchange/Forms/form_of
+    sn_exchange/Forms/publication sn_exchange/form/Form sn_exchange/peer/Peer sn_publish/Publishing/publication_meant
+    sn_publish/Recipients/qos_for sn_publish/meaning/Meant sn_deliver/Steps/row_for sn_deliver/Steps/step
+    sn_tick/Expiry/is_under_way sn_tick/Expiry/under_way sn_tick/Ticking/tick put_laws/Causes/gives_message
+    put_laws/Causes/gives_topic gw_event/Drives/more_records gw_event/Drives/left_by gw_event/Drives/opened
     gw_event/Drives/torn gw_event/Drives/with_record gw_event/Event/CompactStep gw_event/Event/DigestStep
-    gw_event/Event/HasNoDelta gw_event/Event/IsWritable gw_event/Event/ReplyStep
-    gw_event/Event/ViewStep gw_event/Excuses/IsExcuse gw_event/Occasions/IsNoFrame
-    gw_node/Parts/is_halted gw_node/Parts/state_of gw_node/Standing/Agrees gw_node/Standing/IsForeseen
-    gw_world/Places/place_of gw_world/Steps/AnswerStep sn_local/Bindings/address_of sn_local/Bindings/client_at
-    sn_local/Bindings/is_owned sn_local/WillDialogs/dialog_at sn_flow/Connection/has_bit sn_exchange/Exchanges/is_served
-    gw_node/Standing/IsClear gw_node/Standing/WentWell gw_event/Event/IsRefused gw_event/Event/IsTooMuch
+    gw_event/Event/HasNoDelta gw_event/Event/IsWritable gw_event/Event/ReplyStep gw_event/Event/ViewStep
+    gw_event/Excuses/IsExcuse gw_event/Occasions/IsNoFrame gw_node/Parts/is_halted gw_node/Parts/state_of
+    gw_node/Standing/Agrees gw_node/Standing/IsForeseen gw_world/Places/place_of gw_world/Steps/AnswerStep
+    sn_local/Bindings/address_of sn_local/Bindings/client_at sn_local/Bindings/is_owned sn_local/WillDialogs/dialog_at
+    sn_flow/Connection/has_bit sn_exchange/Exchanges/is_served gw_event/Event/IsRefused gw_event/Event/IsTooMuch
+    promise_laws/Stepping/IsAmong gw_world/Field/TogetherAt gw_world/event/Call gw_event/Event/IsDropped
+    gw_node/Standing/CanBeSaid
 """.split())
 
 # What comes before the words that are named.

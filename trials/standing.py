@@ -76,22 +76,24 @@ class Loaded:
     name = ""
 
     def __init__(self, folder: str):
-        self.library, self.control = os.path.join(folder, f"{self.name}.so"), os.path.join(folder, self.name)
+        self.library, self.control, self.others = os.path.join(folder, f"{self.name}.so"), os.path.join(folder, self.name), ""
         source = os.path.join(HERE, f"{self.name}.c")
         subprocess.run(["cc", "-shared", "-fPIC", "-nostdlib", "-O1", "-fno-stack-protector", "-o", self.library, source], check=True)
         self.say(0)
 
-    def say(self, wanted: int) -> None:
+    def say(self, wanted) -> None:
         with open(self.control + ".new", "w", encoding="ascii") as text:
             text.write(f"{wanted}\n")
         os.replace(self.control + ".new", self.control)
 
     def __enter__(self):
-        os.environ["LD_PRELOAD"], os.environ[self.name.upper()] = self.library, self.control
+        self.others = os.environ.get("LD_PRELOAD", "")
+        os.environ["LD_PRELOAD"], os.environ[self.name.upper()] = f"{self.library}:{self.others}".rstrip(":"), self.control
         return self
 
     def __exit__(self, *_):
-        del os.environ["LD_PRELOAD"], os.environ[self.name.upper()]
+        os.environ["LD_PRELOAD"] = self.others
+        del os.environ[self.name.upper()]
 
 
 class Slow(Loaded):

@@ -288,6 +288,7 @@ fn registering(m: Moment, command: Command, bridge: &mut Bridge) -> Result<(), N
     ensures { OnOk result (bridge.new ≡ spec.registering m command bridge.old.down bridge.old) }
 {
     if MAX_NAMES <= bridge.down.ids.len() {
+        drop(command);
         away(m, bridge);
         return Ok(());
     }
@@ -333,6 +334,7 @@ fn refusing(why: Why, command: Command, bridge: &mut Bridge) -> Result<(), NoMem
 {
     let line = bridge.down.line;
     if line == LAST_NUMBER {
+        drop(command);
         return Ok(());
     }
     bridge.down.doing = Doing::Refusing { line };
@@ -348,7 +350,10 @@ fn sent_in(dup: bool, m: Moment, command: Command, bridge: &mut Bridge) -> Resul
     let phase = bridge.down.phase;
     match phase {
         Phase::Listening => sent(dup, m, command, bridge),
-        Phase::Away | Phase::Connecting | Phase::Subscribing { .. } | Phase::Asleep => Ok(()),
+        Phase::Away | Phase::Connecting | Phase::Subscribing { .. } | Phase::Asleep => {
+            drop(command);
+            Ok(())
+        }
     }
 }
 
@@ -418,7 +423,11 @@ fn done_with(alloc: Global, bridge: &mut Bridge) -> Result<(), NoMemory>
     bridge.down.tries = 0;
     match taken_first(alloc, bridge) {
         None => Ok(()),
-        Some(command) => told(command.id, bridge),
+        Some(command) => {
+            let id = command.id;
+            drop(command);
+            told(id, bridge)
+        }
     }
 }
 
@@ -448,12 +457,17 @@ fn answered_first(alloc: Global, code: u8, m: Moment, bridge: &mut Bridge) -> Re
         return Ok(());
     };
     match code {
-        0 => done(alloc, m, bridge),
+        0 => {
+            drop(command);
+            done(alloc, m, bridge)
+        }
         1 => {
+            drop(command);
             later(m, bridge);
             Ok(())
         }
         2 => {
+            drop(command);
             away(m, bridge);
             Ok(())
         }
@@ -487,10 +501,14 @@ fn named_first(
     };
     match code {
         0 => {
-            named(alloc, topic_id, &command, bridge)?;
+            if let Err(fault) = named(alloc, topic_id, &command, bridge) {
+                drop(command);
+                return Err(fault);
+            }
             publishing(false, false, topic_id, m, command, bridge)
         }
         1 => {
+            drop(command);
             later(m, bridge);
             Ok(())
         }

@@ -2,7 +2,7 @@
 //! `place` is its place among the lanes, `own` are its settings, and `lane` a copy of it, which
 //! goes back into its place.
 
-ghost use Rattle.std.specs.Prelude.{◌≡◌, ◌<◌, ◌∷◌, length, IfOk, OnOk};
+ghost use Rattle.std.specs.Prelude.{◌≡◌, ◌<◌, ◌∷◌, ◌&&◌, not, if◌then◌else◌, length, IfOk, OnOk};
 ghost use Rattle.br_core.specs.declared.state.TheConstants.{LAST_NUMBER};
 ghost use Rattle.br_core.specs.Lanes as spec;
 ghost use Rattle.br_core.specs.inner.Parts as inner;
@@ -19,6 +19,7 @@ use mq_packet::Qos;
 use octets::{NoMemory, Octets, Sequence};
 use sn_frame::{Flags, Frame, Qos as FieldQos, TopicIdType};
 use std::alloc::Global;
+use std::mem;
 
 /// A lane in its place.
 fn seated(place: usize, lane: Lane, bridge: &mut Bridge)
@@ -49,6 +50,9 @@ fn connecting(
     requires { place < length bridge.old.lanes }
     ensures { OnOk result (bridge.new ≡ spec.connecting own.now place m lane bridge.old) }
 {
+    let tries = once_more(lane.tries);
+    let msg_id = lane.msg_id;
+    drop(lane);
     let frame = Frame::Connect {
         flags: Flags { bits: 0 },
         protocol: 1,
@@ -57,9 +61,9 @@ fn connecting(
     };
     let begun = Lane {
         phase: Phase::Connecting,
-        tries: once_more(lane.tries),
+        tries,
         due: m.retry,
-        msg_id: lane.msg_id,
+        msg_id,
         ids: Sequence::empty(alloc),
         last: None,
     };
@@ -98,10 +102,17 @@ fn subscribing(
         seated(place, lane, bridge);
         return Ok(());
     };
+    let topic = match up.name.copied(alloc) {
+        Ok(topic) => topic,
+        Err(fault) => {
+            drop(lane);
+            return Err(fault);
+        }
+    };
     let frame = Frame::Subscribe {
         flags: subscribe_flags(up),
         msg_id: lane.msg_id,
-        topic: up.name.copied(alloc)?,
+        topic,
     };
     lane.phase = Phase::Subscribing { next };
     lane.tries = once_more(lane.tries);
@@ -270,7 +281,14 @@ fn brings(
         return falls_asleep(place, lane, bridge);
     }
     let number = bridge.number;
-    lane.last = Some(open_of(alloc, number, name, topic_id, msg_id, body)?);
+    let held = match open_of(alloc, number, name, topic_id, msg_id, body) {
+        Ok(held) => held,
+        Err(fault) => {
+            drop(lane);
+            return Err(fault);
+        }
+    };
+    drop(mem::replace(&mut lane.last, Some(held)));
     seated(place, lane, bridge);
     counted(alloc, settings, place, Qos::One, up, body, bridge)?;
     stored(alloc, settings, number, place, Qos::One, up, body, bridge)
@@ -292,7 +310,7 @@ fn again_at(
 {
     let is_answered = held.is_answered;
     held.topic_id = topic_id;
-    lane.last = Some(held);
+    drop(mem::replace(&mut lane.last, Some(held)));
     if is_answered {
         let code = 0;
         let frame = Frame::PubAck {
@@ -346,11 +364,15 @@ fn brings_if(
     ensures { OnOk result (bridge.new ≡ spec.brings_if lane.last settings.now place name up.now
         topic_id msg_id body.now lane bridge.old) }
 {
-    match same_open(alloc, &lane.last, name, msg_id, body)? {
-        Some(held) => again_at(place, topic_id, msg_id, held, lane, bridge),
-        None => brings(
+    match same_open(alloc, &lane.last, name, msg_id, body) {
+        Ok(Some(held)) => again_at(place, topic_id, msg_id, held, lane, bridge),
+        Ok(None) => brings(
             alloc, settings, place, name, up, topic_id, msg_id, body, lane, bridge,
         ),
+        Err(fault) => {
+            drop(lane);
+            Err(fault)
+        }
     }
 }
 
@@ -531,6 +553,24 @@ fn in_front(alloc: Global, id: u16, name: usize, ids: &[Named]) -> Result<Sequen
     Ok(Sequence::new(more))
 }
 
+/// The lane has one more topic id. On an error it is dropped.
+fn with_id(alloc: Global, id: u16, name: usize, lane: Lane) -> Result<Lane, NoMemory>
+    ensures { IfOk result
+        (λ more. more ≡ record lane { ids = record { id = id; name = name } ∷ lane.ids }) }
+{
+    let mut lane = lane;
+    match in_front(alloc, id, name, lane.ids.as_slice()) {
+        Ok(ids) => {
+            drop(mem::replace(&mut lane.ids, ids));
+            Ok(lane)
+        }
+        Err(fault) => {
+            drop(lane);
+            Err(fault)
+        }
+    }
+}
+
 /// The connection is over, and another one is due.
 fn goes_away(place: usize, m: Moment, mut lane: Lane, bridge: &mut Bridge)
     requires { place < length bridge.old.lanes }
@@ -552,7 +592,7 @@ fn registered(
     topic_id: u16,
     msg_id: u16,
     name: &Octets,
-    mut lane: Lane,
+    lane: Lane,
     bridge: &mut Bridge,
 ) -> Result<(), NoMemory>
     requires { place < length bridge.old.lanes }
@@ -572,7 +612,7 @@ fn registered(
         goes_away(place, m, lane, bridge);
         return Ok(());
     }
-    lane.ids = in_front(alloc, topic_id, at, lane.ids.as_slice())?;
+    let lane = with_id(alloc, topic_id, at, lane)?;
     let code = 0;
     let frame = Frame::RegAck {
         topic_id,
@@ -636,9 +676,11 @@ fn connected(
     ensures { OnOk result (bridge.new ≡ spec.connected own.now place m frame.now lane bridge.old) }
 {
     let Frame::ConnAck { code } = frame else {
+        drop(lane);
         return Ok(());
     };
     if *code != 0 {
+        drop(lane);
         return Ok(());
     }
     lane.tries = 0;
@@ -663,12 +705,14 @@ fn subscribed(
         bridge.old) }
 {
     if code != 0 {
+        drop(lane);
         return Ok(());
     }
     lane.tries = 0;
-    if topic_id != 0 {
-        lane.ids = in_front(alloc, topic_id, next, lane.ids.as_slice())?;
+    if topic_id == 0 {
+        return subscribing(alloc, own, place, next + 1, m, lane, bridge);
     }
+    let lane = with_id(alloc, topic_id, next, lane)?;
     subscribing(alloc, own, place, next + 1, m, lane, bridge)
 }
 
@@ -705,6 +749,7 @@ fn naming_frame(
             if is_its(next, *msg_id, &lane) {
                 subscribed(alloc, own, place, next, m, *topic_id, *code, lane, bridge)
             } else {
+                drop(lane);
                 Ok(())
             }
         }
@@ -741,7 +786,10 @@ pub(crate) fn lane_frame(
 {
     let phase = lane.phase;
     match phase {
-        Phase::Away | Phase::Asleep => Ok(()),
+        Phase::Away | Phase::Asleep => {
+            drop(lane);
+            Ok(())
+        }
         Phase::Connecting => connected(alloc, own, place, m, frame, lane, bridge),
         Phase::Subscribing { next } => {
             naming_frame(alloc, settings, own, place, next, m, frame, lane, bridge)
@@ -794,10 +842,18 @@ fn again(
         Phase::Away | Phase::Connecting => connecting(alloc, own, place, m, lane, bridge),
         Phase::Subscribing { next } => subscribing(alloc, own, place, next, m, lane, bridge),
         Phase::Listening => {
-            let client = Octets::from_slice(alloc, &[])?;
-            pings(place, m, lane, client, bridge)
+            match Octets::from_slice(alloc, &[]) {
+                Ok(client) => pings(place, m, lane, client, bridge),
+                Err(fault) => {
+                    drop(lane);
+                    Err(fault)
+                }
+            }
         }
-        Phase::Asleep => Ok(()),
+        Phase::Asleep => {
+            drop(lane);
+            Ok(())
+        }
     }
 }
 
@@ -823,6 +879,7 @@ pub(crate) fn lane_tick(
     ensures { OnOk result (bridge.new ≡ spec.lane_tick place m own.now lane bridge.old) }
 {
     if m.at < lane.due {
+        drop(lane);
         return Ok(());
     }
     if TRIES <= lane.tries {
@@ -842,6 +899,7 @@ pub(crate) fn falls_asleep(
 {
     let phase = lane.phase;
     if phase == Phase::Asleep {
+        drop(lane);
         return Ok(());
     }
     lane.phase = Phase::Asleep;
@@ -869,7 +927,10 @@ pub(crate) fn wakes(
     let phase = lane.phase;
     match phase {
         Phase::Asleep => connecting(alloc, own, place, m, lane, bridge),
-        Phase::Away | Phase::Connecting | Phase::Subscribing { .. } | Phase::Listening => Ok(()),
+        Phase::Away | Phase::Connecting | Phase::Subscribing { .. } | Phase::Listening => {
+            drop(lane);
+            Ok(())
+        }
     }
 }
 
@@ -894,17 +955,52 @@ fn answered(
     ensures { OnOk result (bridge.new ≡ spec.answered_at (spec.is_awake lane.phase) place held lane
         bridge.old) }
 {
-    let frame = Frame::PubAck {
-        topic_id: held.topic_id,
-        msg_id: held.msg_id,
-        code: 0,
-    };
+    let topic_id = held.topic_id;
+    let msg_id = held.msg_id;
     held.is_answered = true;
-    lane.last = Some(held);
+    drop(mem::replace(&mut lane.last, Some(held)));
     if is_awake(lane.phase) {
+        let code = 0;
+        let frame = Frame::PubAck {
+            topic_id,
+            msg_id,
+            code,
+        };
         says(place, frame, lane, bridge)
     } else {
         seated(place, lane, bridge);
+        Ok(())
+    }
+}
+
+/// A copy of a lane's open message, if there is one.
+fn open_copied(alloc: Global, last: &Option<Open>) -> Result<Option<Open>, NoMemory>
+    ensures { IfOk result (λ made. made ≡ last.now) }
+{
+    match last {
+        None => Ok(None),
+        Some(held) => Ok(Some(held.copied(alloc)?)),
+    }
+}
+
+/// The lane's open message may be acknowledged, if that is due and it was not.
+fn answered_if(
+    is_due: bool,
+    place: usize,
+    held: Open,
+    lane: Lane,
+    bridge: &mut Bridge,
+) -> Result<(), NoMemory>
+    requires { place < length bridge.old.lanes }
+    ensures { OnOk result (bridge.new ≡ (if is_due && not held.is_answered
+        then spec.answered_at (spec.is_awake lane.phase) place held lane bridge.old
+        else bridge.old)) }
+{
+    if is_due && !held.is_answered {
+        answered(place, held, lane, bridge)
+    } else {
+        drop(held);
+        drop(lane);
         Ok(())
     }
 }
@@ -920,14 +1016,16 @@ pub(crate) fn answers(
     requires { place < length bridge.old.lanes }
     ensures { OnOk result (bridge.new ≡ spec.answers_open lane.last number place lane bridge.old) }
 {
-    let held = match &lane.last {
-        None => return Ok(()),
-        Some(held) => held.copied(alloc)?,
-    };
-    if held.number == number && !held.is_answered {
-        answered(place, held, lane, bridge)
-    } else {
-        Ok(())
+    match open_copied(alloc, &lane.last) {
+        Ok(Some(held)) => answered_if(held.number == number, place, held, lane, bridge),
+        Ok(None) => {
+            drop(lane);
+            Ok(())
+        }
+        Err(fault) => {
+            drop(lane);
+            Err(fault)
+        }
     }
 }
 
@@ -943,13 +1041,15 @@ pub(crate) fn keeps(
     requires { place < length bridge.old.lanes }
     ensures { OnOk result (bridge.new ≡ spec.keeps_open lane.last below place lane bridge.old) }
 {
-    let held = match &lane.last {
-        None => return Ok(()),
-        Some(held) => held.copied(alloc)?,
-    };
-    if held.number < below && !held.is_answered {
-        answered(place, held, lane, bridge)
-    } else {
-        Ok(())
+    match open_copied(alloc, &lane.last) {
+        Ok(Some(held)) => answered_if(held.number < below, place, held, lane, bridge),
+        Ok(None) => {
+            drop(lane);
+            Ok(())
+        }
+        Err(fault) => {
+            drop(lane);
+            Err(fault)
+        }
     }
 }

@@ -1,6 +1,6 @@
 //! What is done towards the broker: what is sent, what is in flight, what is acknowledged.
 
-ghost use Rattle.std.specs.Prelude.{◌≡◌, ◌<◌, ◌==◌, ◌&&◌, true, fold, length, remove, slice_get, None, IfOk, OnOk, MatchOption, option_map};
+ghost use Rattle.std.specs.Prelude.{◌≡◌, ◌<◌, ◌==◌, ◌&&◌, ◌++◌, ◌∷◌, [], true, fold, length, remove, slice_get, None, IfOk, OnOk, MatchOption, option_map};
 ghost use Rattle.br_core.specs.Sides as spec;
 ghost use Rattle.br_core.specs.inner.Parts as inner;
 
@@ -101,13 +101,32 @@ fn has_window(settings: &Settings, qos: Qos, flight: &[Flight]) -> bool
     }
 }
 
+/// A reading is in flight under a packet id.
+fn flies(id: u16, item: Item, bridge: &mut Bridge) -> Result<(), NoMemory>
+    ensures { OnOk result (bridge.new ≡ record bridge.old {
+      flight = bridge.old.flight ++ record { id = id; item = item } ∷ [];
+    }) }
+{
+    bridge.flight.push(Flight { id, item })?;
+    Ok(())
+}
+
 /// A reading is sent under a packet id, and is in flight.
 fn sent_under(alloc: Global, id: u16, item: Item, bridge: &mut Bridge) -> Result<(), NoMemory>
     ensures { OnOk result (bridge.new ≡ spec.sent_under id item bridge.old) }
 {
     let number = item.number;
-    let packet = in_flight(alloc, false, id, &item)?;
-    bridge.flight.push(Flight { id, item })?;
+    let packet = match in_flight(alloc, false, id, &item) {
+        Ok(packet) => packet,
+        Err(fault) => {
+            drop(item);
+            return Err(fault);
+        }
+    };
+    if let Err(fault) = flies(id, item, bridge) {
+        drop(packet);
+        return Err(fault);
+    }
     bridge.packet_id = next_id(id);
     does(bridge, Action::Reading { number, packet })
 }
@@ -199,7 +218,10 @@ fn kept(item: Item, bridge: &mut Bridge) -> Result<(), NoMemory>
     ensures { OnOk result (bridge.new ≡ spec.kept_at item.qos item bridge.old) }
 {
     match item.qos {
-        Qos::Zero => Ok(()),
+        Qos::Zero => {
+            drop(item);
+            Ok(())
+        }
         Qos::One => waits(item, bridge),
     }
 }

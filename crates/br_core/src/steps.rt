@@ -1,9 +1,10 @@
 //! The step of the whole bridge.
 
-ghost use Rattle.std.specs.Prelude.{◌≡◌, ◌<◌, IfOk, OnOk};
+ghost use Rattle.std.specs.Prelude.{◌≡◌, ◌<◌, length, IfOk, OnOk};
 ghost use Rattle.br_core.specs.Begins as begins_spec;
 ghost use Rattle.br_core.specs.Lanes as lanes_spec;
 ghost use Rattle.br_core.specs.Steps as spec;
+ghost use Rattle.br_core.specs.inner.Works.{worked};
 ghost use Rattle.br_core.specs.declared.state.TheConstants.{LAST_NUMBER};
 
 use crate::action::Action;
@@ -12,7 +13,7 @@ use crate::event::Event;
 use crate::item::Item;
 use crate::lanes::{answers, falls_asleep, keeps, lane_frame, lane_tick, wakes};
 use crate::queue::Queue;
-use crate::settings::{DownFilter, Settings};
+use crate::settings::{DownFilter, LaneSettings, Settings};
 use crate::sides::{acknowledged, all_again, does, free_id, is_up, next_id, sends, takes};
 use crate::state::{
     BROKER_KEEP_ALIVE, Bridge, Doing, Down, LAST_NUMBER, Lane, Moment, Phase, Side,
@@ -85,16 +86,52 @@ fn frame_at(
     lane_frame(alloc, settings, place, m, frame, own, lane, bridge)
 }
 
-/// Time goes by for a lane.
-fn tick_at(
+/// What a lane does without a frame of its gateway.
+#[derive(Clone, Copy)]
+enum Work {
+    /// Time goes by.
+    Tick { m: Moment },
+    /// It falls asleep.
+    Sleep,
+    /// It wakes.
+    Wake { m: Moment },
+    /// The broker has acknowledged the reading of this number.
+    Answer { number: u64 },
+    /// The spool has the readings of all smaller numbers.
+    Keep { below: u64 },
+}
+
+/// A lane does this.
+fn works(
+    alloc: Global,
+    work: Work,
+    own: &LaneSettings,
+    place: usize,
+    lane: Lane,
+    bridge: &mut Bridge,
+) -> Result<(), NoMemory>
+    requires { place < length bridge.old.lanes }
+    ensures { OnOk result (bridge.new ≡ worked work place own.now lane bridge.old) }
+{
+    match work {
+        Work::Tick { m } => lane_tick(alloc, place, m, own, lane, bridge),
+        Work::Sleep => falls_asleep(place, lane, bridge),
+        Work::Wake { m } => wakes(alloc, place, m, own, lane, bridge),
+        Work::Answer { number } => answers(alloc, number, place, lane, bridge),
+        Work::Keep { below } => keeps(alloc, below, place, lane, bridge),
+    }
+}
+
+/// The lane at this place does this, if there is one.
+fn work_at(
     alloc: Global,
     settings: &Settings,
     place: usize,
-    m: Moment,
+    work: Work,
     bridge: &mut Bridge,
 ) -> Result<(), NoMemory>
-    ensures { OnOk result (bridge.new ≡ spec.at_lane settings.now place
-        (lanes_spec.lane_tick place m) bridge.old) }
+    ensures { OnOk result (bridge.new ≡ spec.at_lane settings.now place (worked work place)
+        bridge.old) }
 {
     let Some(own) = settings.lanes.as_slice().get(place) else {
         return Ok(());
@@ -103,147 +140,21 @@ fn tick_at(
         return Ok(());
     };
     let lane = lane.copied(alloc)?;
-    lane_tick(alloc, place, m, own, lane, bridge)
+    works(alloc, work, own, place, lane, bridge)
 }
 
-/// A lane falls asleep.
-fn sleep_at(
+/// All lanes do this, one after the other.
+fn all_work(
     alloc: Global,
     settings: &Settings,
-    place: usize,
-    bridge: &mut Bridge,
-) -> Result<(), NoMemory>
-    ensures { OnOk result (bridge.new ≡ spec.at_lane settings.now place
-        (lanes_spec.falls_asleep place) bridge.old) }
-{
-    let Some(_own) = settings.lanes.as_slice().get(place) else {
-        return Ok(());
-    };
-    let Some(lane) = bridge.lanes.as_slice().get(place) else {
-        return Ok(());
-    };
-    let lane = lane.copied(alloc)?;
-    falls_asleep(place, lane, bridge)
-}
-
-/// A lane wakes.
-fn wake_at(
-    alloc: Global,
-    settings: &Settings,
-    place: usize,
-    m: Moment,
-    bridge: &mut Bridge,
-) -> Result<(), NoMemory>
-    ensures { OnOk result (bridge.new ≡ spec.at_lane settings.now place
-        (lanes_spec.wakes place m) bridge.old) }
-{
-    let Some(own) = settings.lanes.as_slice().get(place) else {
-        return Ok(());
-    };
-    let Some(lane) = bridge.lanes.as_slice().get(place) else {
-        return Ok(());
-    };
-    let lane = lane.copied(alloc)?;
-    wakes(alloc, place, m, own, lane, bridge)
-}
-
-/// A lane's reading is acknowledged by the broker.
-fn answer_at(
-    alloc: Global,
-    settings: &Settings,
-    place: usize,
-    number: u64,
-    bridge: &mut Bridge,
-) -> Result<(), NoMemory>
-    ensures { OnOk result (bridge.new ≡ spec.at_lane settings.now place
-        (lanes_spec.answers number place) bridge.old) }
-{
-    let Some(_own) = settings.lanes.as_slice().get(place) else {
-        return Ok(());
-    };
-    let Some(lane) = bridge.lanes.as_slice().get(place) else {
-        return Ok(());
-    };
-    let lane = lane.copied(alloc)?;
-    answers(alloc, number, place, lane, bridge)
-}
-
-/// The spool has the readings of all smaller numbers: a lane's too.
-fn keep_at(
-    alloc: Global,
-    settings: &Settings,
-    place: usize,
-    below: u64,
-    bridge: &mut Bridge,
-) -> Result<(), NoMemory>
-    ensures { OnOk result (bridge.new ≡ spec.at_lane settings.now place
-        (lanes_spec.keeps below place) bridge.old) }
-{
-    let Some(_own) = settings.lanes.as_slice().get(place) else {
-        return Ok(());
-    };
-    let Some(lane) = bridge.lanes.as_slice().get(place) else {
-        return Ok(());
-    };
-    let lane = lane.copied(alloc)?;
-    keeps(alloc, below, place, lane, bridge)
-}
-
-/// Time goes by for all lanes.
-fn all_tick(
-    alloc: Global,
-    settings: &Settings,
-    m: Moment,
+    work: Work,
     bridge: &mut Bridge,
 ) -> Result<(), NoMemory>
     ensures { OnOk result (bridge.new ≡ spec.each_lane settings.now
-        (λ place. lanes_spec.lane_tick place m) bridge.old) }
+        (λ place. worked work place) bridge.old) }
 {
     for place in 0..settings.lanes.len() {
-        tick_at(alloc, settings, place, m, bridge)?;
-    }
-    Ok(())
-}
-
-/// All lanes fall asleep.
-fn all_sleep(alloc: Global, settings: &Settings, bridge: &mut Bridge) -> Result<(), NoMemory>
-    ensures { OnOk result (bridge.new ≡ spec.each_lane settings.now
-        (λ place. lanes_spec.falls_asleep place) bridge.old) }
-{
-    for place in 0..settings.lanes.len() {
-        sleep_at(alloc, settings, place, bridge)?;
-    }
-    Ok(())
-}
-
-/// All lanes wake.
-fn all_wake(
-    alloc: Global,
-    settings: &Settings,
-    m: Moment,
-    bridge: &mut Bridge,
-) -> Result<(), NoMemory>
-    ensures { OnOk result (bridge.new ≡ spec.each_lane settings.now
-        (λ place. lanes_spec.wakes place m) bridge.old) }
-{
-    for place in 0..settings.lanes.len() {
-        wake_at(alloc, settings, place, m, bridge)?;
-    }
-    Ok(())
-}
-
-/// The spool has the readings of all smaller numbers, of each lane.
-fn all_keep(
-    alloc: Global,
-    settings: &Settings,
-    below: u64,
-    bridge: &mut Bridge,
-) -> Result<(), NoMemory>
-    ensures { OnOk result (bridge.new ≡ spec.each_lane settings.now
-        (λ place. lanes_spec.keeps below place) bridge.old) }
-{
-    for place in 0..settings.lanes.len() {
-        keep_at(alloc, settings, place, below, bridge)?;
+        work_at(alloc, settings, place, work, bridge)?;
     }
     Ok(())
 }
@@ -262,7 +173,7 @@ fn rests(alloc: Global, settings: &Settings, bridge: &mut Bridge) -> Result<(), 
     if may_listen(bridge) {
         return Ok(());
     }
-    all_sleep(alloc, settings, bridge)
+    all_work(alloc, settings, Work::Sleep, bridge)
 }
 
 /// Whether lanes that sleep may wake: they can acknowledge, and half of the room is free.
@@ -284,7 +195,7 @@ fn rouses(
     if !may_wake(settings, bridge) {
         return Ok(());
     }
-    all_wake(alloc, settings, m, bridge)
+    all_work(alloc, settings, Work::Wake { m }, bridge)
 }
 
 /// What waits is sent, if the broker is there.
@@ -321,7 +232,7 @@ fn up(alloc: Global, settings: &Settings, m: Moment, bridge: &mut Bridge) -> Res
     says_here(alloc, settings, bridge)?;
     all_again(alloc, bridge)?;
     sends(alloc, settings, bridge)?;
-    all_wake(alloc, settings, m, bridge)
+    all_work(alloc, settings, Work::Wake { m }, bridge)
 }
 
 /// SUBSCRIBE of the filter of this number (MQTT 3.1.1 section 3.8); after the last one publications
@@ -437,8 +348,11 @@ fn answered(
     let Some(item) = acknowledged(alloc, id, bridge) else {
         return Ok(());
     };
-    forgets(settings, item.number, bridge)?;
-    answer_at(alloc, settings, item.lane, item.number, bridge)?;
+    let number = item.number;
+    let lane = item.lane;
+    drop(item);
+    forgets(settings, number, bridge)?;
+    work_at(alloc, settings, lane, Work::Answer { number }, bridge)?;
     sends_all(alloc, settings, bridge)
 }
 
@@ -765,7 +679,7 @@ fn stored(
         return Ok(());
     }
     bridge.is_storing = true;
-    all_keep(alloc, settings, below, bridge)
+    all_work(alloc, settings, Work::Keep { below }, bridge)
 }
 
 /// The spool takes no readings: lanes fall asleep, if the broker is away too.
@@ -781,7 +695,7 @@ fn ticks(alloc: Global, settings: &Settings, m: Moment, bridge: &mut Bridge) -> 
     ensures { OnOk result (bridge.new ≡ spec.ticks settings.now m bridge.old) }
 {
     rouses(alloc, settings, m, bridge)?;
-    all_tick(alloc, settings, m, bridge)?;
+    all_work(alloc, settings, Work::Tick { m }, bridge)?;
     down_tick(alloc, &settings.commands, m, bridge)?;
     side_tick(alloc, settings, m, bridge)
 }

@@ -37,6 +37,7 @@ mod serving;
 mod sessions;
 mod shifts;
 mod steps;
+mod together;
 mod topics;
 mod worlds;
 

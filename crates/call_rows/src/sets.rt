@@ -93,6 +93,8 @@
 //! - `pair SEED TIMES SIZE LEAST`: so many times both replicas take so many operations that are
 //!   made up of a number, if they are a delta: whether the two say the same after each, of LEAST or
 //!   more.
+//! - `back SEED TIMES SIZE LEAST`: the same, where one of the two takes two such deltas before
+//!   each, and goes back.
 //!
 //! The disk, and the journal on it; SLOT is `first` or `second`:
 //!
@@ -104,6 +106,7 @@
 //! - `slots`: the octets of both slots.
 //! - `open GATEWAY`: the journal of a gateway is opened: its records.
 //! - `append`: the delta of the operations is a new record.
+//! - `together`: the operations, each a record by itself, are written at once.
 //! - `compact`: the operations, each a record by itself, take the place of all records.
 //! - `reopen`: the journal is opened once more as it stands: its records.
 //! - `halt`: the journal is stopped.
@@ -114,11 +117,11 @@
 //!   the slot has: the slot that is read, and its octets.
 //! - `appends GATEWAY COUNT`: what is opened after an `append` that stops after each number of
 //!   octets up to this one, and a crash that leaves these.
-//! - `compactions GATEWAY COUNT`: the same of a `compact`.
+//! - `writes GATEWAY COUNT`, `compactions GATEWAY COUNT`: the same of a `together`, of a `compact`.
 //! - `retries GATEWAY CALL COUNT`: what an `open`, a `reopen` and a `compact` answer where one CALL
 //!   (`sync`, `cut` or `read`) fails after each number of them up to this one.
 //!
-//! From `append` to `close` these want the journal open, all others closed. The last four try each
+//! From `append` to `close` these want the journal open, all others closed. The last five try each
 //! place on a disk of its own, with what the row's disk has; neighbours that give the same share a
 //! line. With `retries` what is refused is tried once again, a compaction after one more `reopen`;
 //! the line has the number of records that each opening reads, and those of an opening of what is
@@ -130,14 +133,15 @@
 //! - `datagrams`: the same of a row of datagrams and topics.
 //! - `streams`: lines about streams.
 //! - `names`, `operations`, `changes`: lines that make octets and operations.
-//! - `sessions`, `deltas`, `replicas`, `topics`, `pairs`, `journals`, `attempts`, `retries`: lines
-//!   that are played.
+//! - `sessions`, `deltas`, `replicas`, `topics`, `pairs`, `backs`, `journals`, `attempts`,
+//!   `retries`: lines that are played.
 //! - `made_up`: operations that are made up of a number.
 //! - `calls`: calls of the libraries.
 //! - `values`, `printing`, `runs`: what is printed.
 //! - `stop`: why a line is not played.
 
 mod attempts;
+mod backs;
 pub(crate) mod calls;
 mod changes;
 pub(crate) mod datagrams;

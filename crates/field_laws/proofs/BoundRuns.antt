@@ -17,15 +17,18 @@ use Rattle.gw_answer.specs.declared.refusal.Refusal.TheVariants as refusals
 use Rattle.gw_event.specs.Occasions.{Occasion, Datagram, Clock}
 use Rattle.gw_answer.specs.Answers.{said}
 use Rattle.gw_world.specs.declared.event.Event.{Event}
-use Rattle.gw_world.specs.declared.event.Event.TheVariants.{Frame, Tick, Take, Answer as Asks, WriteFails, Compact, Restart, Show}
+use Rattle.gw_world.specs.declared.event.Event.TheVariants.{Frame, Tick, Take, Together as AtOnce, Answer as Asks, WriteFails, Compact, Restart, Show}
+use Rattle.gw_world.specs.declared.event.Call.{Call}
+use Rattle.gw_world.specs.declared.event.Call.TheVariants as calls
 use Rattle.gw_world.specs.declared.event.Answer.{Answer}
-use Rattle.gw_world.specs.declared.event.Answer.TheVariants.{Node, Views, Records, Nothing}
+use Rattle.gw_world.specs.declared.event.Answer.TheVariants.{Node, Row, Views, Records, Nothing}
 use Rattle.gw_event.specs.Gateways.{Gateway, new_gateway}
-use Rattle.gw_world.specs.Field.{Field, new_field, IsAt, failing, After, Run}
+use Rattle.gw_world.specs.Field.{Field, new_field, IsAt, failing, TogetherAt, After, Run}
+use Rattle.gw_world.proofs.InRows.{Answers, CallAt}
 use Rattle.gw_world.specs.Steady.{IsKnown}
 use Rattle.gw_world.specs.Steps.{restarted}
 use Rattle.gw_event.specs.Event.{NothingHappens, IsTorn, IsMade, IsPlan, OwnStep, TakeStep, CompactStep}
-use Rattle.gw_world.proofs.Consistency.{FlushField, WholeField, steady-is, after-sound, start-whole}
+use Rattle.gw_world.proofs.Consistency.{FlushField, WholeField, steady-is, row-keeps-sound, after-sound, start-whole}
 use Rattle.gw_world.proofs.Failures.{DueField, after-due, start-due}
 use Rattle.gw_world.proofs.Each.{all-at}
 use Rattle.gw_world.proofs.Numbers.{place_of-first, first-number}
@@ -131,14 +134,26 @@ failing-up bytes sync old up = up
 abbrev UpField : Field → Type 0
 UpField field = AreUp field.gateways
 
-after-up : (old : Field) (event : Event) (answer : Answer) (new : Field) → After old event answer new → FlushField old → WholeField old → UpField old → UpField new
-after-up old (Frame number from bytes now) (Node answer) new h s w all =
-    subst UpField (sym h.6) (set-up h.0 old.gateways h.2 all (own-up old s w all number h.0 h.1 h.4 (Datagram from bytes) now (said answer) h.2 h.3 h.5))
-after-up old (Tick number now) (Node answer) new h s w all =
-    subst UpField (sym h.6) (set-up h.0 old.gateways h.2 all (own-up old s w all number h.0 h.1 h.4 Clock now (said answer) h.2 h.3 h.5))
-after-up old (Take number delta) (Node answer) new h s w all =
+call-up : (old new : Field) (number : ℕ) (call : Call) (answer : Result Out Refusal) → CallAt old number call answer new → FlushField old → WholeField old → UpField old → UpField new
+call-up old new number (calls.Frame from bytes now) answer h s w all =
+    subst UpField (sym h.6) (set-up h.0 old.gateways h.2 all (own-up old s w all number h.0 h.1 h.4 (Datagram from bytes) now answer h.2 h.3 h.5))
+call-up old new number (calls.Tick now) answer h s w all =
+    subst UpField (sym h.6) (set-up h.0 old.gateways h.2 all (own-up old s w all number h.0 h.1 h.4 Clock now answer h.2 h.3 h.5))
+call-up old new number (calls.Take delta) answer h s w all =
     subst UpField (sym h.8) (set-up h.0 old.gateways h.2 all
-    (take-up old s w all number h.0 h.1 h.5 h.4 (said answer) h.2 h.3 (known-at old s w all number h.0 h.1 h.5 (delta - 1) h.4 h.6.1) h.7))
+    (take-up old s w all number h.0 h.1 h.5 h.4 answer h.2 h.3 (known-at old s w all number h.0 h.1 h.5 (delta - 1) h.4 h.6.1) h.7))
+
+row-up : (old new : Field) (number : ℕ) (called : List Call) (answers : Answers) → TogetherAt old number called answers new → FlushField old → WholeField old → UpField old → UpField new
+row-up old new number called answers h s w all =
+    row-keeps-sound UpField number (λ before after call answer one flush whole up. call-up before after number call answer one flush whole up)
+    (λ field i gateway next behind step answer more at is t flush whole up. set-up i field.gateways next up (subst GatewayUp (sym t.halted) (up i gateway at.1)))
+    old new called answers h s w all
+
+after-up : (old : Field) (event : Event) (answer : Answer) (new : Field) → After old event answer new → FlushField old → WholeField old → UpField old → UpField new
+after-up old (Frame number from bytes now) (Node answer) new h s w all = call-up old new number (calls.Frame from bytes now) (said answer) h s w all
+after-up old (Tick number now) (Node answer) new h s w all = call-up old new number (calls.Tick now) (said answer) h s w all
+after-up old (Take number delta) (Node answer) new h s w all = call-up old new number (calls.Take delta) (said answer) h s w all
+after-up old (AtOnce number calls) (Row answers) new h s w all = row-up old new number calls (map said answers) h s w all
 after-up old (Asks number peer) (Node answer) new h s w all = subst UpField (sym h.8) all
 after-up old (WriteFails number bytes sync) Nothing new h s w all =
     subst UpField (sym h.3) (set-up h.0 old.gateways (failing bytes sync h.1) all (failing-up bytes sync h.1 (all h.0 h.1 h.2.1)))
@@ -171,6 +186,18 @@ after-up old (WriteFails number bytes sync) (Records count) new h s w all = absu
 after-up old (Compact number) Nothing new h s w all = absurd h
 after-up old (Restart number kept) Nothing new h s w all = absurd h
 after-up old (Show number) Nothing new h s w all = absurd h
+after-up old (AtOnce number calls) (Node answer) new h s w all = absurd h
+after-up old (AtOnce number calls) (Views views topics) new h s w all = absurd h
+after-up old (AtOnce number calls) (Records count) new h s w all = absurd h
+after-up old (AtOnce number calls) Nothing new h s w all = absurd h
+after-up old (Frame number from bytes now) (Row answers) new h s w all = absurd h
+after-up old (Tick number now) (Row answers) new h s w all = absurd h
+after-up old (Take number delta) (Row answers) new h s w all = absurd h
+after-up old (Asks number peer) (Row answers) new h s w all = absurd h
+after-up old (WriteFails number bytes sync) (Row answers) new h s w all = absurd h
+after-up old (Compact number) (Row answers) new h s w all = absurd h
+after-up old (Restart number kept) (Row answers) new h s w all = absurd h
+after-up old (Show number) (Row answers) new h s w all = absurd h
 
 -- ---- what a run does
 

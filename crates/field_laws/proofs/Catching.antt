@@ -1,5 +1,5 @@
 -- With what answers its digest a gateway keeps what it would keep with the whole set of the peer, also a run later.
-use Rattle.std.proofs.Common.{◌≡◌, Bool, ℕ, zero, suc, ◌⊎◌, ◌↔◌, List, [], ◌∷◌, ◌++◌, flat_map, set, slice_get, Some, Contains, Result, Ok, Err, refl, sym, ap, ◌∙◌, subst, append-nil, append_assoc, inl, inr}
+use Rattle.std.proofs.Common.{◌≡◌, Bool, ℕ, zero, suc, ◌⊎◌, ◌↔◌, List, [], ◌∷◌, ◌++◌, map, flat_map, set, slice_get, Some, Contains, Result, Ok, Err, refl, sym, ap, ◌∙◌, subst, append-nil, append_assoc, inl, inr}
 use Rattle.std.proofs.lemmas.List.Concat.{flat_map-append}
 use Rattle.std.proofs.lemmas.List.Elements.{All-from_recursion, All-contains, Contains-append_left, Contains-append_right}
 use Rattle.std.proofs.lemmas.Option.{none-some, same_Some}
@@ -12,22 +12,27 @@ use Rattle.rep_model.proofs.Thin.{thin-left, thin-right, thin-same, same_kept}
 use Rattle.rep_answer.proofs.Completing.{completed}
 use Rattle.sn_local.specs.declared.config.Config.{Config}
 use Rattle.gw_world.specs.declared.event.Event.{Event}
-use Rattle.gw_world.specs.declared.event.Event.TheVariants.{Frame, Tick, Take, Answer as Asks, WriteFails, Compact, Restart, Show}
+use Rattle.gw_world.specs.declared.event.Event.TheVariants.{Frame, Tick, Take, Together as AtOnce, Answer as Asks, WriteFails, Compact, Restart, Show}
+use Rattle.gw_world.specs.declared.event.Call.{Call}
+use Rattle.gw_world.specs.declared.event.Call.TheVariants as calls
 use Rattle.gw_world.specs.declared.event.Answer.{Answer}
-use Rattle.gw_world.specs.declared.event.Answer.TheVariants.{Node, Views, Records, Nothing}
+use Rattle.gw_world.specs.declared.event.Answer.TheVariants.{Node, Row, Views, Records, Nothing}
 use Rattle.gw_answer.specs.declared.out.Out.{Out}
 use Rattle.gw_answer.specs.declared.refusal.Refusal.{Refusal}
 use Rattle.gw_answer.specs.Answers.{said}
 use Rattle.gw_event.specs.Occasions.{Datagram, Clock}
 use Rattle.gw_event.specs.Gateways.{Gateway}
-use Rattle.gw_world.specs.Field.{Field, new_field, IsAt, failing, After, Run}
+use Rattle.gw_answer.specs.declared.step.Step.{Step}
+use Rattle.gw_event.specs.Together.{AreTorn}
+use Rattle.gw_world.specs.Field.{Field, new_field, IsAt, changed, failing, TogetherAt, After, Run}
+use Rattle.gw_world.proofs.InRows.{Answers, CallAt, InCalls, calls-keep, row-keeps, torn-row-still}
 use Rattle.gw_world.specs.Steps.{AnswerStep, restarted}
 use Rattle.gw_event.specs.Event.{TakeStep}
 use Rattle.gw_world.specs.Whole.{listed, everything, brought}
 use Rattle.gw_world.proofs.Answering.{answered, deltas-same}
 use Rattle.gw_world.proofs.Consistency.{WholeField, field-sound, run-sound, whole-asked, parts-consistent}
 use Rattle.gw_world.proofs.Failures.{due-joined}
-use Rattle.gw_world.proofs.Steadiness.{Still, Stepped, Fed, own-moves, take-moves, compact-still, restart-moves}
+use Rattle.gw_world.proofs.Steadiness.{Still, Stepped, Fed, own-moves, take-moves, compact-still, came-back, restart-feeds}
 use Rattle.gw_world.proofs.Telling.{run-brought}
 
 -- ---- one answer
@@ -81,20 +86,40 @@ fed-later : (gs : List Gateway) (i j : ℕ) (old next : Gateway) (made : List (L
 fed-later gs i j old next made S delta is (inl u) l = moved-later gs i j old next made S is (inl u) l
 fed-later gs i j old next made S delta is (inr u) l = set-later gs i j old next delta S is u.taken l
 
+call-later : (old new : Field) (number : ℕ) (call : Call) (answer : Result Out Refusal) (j : ℕ) (S : List Op) → CallAt old number call answer new → Later old.gateways j S → Later new.gateways j S
+call-later old new number (calls.Frame from bytes now) answer j S h l =
+    subst (λ (x : Field). Later x.gateways j S) (sym h.6) (moved-later old.gateways h.0 j h.1 h.2 h.3 S h.4.1 (own-moves h.1 (Datagram from bytes) now answer h.2 h.3 h.5) l)
+call-later old new number (calls.Tick now) answer j S h l =
+    subst (λ (x : Field). Later x.gateways j S) (sym h.6) (moved-later old.gateways h.0 j h.1 h.2 h.3 S h.4.1 (own-moves h.1 Clock now answer h.2 h.3 h.5) l)
+call-later old new number (calls.Take delta) answer j S h l =
+    subst (λ (x : Field). Later x.gateways j S) (sym h.8) (fed-later old.gateways h.0 j h.1 h.2 h.3 S h.4 h.5.1 (take-moves h.1 h.4 answer h.2 h.3 h.7) l)
+
+pub calls-later : (old new : Field) (number : ℕ) (called : List Call) (answers : Answers) (j : ℕ) (S : List Op) → InCalls old number called answers new → Later old.gateways j S → Later new.gateways j S
+calls-later old new number called answers j S h l =
+    calls-keep (λ (x : Field). Later x.gateways j S) number (λ before after call answer one later. call-later before after number call answer j S one later) old new called answers h l
+
+pub torn-later : (field : Field) (i : ℕ) (gateway next : Gateway) (step : Step) (answer : Result Out Refusal) (more : List Step) (j : ℕ) (S : List Op) → slice_get field.gateways i ≡ Some gateway → AreTorn gateway step answer more next
+    → Later field.gateways j S → Later (changed field i next []).gateways j S
+torn-later field i gateway next step answer more j S at t l = moved-later field.gateways i j gateway next [] S at (inl (torn-row-still gateway next step answer more t)) l
+
+row-later : (old new : Field) (number : ℕ) (called : List Call) (answers : Answers) (j : ℕ) (S : List Op) → TogetherAt old number called answers new → Later old.gateways j S → Later new.gateways j S
+row-later old new number called answers j S h l =
+    row-keeps (λ (x : Field). Later x.gateways j S) number (λ before after call answer one later. call-later before after number call answer j S one later)
+    (λ field i gateway next behind step answer more at is t later. torn-later field i gateway next step answer more j S at.1 t later)
+    old new called answers h l
+
 after-later : (old : Field) (event : Event) (answer : Answer) (new : Field) (j : ℕ) (S : List Op) → After old event answer new → Later old.gateways j S → Later new.gateways j S
-after-later old (Frame number from bytes now) (Node answer) new j S h l =
-    subst (λ (x : Field). Later x.gateways j S) (sym h.6) (moved-later old.gateways h.0 j h.1 h.2 h.3 S h.4.1 (own-moves h.1 (Datagram from bytes) now (said answer) h.2 h.3 h.5) l)
-after-later old (Tick number now) (Node answer) new j S h l =
-    subst (λ (x : Field). Later x.gateways j S) (sym h.6) (moved-later old.gateways h.0 j h.1 h.2 h.3 S h.4.1 (own-moves h.1 Clock now (said answer) h.2 h.3 h.5) l)
-after-later old (Take number delta) (Node answer) new j S h l =
-    subst (λ (x : Field). Later x.gateways j S) (sym h.8) (fed-later old.gateways h.0 j h.1 h.2 h.3 S h.4 h.5.1 (take-moves h.1 h.4 (said answer) h.2 h.3 h.7) l)
+after-later old (Frame number from bytes now) (Node answer) new j S h l = call-later old new number (calls.Frame from bytes now) (said answer) j S h l
+after-later old (Tick number now) (Node answer) new j S h l = call-later old new number (calls.Tick now) (said answer) j S h l
+after-later old (Take number delta) (Node answer) new j S h l = call-later old new number (calls.Take delta) (said answer) j S h l
+after-later old (AtOnce number calls) (Row answers) new j S h l = row-later old new number calls (map said answers) j S h l
 after-later old (Asks number peer) (Node answer) new j S h l = subst (λ (x : Field). Later x.gateways j S) (sym h.8) l
 after-later old (WriteFails number bytes sync) Nothing new j S h l =
     subst (λ (x : Field). Later x.gateways j S) (sym h.3) (set-later old.gateways h.0 j h.1 (failing bytes sync h.1) [] S h.2.1 (sym (append-nil h.1.taken)) l)
 after-later old (Compact number) (Node answer) new j S h l =
     subst (λ (x : Field). Later x.gateways j S) (sym h.5) (moved-later old.gateways h.0 j h.1 h.2 [] S h.3.1 (inl (compact-still h.1 h.2 (said answer) h.4)) l)
 after-later old (Restart number kept) (Records count) new j S h l =
-    subst (λ (x : Field). Later x.gateways j S) (sym h.4) (fed-later old.gateways h.0 j h.1 (restarted kept h.1) [] S h.1.refused h.2.1 (restart-moves kept h.1) l)
+    subst (λ (x : Field). Later x.gateways j S) (sym h.4) (fed-later old.gateways h.0 j h.1 (restarted kept h.1) [] S (came-back kept h.1) h.2.1 (inr (restart-feeds kept h.1)) l)
 after-later old (Show number) (Views views topics) new j S h l = subst (λ (x : Field). Later x.gateways j S) (sym h.4) l
 after-later old (Frame number from bytes now) (Views views topics) new j S h l = absurd h
 after-later old (Tick number now) (Views views topics) new j S h l = absurd h
@@ -120,6 +145,18 @@ after-later old (Asks number peer) Nothing new j S h l = absurd h
 after-later old (Compact number) Nothing new j S h l = absurd h
 after-later old (Restart number kept) Nothing new j S h l = absurd h
 after-later old (Show number) Nothing new j S h l = absurd h
+after-later old (AtOnce number calls) (Node answer) new j S h l = absurd h
+after-later old (AtOnce number calls) (Views views topics) new j S h l = absurd h
+after-later old (AtOnce number calls) (Records count) new j S h l = absurd h
+after-later old (AtOnce number calls) Nothing new j S h l = absurd h
+after-later old (Frame number from bytes now) (Row answers) new j S h l = absurd h
+after-later old (Tick number now) (Row answers) new j S h l = absurd h
+after-later old (Take number delta) (Row answers) new j S h l = absurd h
+after-later old (Asks number peer) (Row answers) new j S h l = absurd h
+after-later old (WriteFails number bytes sync) (Row answers) new j S h l = absurd h
+after-later old (Compact number) (Row answers) new j S h l = absurd h
+after-later old (Restart number kept) (Row answers) new j S h l = absurd h
+after-later old (Show number) (Row answers) new j S h l = absurd h
 
 pub run-later : (old : Field) (events : List Event) (answers : List Answer) (new : Field) (j : ℕ) (S : List Op) → Run old events answers new → Later old.gateways j S → Later new.gateways j S
 run-later old [] [] new j S h l = subst (λ (x : Field). Later x.gateways j S) (sym h) l

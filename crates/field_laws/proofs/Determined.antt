@@ -179,7 +179,7 @@ excuse-one Clock sends one other h k = h ∙ sym k
 torn-one : (old : Gateway) (d e : List Op) (new next : Gateway) (made mades : List (List Op)) → d ≡ e → IsTorn old d new made → IsTorn old e next mades → (new ≡ next) × (made ≡ mades)
 torn-one old d e new next made mades same h k =
     let failure : h.failure ≡ k.failure = same_Some h.failure k.failure (sym h.planned ∙ k.planned) in
-    (h.halted ∙ (λ t. record old { refused = same t; drive = torn (failure t) (same t) old.drive }) ∙ sym k.halted, h.none ∙ sym k.none)
+    (h.halted ∙ (λ t. record old { refused = same t ∷ []; drive = torn (failure t) (same t) old.drive }) ∙ sym k.halted, h.none ∙ sym k.none)
 
 left-one : (old : Gateway) (occasion : Occasion) (plan : Plan) (a b : Out) (new next : Gateway) (made mades : List (List Op)) → IsDropped old occasion plan a new made → IsDropped old occasion plan b next mades
     → (a ≡ b) × (new ≡ next) × (made ≡ mades)

@@ -2,7 +2,7 @@
 use Rattle.std.specs.List.{AllByRecursion}
 use Rattle.std.specs.declared.alloc.Global.{Global}
 use Rattle.std.specs.declared.sync.Arc.{Arc}
-use Rattle.std.proofs.Common.{◌≡◌, ◌⊎◌, ℕ, Bool, true, false, ◌||◌, List, [], ◌∷◌, ◌++◌, slice_get, set, append-nil, Option, Some, None, Contains, Result, Ok, Err, refl, sym, ap, ◌∙◌, subst, inl, inr}
+use Rattle.std.proofs.Common.{◌≡◌, ◌⊎◌, ℕ, Bool, true, false, ◌||◌, List, [], ◌∷◌, ◌++◌, map, take, slice_get, set, append-nil, Option, Some, None, Contains, Result, Ok, Err, refl, sym, ap, ◌∙◌, subst, inl, inr}
 use Rattle.rep_ops.specs.Splitting.{all_of}
 use Rattle.rep_model.proofs.Lookup.{or_else}
 use Rattle.std.proofs.lemmas.List.Elements.{All-from_recursion, All-contains, Contains-append_left, Contains-append_right}
@@ -24,26 +24,32 @@ use Rattle.gw_answer.specs.Answers.{said}
 use Rattle.gw_node.specs.Taking.{IsWhole, StandsFor}
 use Rattle.gw_node.proofs.Between.{within-trans}
 use Rattle.gw_node.proofs.Taken.{as_taken}
+use Rattle.gw_node.proofs.Refused.{refused_is}
 use Rattle.gw_world.specs.declared.event.Event.{Event}
-use Rattle.gw_world.specs.declared.event.Event.TheVariants.{Frame, Tick, Take, Answer as Asks, WriteFails, Compact, Restart, Show}
+use Rattle.gw_world.specs.declared.event.Event.TheVariants.{Frame, Tick, Take, Together as AtOnce, Answer as Asks, WriteFails, Compact, Restart, Show}
+use Rattle.gw_world.specs.declared.event.Call.{Call}
+use Rattle.gw_world.specs.declared.event.Call.TheVariants as calls
 use Rattle.gw_world.specs.declared.event.Answer.{Answer}
-use Rattle.gw_world.specs.declared.event.Answer.TheVariants.{Node, Views, Records, Nothing}
+use Rattle.gw_world.specs.declared.event.Answer.TheVariants.{Node, Row, Views, Records, Nothing}
 use Rattle.gw_event.specs.Gateways.{Gateway, with_refused}
-use Rattle.gw_world.specs.Field.{Field, new_field, IsAt, changed, After, Run, gateway_of}
+use Rattle.sn_plan.proofs.Lists.{all-weaken, all-append}
+use Rattle.rep_model.proofs.Joins.{all-moved}
+use Rattle.gw_world.specs.Field.{Field, new_field, IsAt, changed, TogetherAt, After, Run, gateway_of}
+use Rattle.gw_world.proofs.InRows.{Answers, CallAt, InCalls, CutShort, at-changed, moved-config, fed-config, row-moves}
 use Rattle.gw_world.specs.Events.{made_of, answered_of}
 use Rattle.gw_world.specs.Steps.{AnswerStep}
 use Rattle.gw_event.specs.Event.{OwnStep}
-use Rattle.gw_world.specs.Whole.{everything, made_by, MayMake}
+use Rattle.gw_world.specs.Whole.{everything, made_by, made_of_all, MayMake}
 use Rattle.field_laws.specs.Stored.{HasStored}
-use Rattle.field_laws.proofs.Catching.{Later, run-later, later-now}
+use Rattle.field_laws.proofs.Catching.{Later, calls-later, torn-later, run-later, later-now}
 use Rattle.gw_world.proofs.Answering.{answered, answer-told}
 use Rattle.gw_world.proofs.Consistency.{WholeField, after-sound, field-sound, run-sound}
 use Rattle.gw_world.proofs.Each.{flat-all}
 use Rattle.gw_world.proofs.Failures.{after-due}
 use Rattle.gw_world.proofs.Numbers.{set-there as set-at}
 use Rattle.field_laws.proofs.Settling.{set-there, parts-within}
-use Rattle.gw_world.proofs.Steadiness.{Still, Stepped, own-moves, own-told}
-use Rattle.gw_world.proofs.Telling.{after-makes}
+use Rattle.gw_world.proofs.Steadiness.{Still, Stepped, own-moves, take-moves, own-told}
+use Rattle.gw_world.proofs.Telling.{after-makes, take-told, short-told}
 
 -- ---- what stands in a set adds nothing to it
 
@@ -70,9 +76,9 @@ adds-nothing : (S J D : List Op) → Within D S → CountsAs S J → Same (keep 
 adds-nothing S J D within counts =
     same_trans (counts-more S J D counts) (same_trans (same_kept (S ++ D) S (thin-same (S ++ D) S (same-behind S D within))) (same_sym counts))
 
-within-back : (b : Bool) (D S refused : List Op) → Within D S → Within D (with_refused b S refused)
-within-back true D S refused h = within-trans D S (S ++ refused) h (within-left S refused)
-within-back false D S refused h = h
+within-back : (n : ℕ) (D S : List Op) (refused : List (List Op)) → Within D S → Within D (with_refused n S refused)
+within-back n D S refused h =
+    subst (λ (T : List Op). Within D T) (sym (refused_is n S refused)) (within-trans D S (S ++ all_of (take n refused)) h (within-left S (all_of (take n refused))))
 
 -- ---- what a step of its own made
 
@@ -104,12 +110,74 @@ own-later old mid number i maker occasion now answer delta at j gateway next mad
           (subst (λ (f : Field). Later f.gateways j next.taken) (sym is) (later-now (set old.gateways j next) j next (set-at j old.gateways gateway next here.1)))),
     )
 
+-- the same of one of several calls: the gateway that it is at stays in its place
+call-there : (old mid : Field) (number i : ℕ) (maker : Gateway) (call : Call) (answer : Result Out Refusal) → IsAt old number i maker → CallAt old number call answer mid → (next : Gateway) × IsAt mid number i next
+call-there old mid number i maker (calls.Frame from bytes now) answer at h =
+    let e = same-place old number h.0 i h.1 maker h.4 at in
+    let there = at-changed old number h.0 h.1 h.2 h.3 h.4 (moved-config h.1 h.2 h.3 (own-moves h.1 (Datagram from bytes) now answer h.2 h.3 h.5)) in
+    (h.2, subst (λ (f : Field). IsAt f number i h.2) (sym h.6) (subst (λ (k : ℕ). IsAt (changed old h.0 h.2 h.3) number k h.2) e there))
+call-there old mid number i maker (calls.Tick now) answer at h =
+    let e = same-place old number h.0 i h.1 maker h.4 at in
+    let there = at-changed old number h.0 h.1 h.2 h.3 h.4 (moved-config h.1 h.2 h.3 (own-moves h.1 Clock now answer h.2 h.3 h.5)) in
+    (h.2, subst (λ (f : Field). IsAt f number i h.2) (sym h.6) (subst (λ (k : ℕ). IsAt (changed old h.0 h.2 h.3) number k h.2) e there))
+call-there old mid number i maker (calls.Take delta) answer at h =
+    let e = same-place old number h.0 i h.1 maker h.5 at in
+    let there = at-changed old number h.0 h.1 h.2 h.3 h.5 (fed-config h.1 h.2 h.4 h.3 (take-moves h.1 h.4 answer h.2 h.3 h.7)) in
+    (h.2, subst (λ (f : Field). IsAt f number i h.2) (sym h.8) (subst (λ (k : ℕ). IsAt (changed old h.0 h.2 h.3) number k h.2) e there))
+
+call-made : (old mid : Field) (number i : ℕ) (maker : Gateway) (call : Call) (answer : Result Out Refusal) (delta : List Op) → IsAt old number i maker → CallAt old number call answer mid → Contains (made_of answer) delta → (S : List Op) × Later mid.gateways i (S ++ delta)
+call-made old mid number i maker (calls.Frame from bytes now) answer delta at h there = own-later old mid number i maker (Datagram from bytes) now answer delta at h.0 h.1 h.2 h.3 h.4 h.5 h.6 there
+call-made old mid number i maker (calls.Tick now) answer delta at h there = own-later old mid number i maker Clock now answer delta at h.0 h.1 h.2 h.3 h.4 h.5 h.6 there
+call-made old mid number i maker (calls.Take k) answer delta at h there = absurd (nothing-there (made_of answer) delta (take-told h.1 h.2 h.4 answer h.3 h.7).1 there)
+
+-- whoever stands in two lists together stands in one of them
+in-both : (xs ys : List (List Op)) (delta : List Op) → Contains (xs ++ ys) delta → Contains xs delta ⊎ Contains ys delta
+in-both xs ys delta h =
+    let P : List Op → Type 0 = λ D. Contains xs D ⊎ Contains ys D in
+    let first : AllByRecursion P xs = all-weaken (Contains xs) P (λ D there. inl there) xs (all-moved (Contains xs) xs (λ D there. there)) in
+    let second : AllByRecursion P ys = all-weaken (Contains ys) P (λ D there. inr there) ys (all-moved (Contains ys) ys (λ D there. there)) in
+    All-contains P (xs ++ ys) delta (All-from_recursion P (xs ++ ys) (all-append P xs ys first second)) h
+
+calls-made : (old new : Field) (number i : ℕ) (maker : Gateway) (called : List Call) (answers : Answers) (delta : List Op) → IsAt old number i maker → InCalls old number called answers new → Contains (made_of_all answers) delta
+    → (S : List Op) × Later new.gateways i (S ++ delta)
+calls-made old new number i maker [] [] delta at h there = absurd (nothing-there [] delta refl there)
+calls-made old new number i maker (call ∷ called) (answer ∷ answers) delta at h there =
+    elim (in-both (made_of answer) (made_of_all answers) delta there) [
+      | inl first ↦ let made = call-made old h.0 number i maker call answer delta at h.1 first in (made.0, calls-later h.0 new number called answers i (made.0 ++ delta) h.2 made.1)
+      | inr more ↦ let next = call-there old h.0 number i maker call answer at h.1 in calls-made h.0 new number i next.0 called answers delta next.1 h.2 more
+    ]
+calls-made old new number i maker [] (answer ∷ answers) delta at h there = absurd h
+calls-made old new number i maker (call ∷ called) [] delta at h there = absurd h
+
+short-made : (old new : Field) (number i : ℕ) (maker : Gateway) (called : List Call) (answers : Answers) (delta : List Op) → IsAt old number i maker → CutShort old number called answers new → Contains (made_of_all answers) delta
+    → (S : List Op) × Later new.gateways i (S ++ delta)
+short-made old new number i maker called answers delta at c there =
+    let made = calls-made old c.mid number i maker c.calm c.said delta at c.led (subst (λ (ds : List (List Op)). Contains ds delta) (short-told old new number called answers c) there) in (
+      made.0,
+      subst (λ (f : Field). Later f.gateways i (made.0 ++ delta)) (sym c.new_is) (torn-later c.mid c.i c.gateway c.next c.step c.answer c.steps_behind i (made.0 ++ delta) c.at.1 c.torn made.1),
+    )
+
+row-made : (old new : Field) (number i : ℕ) (maker : Gateway) (called : List Call) (answers : Answers) (delta : List Op) → IsAt old number i maker → TogetherAt old number called answers new → Contains (made_of_all answers) delta
+    → (S : List Op) × Later new.gateways i (S ++ delta)
+row-made old new number i maker called answers delta at h there =
+    elim (row-moves old new number called answers h) [
+      | inl c ↦ calls-made old new number i maker called answers delta at c there
+      | inr c ↦ short-made old new number i maker called answers delta at c there
+    ]
+
 made-later : (old mid : Field) (event : Event) (answer : Answer) (delta : List Op) (i : ℕ) (maker : Gateway) → After old event answer mid → Contains (made_by answer) delta
     → MayMake event → IsAt old (gateway_of event) i maker → (S : List Op) × Later mid.gateways i (S ++ delta)
 made-later old mid (Frame number from bytes now) (Node answer) delta i maker h there may at =
     own-later old mid number i maker (Datagram from bytes) now (said answer) delta at h.0 h.1 h.2 h.3 h.4 h.5 h.6 there
 made-later old mid (Tick number now) (Node answer) delta i maker h there may at =
     own-later old mid number i maker Clock now (said answer) delta at h.0 h.1 h.2 h.3 h.4 h.5 h.6 there
+made-later old mid (AtOnce number calls) (Row answers) delta i maker h there may at = row-made old mid number i maker calls (map said answers) delta at h there
+made-later old mid (AtOnce number calls) (Node answer) delta i maker h there may at = absurd h
+made-later old mid (AtOnce number calls) (Views views topics) delta i maker h there may at = absurd h
+made-later old mid (AtOnce number calls) (Records count) delta i maker h there may at = absurd h
+made-later old mid (AtOnce number calls) Nothing delta i maker h there may at = absurd h
+made-later old mid (Frame number from bytes now) (Row answers) delta i maker h there may at = absurd h
+made-later old mid (Tick number now) (Row answers) delta i maker h there may at = absurd h
 made-later old mid (Frame number from bytes now) (Views views topics) delta i maker h there may at = absurd h
 made-later old mid (Frame number from bytes now) (Records count) delta i maker h there may at = absurd h
 made-later old mid (Frame number from bytes now) Nothing delta i maker h there may at = absurd h
@@ -145,11 +213,11 @@ same-gateway field number i j one other h k =
 
 -- ---- the law
 
-pub field-stored : (configs : List Config) (events more : List Event) (answers replies : List Answer) (old mid new : Field) (event : Event) (answer : Answer) (delta : List Op) (i : ℕ) (maker later : Gateway) (b : Bool) (image : Image)
+pub field-stored : (configs : List Config) (events more : List Event) (answers replies : List Answer) (old mid new : Field) (event : Event) (answer : Answer) (delta : List Op) (i : ℕ) (maker later : Gateway) (n : ℕ) (image : Image)
     → Run (new_field configs) events answers old → After old event answer mid → Contains (made_by answer) delta → IsAt old (gateway_of event) i maker
-    → Run mid more replies new → slice_get new.gateways i ≡ Some later → StandsFor later.config.gateway (with_refused b later.taken later.refused) [] image
+    → Run mid more replies new → slice_get new.gateways i ≡ Some later → StandsFor later.config.gateway (with_refused n later.taken later.refused) [] image
     → HasStored later.config.gateway image delta
-field-stored configs events more answers replies old mid new event answer delta i maker later b image run after there at goes_on place stands =
+field-stored configs events more answers replies old mid new event answer delta i maker later n image run after there at goes_on place stands =
     let first = field-sound configs events answers old run in
     let one = after-sound old event answer mid after first.flush first.whole first.due in
     let last = run-sound mid more replies new goes_on one.flush one.whole (after-due old event answer mid after first.due) in
@@ -160,21 +228,21 @@ field-stored configs events more answers replies old mid new event answer delta 
     subst (λ (T : List Op). Contains T op) (sym is) (Contains-append_left (made.0 ++ delta) now.more op (Contains-append_right made.0 delta op h)) in
     let in_field : Contains new.gateways later = contains-place new.gateways i later place in
     let within : Within delta later.taken = parts-within new last.whole later.taken delta (set-there new later in_field) inside in
-    let S = with_refused b later.taken later.refused in
+    let S = with_refused n later.taken later.refused in
     let J = all_of (records later.config.gateway image) in
-    adds-nothing S J delta (within-back b delta later.taken later.refused within) (as_taken S J stands.whole)
+    adds-nothing S J delta (within-back n delta later.taken later.refused within) (as_taken S J stands.whole)
 
-pub answer-stored : (more : List Event) (replies : List Answer) (old mid new : Field) (number other : ℕ) (answer : Result (Arc Out Global) NodeFault) (delta : List Op) (i : ℕ) (peer later : Gateway) (b : Bool) (image : Image)
+pub answer-stored : (more : List Event) (replies : List Answer) (old mid new : Field) (number other : ℕ) (answer : Result (Arc Out Global) NodeFault) (delta : List Op) (i : ℕ) (peer later : Gateway) (n : ℕ) (image : Image)
     → After old (Asks number other) (Node answer) mid → Contains (answered_of (said answer)) delta → IsAt old other i peer
-    → Run mid more replies new → slice_get new.gateways i ≡ Some later → StandsFor later.config.gateway (with_refused b later.taken later.refused) [] image
+    → Run mid more replies new → slice_get new.gateways i ≡ Some later → StandsFor later.config.gateway (with_refused n later.taken later.refused) [] image
     → HasStored later.config.gateway image delta
-answer-stored more replies old mid new number other answer delta i peer later b image after there at goes_on place stands =
+answer-stored more replies old mid new number other answer delta i peer later n image after there at goes_on place stands =
     let is : after.3 ≡ peer = same-gateway old other after.1 i after.3 peer after.6 at in
     let within : Within delta peer.taken = subst (λ (g : Gateway). Within delta g.taken) is (answer-within after.2 after.3 (said answer) after.4 delta after.7 there) in
     let start : Later mid.gateways i peer.taken = subst (λ (f : Field). Later f.gateways i peer.taken) (sym after.8) (later-now old.gateways i peer at.1) in
     let now = run-later mid more replies new i peer.taken goes_on start in
     let grown : later.taken ≡ peer.taken ++ now.more = ap (λ (x : Gateway). x.taken) (same_Some later now.gateway (sym place ∙ now.place)) ∙ now.taken in
     let still : Within delta later.taken = subst (λ (T : List Op). Within delta T) (sym grown) (within-trans delta peer.taken (peer.taken ++ now.more) within (within-left peer.taken now.more)) in
-    let S = with_refused b later.taken later.refused in
+    let S = with_refused n later.taken later.refused in
     let J = all_of (records later.config.gateway image) in
-    adds-nothing S J delta (within-back b delta later.taken later.refused still) (as_taken S J stands.whole)
+    adds-nothing S J delta (within-back n delta later.taken later.refused still) (as_taken S J stands.whole)

@@ -6,6 +6,8 @@ pub mod InJournals
 pub mod Settling
 pub mod Rooms
 pub mod Determined
+pub mod SameRows
+pub mod OneByOne
 pub mod Replaying
 pub mod Stops
 pub mod Writing

@@ -1,6 +1,6 @@
 -- In a run each gateway keeps well.
 use Rattle.std.specs.List.{AllByRecursion}
-use Rattle.std.proofs.Common.{◌≡◌, ◌≢◌, ◌⊎◌, Bool, true, false, ℕ, zero, suc, ◌≤◌, ◌-◌, List, [], ◌∷◌, map, set, slice_get, Option, Some, None, Result, Ok, Err, refl, sym, subst, inl, inr, IsTrue}
+use Rattle.std.proofs.Common.{◌≡◌, ◌≢◌, ◌⊎◌, Bool, ℕ, zero, suc, ◌≤◌, ◌-◌, List, [], ◌∷◌, map, set, slice_get, Option, Some, None, Result, Ok, Err, refl, sym, subst, inl, inr, IsTrue}
 use Rattle.std.proofs.lemmas.Option.{none-some, same_Some}
 use Rattle.rep_op.specs.declared.op.Op.{Op}
 use Rattle.rep_op.specs.declared.fault.OpsFault.{OpsFault}
@@ -20,19 +20,24 @@ use Rattle.gw_answer.specs.declared.refusal.Refusal.TheVariants as refusals
 use Rattle.gw_event.specs.Occasions.{Occasion, Datagram, Clock}
 use Rattle.gw_answer.specs.Answers.{said}
 use Rattle.gw_world.specs.declared.event.Event.{Event}
-use Rattle.gw_world.specs.declared.event.Event.TheVariants.{Frame, Tick, Take, Answer as Asks, WriteFails, Compact, Restart, Show}
+use Rattle.gw_world.specs.declared.event.Event.TheVariants.{Frame, Tick, Take, Together as AtOnce, Answer as Asks, WriteFails, Compact, Restart, Show}
+use Rattle.gw_world.specs.declared.event.Call.{Call}
+use Rattle.gw_world.specs.declared.event.Call.TheVariants as calls
 use Rattle.gw_world.specs.declared.event.Answer.{Answer}
-use Rattle.gw_world.specs.declared.event.Answer.TheVariants.{Node, Views, Records, Nothing}
-use Rattle.gw_event.specs.Gateways.{Gateway, new_gateway, with_refused}
-use Rattle.gw_world.specs.Field.{Field, new_field, IsAt, failing, After, Run}
-use Rattle.gw_event.specs.Drives.{left_by, has_more}
+use Rattle.gw_world.specs.declared.event.Answer.TheVariants.{Node, Row, Views, Records, Nothing}
+use Rattle.gw_event.specs.Gateways.{Gateway, new_gateway}
+use Rattle.gw_answer.specs.declared.step.Step.{Step}
+use Rattle.gw_event.specs.Together.{AreTorn}
+use Rattle.gw_event.specs.Drives.{left_by, more_records}
+use Rattle.gw_world.specs.Field.{Field, new_field, IsAt, failing, TogetherAt, After, Run}
+use Rattle.gw_world.proofs.InRows.{Answers, CallAt}
 use Rattle.gw_world.specs.Steps.{restarted}
 use Rattle.gw_event.specs.Event.{NothingHappens, IsTorn, IsMade, IsPlan, IsTooMuch, OwnStep, TakeStep, CompactStep}
-use Rattle.gw_world.proofs.Consistency.{FlushField, WholeField, after-sound, start-whole}
-use Rattle.gw_world.proofs.Failures.{DueAs, DueField, after-due, start-due}
+use Rattle.gw_world.proofs.Consistency.{FlushField, WholeField, row-keeps-sound, after-sound, start-whole}
+use Rattle.gw_world.proofs.Failures.{OwnOrListed, DueAs, DueField, due-all, after-due, start-due}
 use Rattle.gw_world.proofs.Each.{all-at}
 use Rattle.gw_world.proofs.Numbers.{place_of-first, first-number}
-use Rattle.gw_world.proofs.Steadiness.{start-flush}
+use Rattle.gw_world.proofs.Steadiness.{came-back, restart-feeds, start-flush}
 use Rattle.field_laws.specs.OwnPlans.{AreNumbered, IsTooLong}
 
 -- what holds of each gateway, beside that it is flush
@@ -146,19 +151,19 @@ compact-well old next (Err refusals.Exhausted) w h = absurd h
 compact-well old next (Err refusals.Memory) w h = absurd h
 
 -- what was refused is a delta
-refused-made : (deltas : List (List Op)) (gateway : Gateway) → AllByRecursion IsDelta deltas → DueAs deltas gateway → AreWellMade gateway.refused
-refused-made deltas gateway proper (inl none) = subst AreWellMade (sym none) tt
-refused-made deltas gateway proper (inr (inl own)) = own.proper.well_made
-refused-made deltas gateway proper (inr (inr (k, there))) = (all-at IsDelta deltas k gateway.refused proper there).well_made
+one-made : (deltas : List (List Op)) (number : ℕ) (taken delta : List Op) → AllByRecursion IsDelta deltas → OwnOrListed deltas number taken delta → AreWellMade delta
+one-made deltas number taken delta proper (inl own) = own.proper.well_made
+one-made deltas number taken delta proper (inr (k, there)) = (all-at IsDelta deltas k delta proper there).well_made
 
-back-made : (b : Bool) (S refused : List Op) → AreWellMade S → AreWellMade refused → AreWellMade (with_refused b S refused)
-back-made true S refused h k = all-append (λ op. IsTrue (is_well_made op)) S refused h k
-back-made false S refused h k = h
+again-made : (kept : ℕ) (old : Gateway) (deltas : List (List Op)) → AllByRecursion IsDelta deltas → DueAs deltas old → AreWellMade old.taken → AreWellMade (restarted kept old).taken
+again-made kept old deltas proper d h =
+    let more = due-all (λ op. IsTrue (is_well_made op)) deltas old.config.gateway (λ taken delta due. one-made deltas old.config.gateway taken delta proper due) (more_records old.config.gateway old.drive (left_by kept old.drive)) old.refused old.taken d in
+    subst AreWellMade (sym (restart-feeds kept old).taken) (all-append (λ op. IsTrue (is_well_made op)) old.taken (came-back kept old) h more)
 
 restart-well : (kept : ℕ) (old : Gateway) (deltas : List (List Op)) → AllByRecursion IsDelta deltas → DueAs deltas old → Well old → Well (restarted kept old)
 restart-well kept old deltas proper due w = record {
   numbered = w.numbered;
-  made = back-made (has_more old.config.gateway old.drive (left_by kept old.drive)) old.taken old.refused w.made (refused-made deltas old proper due);
+  made = again-made kept old deltas proper due w.made;
   asked = tt;
 }
 
@@ -168,14 +173,30 @@ failing-well bytes sync old w = record { numbered = w.numbered; made = w.made; a
 abbrev WellField : Field → Type 0
 WellField field = AreWell field.gateways
 
-after-well : (old : Field) (event : Event) (answer : Answer) (new : Field) → After old event answer new → FlushField old → WholeField old → DueField old → WellField old → WellField new
-after-well old (Frame number from bytes now) (Node answer) new h s w d all =
-    subst WellField (sym h.6) (set-well h.0 old.gateways h.2 all (own-well old s all number h.0 h.1 h.4 (Datagram from bytes) now (said answer) h.2 h.3 h.5))
-after-well old (Tick number now) (Node answer) new h s w d all =
-    subst WellField (sym h.6) (set-well h.0 old.gateways h.2 all (own-well old s all number h.0 h.1 h.4 Clock now (said answer) h.2 h.3 h.5))
-after-well old (Take number delta) (Node answer) new h s w d all =
+call-well : (old new : Field) (number : ℕ) (call : Call) (answer : Result Out Refusal) → CallAt old number call answer new → FlushField old → WholeField old → WellField old → WellField new
+call-well old new number (calls.Frame from bytes now) answer h s w all =
+    subst WellField (sym h.6) (set-well h.0 old.gateways h.2 all (own-well old s all number h.0 h.1 h.4 (Datagram from bytes) now answer h.2 h.3 h.5))
+call-well old new number (calls.Tick now) answer h s w all =
+    subst WellField (sym h.6) (set-well h.0 old.gateways h.2 all (own-well old s all number h.0 h.1 h.4 Clock now answer h.2 h.3 h.5))
+call-well old new number (calls.Take delta) answer h s w all =
     subst WellField (sym h.8) (set-well h.0 old.gateways h.2 all
-    (take-well old s all number h.0 h.1 h.5 h.4 (said answer) h.2 h.3 (all-at IsDelta old.deltas (delta - 1) h.4 w.proper h.6.1) h.7))
+    (take-well old s all number h.0 h.1 h.5 h.4 answer h.2 h.3 (all-at IsDelta old.deltas (delta - 1) h.4 w.proper h.6.1) h.7))
+
+-- nothing was taken or noted of calls whose write failed
+torn-row-well : (gateway next : Gateway) (step : Step) (answer : Result Out Refusal) (more : List Step) → AreTorn gateway step answer more next → Well gateway → Well next
+torn-row-well gateway next step answer more t w = subst Well (sym t.halted) (record { numbered = w.numbered; made = w.made; asked = w.asked })
+
+row-well : (old new : Field) (number : ℕ) (called : List Call) (answers : Answers) → TogetherAt old number called answers new → FlushField old → WholeField old → WellField old → WellField new
+row-well old new number called answers h s w all =
+    row-keeps-sound WellField number (λ before after call answer one flush whole well. call-well before after number call answer one flush whole well)
+    (λ field i gateway next behind step answer more at is t flush whole well. set-well i field.gateways next well (torn-row-well gateway next step answer more t (well i gateway at.1)))
+    old new called answers h s w all
+
+after-well : (old : Field) (event : Event) (answer : Answer) (new : Field) → After old event answer new → FlushField old → WholeField old → DueField old → WellField old → WellField new
+after-well old (Frame number from bytes now) (Node answer) new h s w d all = call-well old new number (calls.Frame from bytes now) (said answer) h s w all
+after-well old (Tick number now) (Node answer) new h s w d all = call-well old new number (calls.Tick now) (said answer) h s w all
+after-well old (Take number delta) (Node answer) new h s w d all = call-well old new number (calls.Take delta) (said answer) h s w all
+after-well old (AtOnce number calls) (Row answers) new h s w d all = row-well old new number calls (map said answers) h s w all
 after-well old (Asks number peer) (Node answer) new h s w d all = subst WellField (sym h.8) all
 after-well old (WriteFails number bytes sync) Nothing new h s w d all =
     subst WellField (sym h.3) (set-well h.0 old.gateways (failing bytes sync h.1) all (failing-well bytes sync h.1 (all h.0 h.1 h.2.1)))
@@ -208,6 +229,18 @@ after-well old (WriteFails number bytes sync) (Records count) new h s w d all = 
 after-well old (Compact number) Nothing new h s w d all = absurd h
 after-well old (Restart number kept) Nothing new h s w d all = absurd h
 after-well old (Show number) Nothing new h s w d all = absurd h
+after-well old (AtOnce number calls) (Node answer) new h s w d all = absurd h
+after-well old (AtOnce number calls) (Views views topics) new h s w d all = absurd h
+after-well old (AtOnce number calls) (Records count) new h s w d all = absurd h
+after-well old (AtOnce number calls) Nothing new h s w d all = absurd h
+after-well old (Frame number from bytes now) (Row answers) new h s w d all = absurd h
+after-well old (Tick number now) (Row answers) new h s w d all = absurd h
+after-well old (Take number delta) (Row answers) new h s w d all = absurd h
+after-well old (Asks number peer) (Row answers) new h s w d all = absurd h
+after-well old (WriteFails number bytes sync) (Row answers) new h s w d all = absurd h
+after-well old (Compact number) (Row answers) new h s w d all = absurd h
+after-well old (Restart number kept) (Row answers) new h s w d all = absurd h
+after-well old (Show number) (Row answers) new h s w d all = absurd h
 
 -- ---- what a run does
 

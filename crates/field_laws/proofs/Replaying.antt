@@ -18,16 +18,23 @@ use Rattle.gw_answer.specs.declared.fault.NodeFault.TheVariants as faults
 use Rattle.gw_event.specs.Occasions.{Occasion, Datagram, Clock}
 use Rattle.gw_answer.specs.Answers.{said}
 use Rattle.gw_world.specs.declared.event.Event.{Event}
-use Rattle.gw_world.specs.declared.event.Event.TheVariants.{Frame, Tick, Take, Answer as Asks, WriteFails, Compact, Restart, Show}
+use Rattle.gw_world.specs.declared.event.Event.TheVariants.{Frame, Tick, Take, Together as AtOnce, Answer as Asks, WriteFails, Compact, Restart, Show}
+use Rattle.gw_world.specs.declared.event.Call.{Call}
+use Rattle.gw_world.specs.declared.event.Call.TheVariants as calls
 use Rattle.gw_world.specs.declared.event.Answer.{Answer}
-use Rattle.gw_world.specs.declared.event.Answer.TheVariants.{Node, Views, Records, Nothing}
+use Rattle.gw_world.specs.declared.event.Answer.TheVariants.{Node, Row, Views, Records, Nothing}
 use Rattle.gw_event.specs.Gateways.{Gateway, new_gateway}
-use Rattle.gw_world.specs.Field.{Field, new_field, IsAt, changed, failing, shown, Steps, Asked, After, Run}
+use Rattle.gw_world.specs.Field.{Field, new_field, IsAt, changed, failing, shown, Steps, Asked, TogetherAt, After, Run}
 use Rattle.gw_world.specs.Steps.{AnswerStep, records_left, restarted}
 use Rattle.gw_event.specs.Event.{OwnStep, TakeStep, CompactStep}
-use Rattle.gw_world.specs.Telling.{Said, Shown, Read, told}
+use Rattle.gw_world.specs.Telling.{Said, AllSaid, Shown, Read, told}
+use Rattle.gw_world.proofs.Consistency.{FlushField, WholeField, after-sound, start-whole}
+use Rattle.gw_world.proofs.Failures.{DueField, after-due, start-due}
+use Rattle.gw_world.proofs.Steadiness.{start-flush}
+use Rattle.gw_world.proofs.InRows.{Answers, CallAt, row-keeps}
+use Rattle.field_laws.proofs.SameRows.{row-same}
 use Rattle.field_laws.proofs.Determined.{IsAgreed, own-one, take-one, compact-one, asked-one}
-use Rattle.field_laws.proofs.Rooms.{HasRoom, own-room, take-room, compact-room, failing-room, restart-room}
+use Rattle.field_laws.proofs.Rooms.{HasRoom, nothing-more, own-room, take-room, torn-row-room, compact-room, failing-room, restart-room}
 
 -- ---- places
 
@@ -53,13 +60,14 @@ room-set (g ∷ gateways) (suc i) gateway h p = (h.0, room-set gateways i gatewa
 
 room-start : (configs : List Config) → AllByRecursion HasRoom (map new_gateway configs)
 room-start [] = tt
-room-start (config ∷ configs) = (record { now = refl; back = refl; runs = λ _. refl }, room-start configs)
+room-start (config ∷ configs) = (record { now = refl; back = nothing-more [] [] refl refl; runs = λ _. refl }, room-start configs)
 
 -- ---- one event
 
 -- the answer is no Conflict
 abbrev IsCalm : Answer → Type 0
 IsCalm (Node answer) = IsAgreed (said answer)
+IsCalm (Row answers) = Unit {0}
 IsCalm (Views views topics) = Unit {0}
 IsCalm (Records count) = Unit {0}
 IsCalm Nothing = Unit {0}
@@ -96,93 +104,134 @@ compacts-one old number a b new next i j gateway other then_one then_other h k s
 next-at : (old new : Field) (i : ℕ) (gateway next : Gateway) → HaveRoom old → slice_get old.gateways i ≡ Some gateway → (HasRoom gateway → HasRoom next) → new ≡ changed old i next [] → HaveRoom new
 next-at old new i gateway next room there f e = subst HaveRoom (sym e) (room-set old.gateways i next room (f (room-at old.gateways i gateway room there)))
 
-pub after-one : (old : Field) (event : Event) (a b : Answer) (new next : Field) → HaveRoom old → IsCalm a → IsCalm b → After old event a new → After old event b next → (told a ≡ told b) × (new ≡ next)
-after-one old (Frame number from bytes now) (Node a) (Node b) new next room f g h k =
+pub after-one : (old : Field) (event : Event) (a b : Answer) (new next : Field) → HaveRoom old → FlushField old → WholeField old → IsCalm a → IsCalm b → After old event a new → After old event b next → (told a ≡ told b) × (new ≡ next)
+after-one old (Frame number from bytes now) (Node a) (Node b) new next room s w f g h k =
     let one = steps-one old number (Datagram from bytes) now (said a) (said b) new next room f g h k in
     (ap (λ (x : Result Out Refusal). Said x) one.0, one.1)
-after-one old (Tick number now) (Node a) (Node b) new next room f g h k =
+after-one old (Tick number now) (Node a) (Node b) new next room s w f g h k =
     let one = steps-one old number Clock now (said a) (said b) new next room f g h k in
     (ap (λ (x : Result Out Refusal). Said x) one.0, one.1)
-after-one old (Take number delta) (Node a) (Node b) new next room f g h k =
+after-one old (Take number delta) (Node a) (Node b) new next room s w f g h k =
     let at = at-one old number h.0 k.0 h.1 k.1 h.5 k.5 in
     let ops : h.4 ≡ k.4 = same_Some h.4 k.4 (sym h.6.1 ∙ k.6.1) in
     let one = take-one h.1 h.4 (said a) (said b) h.2 k.2 h.3 k.3 f g h.7
     (subst (λ (x : Gateway). TakeStep x h.4 (said b) k.2 k.3) (sym at.1) (subst (λ (d : List Op). TakeStep k.1 d (said b) k.2 k.3) (sym ops) k.7)) in
     let same : changed old h.0 h.2 h.3 ≡ changed old k.0 k.2 k.3 = λ t. changed old (at.0 t) (one.1 t) (one.2 t) in
     (ap (λ (x : Result Out Refusal). Said x) one.0, h.8 ∙ same ∙ sym k.8)
-after-one old (Asks number other) (Node a) (Node b) new next room f g h k =
+after-one old (Asks number other) (Node a) (Node b) new next room s w f g h k =
     let one = asks-one old number other (said a) (said b) new next h k in
     (ap (λ (x : Result Out Refusal). Said x) one.0, one.1)
-after-one old (WriteFails number bytes sync) Nothing Nothing new next room f g h k =
+after-one old (WriteFails number bytes sync) Nothing Nothing new next room s w f g h k =
     let at = at-one old number h.0 k.0 h.1 k.1 h.2 k.2 in
     let same : changed old h.0 (failing bytes sync h.1) [] ≡ changed old k.0 (failing bytes sync k.1) [] = λ t. changed old (at.0 t) (failing bytes sync (at.1 t)) [] in
     (refl, h.3 ∙ same ∙ sym k.3)
-after-one old (Compact number) (Node a) (Node b) new next room f g h k =
+after-one old (Compact number) (Node a) (Node b) new next room s w f g h k =
     let one = compacts-one old number (said a) (said b) new next h.0 k.0 h.1 k.1 h.2 k.2 h.3 k.3 h.4 k.4 h.5 k.5 in
     (ap (λ (x : Result Out Refusal). Said x) one.0, one.1)
-after-one old (Restart number kept) (Records a) (Records b) new next room f g h k =
+after-one old (Restart number kept) (Records a) (Records b) new next room s w f g h k =
     let at = at-one old number h.0 k.0 h.1 k.1 h.2 k.2 in
     let same : changed old h.0 (restarted kept h.1) [] ≡ changed old k.0 (restarted kept k.1) [] = λ t. changed old (at.0 t) (restarted kept (at.1 t)) [] in
     (ap (λ (n : ℕ). Read n) (h.3 ∙ ap (λ (x : Gateway). records_left kept x) at.1 ∙ sym k.3), h.4 ∙ same ∙ sym k.4)
-after-one old (Show number) (Views a ts) (Views b us) new next room f g h k =
+after-one old (Show number) (Views a ts) (Views b us) new next room s w f g h k =
     let at = at-one old number h.0 k.0 h.1 k.1 h.2 k.2 in
     let same : shown h.1.taken ≡ shown k.1.taken = ap (λ (x : Gateway). shown x.taken) at.1 in
     let retained : all_retained h.1.taken ≡ all_retained k.1.taken = ap (λ (x : Gateway). all_retained x.taken) at.1 in
     ((λ t. Shown ((h.3 ∙ same ∙ sym k.3) t) ((h.5 ∙ retained ∙ sym k.5) t)), h.4 ∙ sym k.4)
-after-one old (Frame number from bytes now) (Node a) (Views b us) new next room f g h k = absurd k
-after-one old (Tick number now) (Node a) (Views b us) new next room f g h k = absurd k
-after-one old (Take number delta) (Node a) (Views b us) new next room f g h k = absurd k
-after-one old (Asks number other) (Node a) (Views b us) new next room f g h k = absurd k
-after-one old (Show number) (Views a ts) (Node b) new next room f g h k = absurd k
-after-one old (Frame number from bytes now) (Node a) (Records b) new next room f g h k = absurd k
-after-one old (Tick number now) (Node a) (Records b) new next room f g h k = absurd k
-after-one old (Take number delta) (Node a) (Records b) new next room f g h k = absurd k
-after-one old (Asks number peer) (Node a) (Records b) new next room f g h k = absurd k
-after-one old (Compact number) (Node a) (Views b us) new next room f g h k = absurd k
-after-one old (Compact number) (Node a) (Records b) new next room f g h k = absurd k
-after-one old (Restart number kept) (Records a) (Node b) new next room f g h k = absurd k
-after-one old (Restart number kept) (Records a) (Views b us) new next room f g h k = absurd k
-after-one old (Show number) (Views a ts) (Records b) new next room f g h k = absurd k
-after-one old (Frame number from bytes now) (Views a ts) b new next room f g h k = absurd h
-after-one old (Tick number now) (Views a ts) b new next room f g h k = absurd h
-after-one old (Take number delta) (Views a ts) b new next room f g h k = absurd h
-after-one old (Asks number other) (Views a ts) b new next room f g h k = absurd h
-after-one old (Show number) (Node a) b new next room f g h k = absurd h
-after-one old (Compact number) (Views views topics) b new next room f g h k = absurd h
-after-one old (Restart number kept) (Views views topics) b new next room f g h k = absurd h
-after-one old (Restart number kept) (Node answer) b new next room f g h k = absurd h
-after-one old (Frame number from bytes now) (Records count) b new next room f g h k = absurd h
-after-one old (Tick number now) (Records count) b new next room f g h k = absurd h
-after-one old (Take number delta) (Records count) b new next room f g h k = absurd h
-after-one old (Asks number peer) (Records count) b new next room f g h k = absurd h
-after-one old (Compact number) (Records count) b new next room f g h k = absurd h
-after-one old (Show number) (Records count) b new next room f g h k = absurd h
-after-one old (WriteFails number bytes sync) (Node a) b new next room f g h k = absurd h
-after-one old (WriteFails number bytes sync) (Views a ts) b new next room f g h k = absurd h
-after-one old (WriteFails number bytes sync) (Records a) b new next room f g h k = absurd h
-after-one old (WriteFails number bytes sync) Nothing (Node b) new next room f g h k = absurd k
-after-one old (WriteFails number bytes sync) Nothing (Views b us) new next room f g h k = absurd k
-after-one old (WriteFails number bytes sync) Nothing (Records b) new next room f g h k = absurd k
-after-one old (Frame number from bytes now) Nothing b new next room f g h k = absurd h
-after-one old (Tick number now) Nothing b new next room f g h k = absurd h
-after-one old (Take number delta) Nothing b new next room f g h k = absurd h
-after-one old (Asks number other) Nothing b new next room f g h k = absurd h
-after-one old (Compact number) Nothing b new next room f g h k = absurd h
-after-one old (Restart number kept) Nothing b new next room f g h k = absurd h
-after-one old (Show number) Nothing b new next room f g h k = absurd h
-after-one old (Frame number from bytes now) (Node a) Nothing new next room f g h k = absurd k
-after-one old (Tick number now) (Node a) Nothing new next room f g h k = absurd k
-after-one old (Take number delta) (Node a) Nothing new next room f g h k = absurd k
-after-one old (Asks number other) (Node a) Nothing new next room f g h k = absurd k
-after-one old (Compact number) (Node a) Nothing new next room f g h k = absurd k
-after-one old (Restart number kept) (Records a) Nothing new next room f g h k = absurd k
-after-one old (Show number) (Views a ts) Nothing new next room f g h k = absurd k
+after-one old (Frame number from bytes now) (Node a) (Views b us) new next room s w f g h k = absurd k
+after-one old (Tick number now) (Node a) (Views b us) new next room s w f g h k = absurd k
+after-one old (Take number delta) (Node a) (Views b us) new next room s w f g h k = absurd k
+after-one old (Asks number other) (Node a) (Views b us) new next room s w f g h k = absurd k
+after-one old (Show number) (Views a ts) (Node b) new next room s w f g h k = absurd k
+after-one old (Frame number from bytes now) (Node a) (Records b) new next room s w f g h k = absurd k
+after-one old (Tick number now) (Node a) (Records b) new next room s w f g h k = absurd k
+after-one old (Take number delta) (Node a) (Records b) new next room s w f g h k = absurd k
+after-one old (Asks number peer) (Node a) (Records b) new next room s w f g h k = absurd k
+after-one old (Compact number) (Node a) (Views b us) new next room s w f g h k = absurd k
+after-one old (Compact number) (Node a) (Records b) new next room s w f g h k = absurd k
+after-one old (Restart number kept) (Records a) (Node b) new next room s w f g h k = absurd k
+after-one old (Restart number kept) (Records a) (Views b us) new next room s w f g h k = absurd k
+after-one old (Show number) (Views a ts) (Records b) new next room s w f g h k = absurd k
+after-one old (Frame number from bytes now) (Views a ts) b new next room s w f g h k = absurd h
+after-one old (Tick number now) (Views a ts) b new next room s w f g h k = absurd h
+after-one old (Take number delta) (Views a ts) b new next room s w f g h k = absurd h
+after-one old (Asks number other) (Views a ts) b new next room s w f g h k = absurd h
+after-one old (Show number) (Node a) b new next room s w f g h k = absurd h
+after-one old (Compact number) (Views views topics) b new next room s w f g h k = absurd h
+after-one old (Restart number kept) (Views views topics) b new next room s w f g h k = absurd h
+after-one old (Restart number kept) (Node answer) b new next room s w f g h k = absurd h
+after-one old (Frame number from bytes now) (Records count) b new next room s w f g h k = absurd h
+after-one old (Tick number now) (Records count) b new next room s w f g h k = absurd h
+after-one old (Take number delta) (Records count) b new next room s w f g h k = absurd h
+after-one old (Asks number peer) (Records count) b new next room s w f g h k = absurd h
+after-one old (Compact number) (Records count) b new next room s w f g h k = absurd h
+after-one old (Show number) (Records count) b new next room s w f g h k = absurd h
+after-one old (WriteFails number bytes sync) (Node a) b new next room s w f g h k = absurd h
+after-one old (WriteFails number bytes sync) (Views a ts) b new next room s w f g h k = absurd h
+after-one old (WriteFails number bytes sync) (Records a) b new next room s w f g h k = absurd h
+after-one old (WriteFails number bytes sync) Nothing (Node b) new next room s w f g h k = absurd k
+after-one old (WriteFails number bytes sync) Nothing (Views b us) new next room s w f g h k = absurd k
+after-one old (WriteFails number bytes sync) Nothing (Records b) new next room s w f g h k = absurd k
+after-one old (Frame number from bytes now) Nothing b new next room s w f g h k = absurd h
+after-one old (Tick number now) Nothing b new next room s w f g h k = absurd h
+after-one old (Take number delta) Nothing b new next room s w f g h k = absurd h
+after-one old (Asks number other) Nothing b new next room s w f g h k = absurd h
+after-one old (Compact number) Nothing b new next room s w f g h k = absurd h
+after-one old (Restart number kept) Nothing b new next room s w f g h k = absurd h
+after-one old (Show number) Nothing b new next room s w f g h k = absurd h
+after-one old (Frame number from bytes now) (Node a) Nothing new next room s w f g h k = absurd k
+after-one old (Tick number now) (Node a) Nothing new next room s w f g h k = absurd k
+after-one old (Take number delta) (Node a) Nothing new next room s w f g h k = absurd k
+after-one old (Asks number other) (Node a) Nothing new next room s w f g h k = absurd k
+after-one old (Compact number) (Node a) Nothing new next room s w f g h k = absurd k
+after-one old (Restart number kept) (Records a) Nothing new next room s w f g h k = absurd k
+after-one old (Show number) (Views a ts) Nothing new next room s w f g h k = absurd k
+after-one old (AtOnce number calls) (Row a) (Row b) new next room s w f g h k =
+    let one = row-same old s w number calls (map said a) (map said b) new next (λ i gateway at. room-at old.gateways i gateway room at.1)
+    (λ i j gateway other at there. at-one old number i j gateway other at there) h k in
+    (ap (λ (xs : List (Result Out Refusal)). AllSaid xs) one.0, one.1)
+after-one old (AtOnce number calls) (Row a) (Node b) new next room s w f g h k = absurd k
+after-one old (AtOnce number calls) (Row a) (Views b us) new next room s w f g h k = absurd k
+after-one old (AtOnce number calls) (Row a) (Records b) new next room s w f g h k = absurd k
+after-one old (AtOnce number calls) (Row a) Nothing new next room s w f g h k = absurd k
+after-one old (AtOnce number calls) (Node a) b new next room s w f g h k = absurd h
+after-one old (AtOnce number calls) (Views a ts) b new next room s w f g h k = absurd h
+after-one old (AtOnce number calls) (Records a) b new next room s w f g h k = absurd h
+after-one old (AtOnce number calls) Nothing b new next room s w f g h k = absurd h
+after-one old (Frame number from bytes now) (Node a) (Row b) new next room s w f g h k = absurd k
+after-one old (Tick number now) (Node a) (Row b) new next room s w f g h k = absurd k
+after-one old (Take number delta) (Node a) (Row b) new next room s w f g h k = absurd k
+after-one old (Asks number other) (Node a) (Row b) new next room s w f g h k = absurd k
+after-one old (Compact number) (Node a) (Row b) new next room s w f g h k = absurd k
+after-one old (Restart number kept) (Records a) (Row b) new next room s w f g h k = absurd k
+after-one old (Show number) (Views a ts) (Row b) new next room s w f g h k = absurd k
+after-one old (WriteFails number bytes sync) Nothing (Row b) new next room s w f g h k = absurd k
+after-one old (Frame number from bytes now) (Row a) b new next room s w f g h k = absurd h
+after-one old (Tick number now) (Row a) b new next room s w f g h k = absurd h
+after-one old (Take number delta) (Row a) b new next room s w f g h k = absurd h
+after-one old (Asks number other) (Row a) b new next room s w f g h k = absurd h
+after-one old (Compact number) (Row a) b new next room s w f g h k = absurd h
+after-one old (Restart number kept) (Row a) b new next room s w f g h k = absurd h
+after-one old (Show number) (Row a) b new next room s w f g h k = absurd h
+after-one old (WriteFails number bytes sync) (Row a) b new next room s w f g h k = absurd h
+
+call-room : (old new : Field) (number : ℕ) (call : Call) (answer : Result Out Refusal) → CallAt old number call answer new → HaveRoom old → HaveRoom new
+call-room old new number (calls.Frame from bytes now) answer h room = steps-room old number (Datagram from bytes) now answer new room h
+call-room old new number (calls.Tick now) answer h room = steps-room old number Clock now answer new room h
+call-room old new number (calls.Take delta) answer h room =
+    subst HaveRoom (sym h.8) (room-set old.gateways h.0 h.2 room (take-room h.1 h.4 answer h.2 h.3 h.7 (room-at old.gateways h.0 h.1 room h.5.1)))
+
+row-room : (old new : Field) (number : ℕ) (called : List Call) (answers : Answers) → TogetherAt old number called answers new → HaveRoom old → HaveRoom new
+row-room old new number called answers h room =
+    row-keeps HaveRoom number (λ before after call answer one room. call-room before after number call answer one room)
+    (λ field i gateway next behind step answer more at is t room. room-set field.gateways i next room (torn-row-room gateway next step answer more t (room-at field.gateways i gateway room at.1)))
+    old new called answers h room
 
 pub after-room : (old : Field) (event : Event) (a : Answer) (new : Field) → HaveRoom old → After old event a new → HaveRoom new
 after-room old (Frame number from bytes now) (Node a) new room h = steps-room old number (Datagram from bytes) now (said a) new room h
 after-room old (Tick number now) (Node a) new room h = steps-room old number Clock now (said a) new room h
 after-room old (Take number delta) (Node a) new room h =
     subst HaveRoom (sym h.8) (room-set old.gateways h.0 h.2 room (take-room h.1 h.4 (said a) h.2 h.3 h.7 (room-at old.gateways h.0 h.1 room h.5.1)))
+after-room old (AtOnce number calls) (Row a) new room h = row-room old new number calls (map said a) h room
 after-room old (Asks number other) (Node a) new room h = subst HaveRoom (sym h.8) room
 after-room old (WriteFails number bytes sync) Nothing new room h = next-at old new h.0 h.1 (failing bytes sync h.1) room h.2.1 (failing-room bytes sync h.1) h.3
 after-room old (Compact number) (Node a) new room h = next-at old new h.0 h.1 h.2 room h.3.1 (compact-room h.1 h.2 (said a) h.4) h.5
@@ -212,20 +261,33 @@ after-room old (Asks number other) Nothing new room h = absurd h
 after-room old (Compact number) Nothing new room h = absurd h
 after-room old (Restart number kept) Nothing new room h = absurd h
 after-room old (Show number) Nothing new room h = absurd h
+after-room old (AtOnce number calls) (Node answer) new room h = absurd h
+after-room old (AtOnce number calls) (Views views topics) new room h = absurd h
+after-room old (AtOnce number calls) (Records count) new room h = absurd h
+after-room old (AtOnce number calls) Nothing new room h = absurd h
+after-room old (Frame number from bytes now) (Row answers) new room h = absurd h
+after-room old (Tick number now) (Row answers) new room h = absurd h
+after-room old (Take number delta) (Row answers) new room h = absurd h
+after-room old (Asks number peer) (Row answers) new room h = absurd h
+after-room old (WriteFails number bytes sync) (Row answers) new room h = absurd h
+after-room old (Compact number) (Row answers) new room h = absurd h
+after-room old (Restart number kept) (Row answers) new room h = absurd h
+after-room old (Show number) (Row answers) new room h = absurd h
 
 -- ---- runs
 
-pub run-one : (old : Field) (events : List Event) (answers others : List Answer) (one other : Field) → HaveRoom old → AllByRecursion IsCalm answers → AllByRecursion IsCalm others
+pub run-one : (old : Field) (events : List Event) (answers others : List Answer) (one other : Field) → HaveRoom old → FlushField old → WholeField old → DueField old → AllByRecursion IsCalm answers → AllByRecursion IsCalm others
     → Run old events answers one → Run old events others other → (map told answers ≡ map told others) × (one ≡ other)
-run-one old [] [] [] one other room f g h k = (refl, h ∙ sym k)
-run-one old (event ∷ events) (a ∷ answers) (b ∷ others) one other room f g h k =
-    let first = after-one old event a b h.0 k.0 room f.0 g.0 h.1 k.1 in
-    let rest = run-one k.0 events answers others one other (after-room old event b k.0 room k.1) f.1 g.1 (subst (λ (x : Field). Run x events answers one) first.1 h.2) k.2 in
+run-one old [] [] [] one other room s w d f g h k = (refl, h ∙ sym k)
+run-one old (event ∷ events) (a ∷ answers) (b ∷ others) one other room s w d f g h k =
+    let first = after-one old event a b h.0 k.0 room s w f.0 g.0 h.1 k.1 in
+    let sound = after-sound old event b k.0 k.1 s w d in
+    let rest = run-one k.0 events answers others one other (after-room old event b k.0 room k.1) sound.flush sound.whole (after-due old event b k.0 k.1 d) f.1 g.1 (subst (λ (x : Field). Run x events answers one) first.1 h.2) k.2 in
     ((λ t. first.0 t ∷ rest.0 t), rest.1)
-run-one old [] [] (b ∷ others) one other room f g h k = absurd k
-run-one old [] (a ∷ answers) others one other room f g h k = absurd h
-run-one old (event ∷ events) [] others one other room f g h k = absurd h
-run-one old (event ∷ events) (a ∷ answers) [] one other room f g h k = absurd k
+run-one old [] [] (b ∷ others) one other room s w d f g h k = absurd k
+run-one old [] (a ∷ answers) others one other room s w d f g h k = absurd h
+run-one old (event ∷ events) [] others one other room s w d f g h k = absurd h
+run-one old (event ∷ events) (a ∷ answers) [] one other room s w d f g h k = absurd k
 
 said-conflict : (answer : Result (Arc Out Global) NodeFault) (client : Subject) → said answer ≡ Err (refusals.Conflict client) → answer ≡ Err (faults.Conflict client)
 said-conflict (Ok out) client e = absurd cc
@@ -244,6 +306,7 @@ HaveNoConflict answers = (client : Subject) → Contains answers (Node (Err (fau
 
 calm-answer : (answers : List Answer) → HaveNoConflict answers → (answer : Answer) → Contains answers answer → IsCalm answer
 calm-answer answers f (Node answer) there = λ client e. f client (subst (λ (x : Answer). Contains answers x) (ap (λ (r : Result (Arc Out Global) NodeFault). Node r) (said-conflict answer client e)) there)
+calm-answer answers f (Row replies) there = tt
 calm-answer answers f (Views views topics) there = tt
 calm-answer answers f (Records count) there = tt
 calm-answer answers f Nothing there = tt
@@ -256,4 +319,4 @@ calm-answers answers f =
 pub runs-one : (configs : List Config) (events : List Event) (answers others : List Answer) (one other : Field) → HaveNoConflict answers → HaveNoConflict others
     → Run (new_field configs) events answers one → Run (new_field configs) events others other → (map told answers ≡ map told others) × (one ≡ other)
 runs-one configs events answers others one other f g h k =
-    run-one (new_field configs) events answers others one other (room-start configs) (calm-answers answers f) (calm-answers others g) h k
+    run-one (new_field configs) events answers others one other (room-start configs) (start-flush configs) (start-whole configs) (start-due configs) (calm-answers answers f) (calm-answers others g) h k

@@ -13,15 +13,18 @@ use Rattle.rep_model.proofs.Thin.{thin-same, view-thin}
 use Rattle.sn_local.specs.declared.config.Config.{Config}
 use Rattle.sn_plan.proofs.Lists.{all-append}
 use Rattle.gw_world.specs.declared.event.Event.{Event}
-use Rattle.gw_world.specs.declared.event.Event.TheVariants.{Frame, Tick, Take, Answer as Asks, WriteFails, Compact, Restart, Show}
+use Rattle.gw_world.specs.declared.event.Event.TheVariants.{Frame, Tick, Take, Together as AtOnce, Answer as Asks, WriteFails, Compact, Restart, Show}
+use Rattle.gw_world.specs.declared.event.Call.{Call}
+use Rattle.gw_world.specs.declared.event.Call.TheVariants as calls
 use Rattle.gw_world.specs.declared.event.Answer.{Answer}
-use Rattle.gw_world.specs.declared.event.Answer.TheVariants.{Node, Views, Records, Nothing}
+use Rattle.gw_world.specs.declared.event.Answer.TheVariants.{Node, Row, Views, Records, Nothing}
 use Rattle.gw_answer.specs.declared.out.Out.{Out}
 use Rattle.gw_answer.specs.declared.refusal.Refusal.{Refusal}
 use Rattle.gw_answer.specs.Answers.{said}
 use Rattle.gw_event.specs.Occasions.{Datagram, Clock}
 use Rattle.gw_event.specs.Gateways.{Gateway}
-use Rattle.gw_world.specs.Field.{Field, new_field, changed, failing, After, Run, shown}
+use Rattle.gw_world.specs.Field.{Field, new_field, changed, failing, TogetherAt, After, Run, shown}
+use Rattle.gw_world.proofs.InRows.{Answers, CallAt, row-keeps, torn-row-still}
 use Rattle.gw_world.specs.Steps.{restarted}
 use Rattle.gw_event.specs.Event.{TakeStep}
 use Rattle.gw_world.specs.Whole.{listed, everything, HasTakenAll, Arranges, NoneFails}
@@ -70,14 +73,24 @@ listed-joined field w made =
       lists = all-append (λ (D : List Op). AllByRecursion (IsListed (field.deltas ++ made)) D) field.deltas made more.lists (all-made field.deltas made);
     }
 
+call-listed : (old new : Field) (number : ℕ) (call : Call) (answer : Result Out Refusal) → CallAt old number call answer new → AreListed old → AreListed new
+call-listed old new number (calls.Frame from bytes now) answer h w = subst AreListed (sym h.6) (listed-moved old w h.0 h.1 h.2 h.3 h.4.1 (own-moves h.1 (Datagram from bytes) now answer h.2 h.3 h.5))
+call-listed old new number (calls.Tick now) answer h w = subst AreListed (sym h.6) (listed-moved old w h.0 h.1 h.2 h.3 h.4.1 (own-moves h.1 Clock now answer h.2 h.3 h.5))
+call-listed old new number (calls.Take delta) answer h w =
+    subst AreListed (sym h.8) (listed-taken old w h.0 h.1 h.2 h.3 h.5.1 (delta - 1) h.4 h.6.1 (take-moves h.1 h.4 answer h.2 h.3 h.7))
+
+row-listed : (old new : Field) (number : ℕ) (called : List Call) (answers : Answers) → TogetherAt old number called answers new → AreListed old → AreListed new
+row-listed old new number called answers h w =
+    row-keeps AreListed number (λ before after call answer one listed. call-listed before after number call answer one listed)
+    (λ field i gateway next behind step answer more at is t listed. listed-moved field listed i gateway next [] at.1 (inl (torn-row-still gateway next step answer more t)))
+    old new called answers h w
+
 -- where no failure is arranged
 after-listed : (old : Field) (event : Event) (answer : Answer) (new : Field) → After old event answer new → AreWell old → AreListed old → AreListed new
-after-listed old (Frame number from bytes now) (Node answer) new h well w =
-    subst AreListed (sym h.6) (listed-moved old w h.0 h.1 h.2 h.3 h.4.1 (own-moves h.1 (Datagram from bytes) now (said answer) h.2 h.3 h.5))
-after-listed old (Tick number now) (Node answer) new h well w =
-    subst AreListed (sym h.6) (listed-moved old w h.0 h.1 h.2 h.3 h.4.1 (own-moves h.1 Clock now (said answer) h.2 h.3 h.5))
-after-listed old (Take number delta) (Node answer) new h well w =
-    subst AreListed (sym h.8) (listed-taken old w h.0 h.1 h.2 h.3 h.5.1 (delta - 1) h.4 h.6.1 (take-moves h.1 h.4 (said answer) h.2 h.3 h.7))
+after-listed old (Frame number from bytes now) (Node answer) new h well w = call-listed old new number (calls.Frame from bytes now) (said answer) h w
+after-listed old (Tick number now) (Node answer) new h well w = call-listed old new number (calls.Tick now) (said answer) h w
+after-listed old (Take number delta) (Node answer) new h well w = call-listed old new number (calls.Take delta) (said answer) h w
+after-listed old (AtOnce number calls) (Row answers) new h well w = row-listed old new number calls (map said answers) h w
 after-listed old (Asks number peer) (Node answer) new h well w = subst AreListed (sym h.8) (listed-joined old w h.4)
 after-listed old (WriteFails number bytes sync) Nothing new h well w =
     subst AreListed (sym h.3) (listed-moved old w h.0 h.1 (failing bytes sync h.1) [] h.2.1 (inl (record { config = refl; taken = refl; none = refl })))
@@ -110,6 +123,18 @@ after-listed old (Asks number peer) Nothing new h well w = absurd h
 after-listed old (Compact number) Nothing new h well w = absurd h
 after-listed old (Restart number kept) Nothing new h well w = absurd h
 after-listed old (Show number) Nothing new h well w = absurd h
+after-listed old (AtOnce number calls) (Node answer) new h well w = absurd h
+after-listed old (AtOnce number calls) (Views views topics) new h well w = absurd h
+after-listed old (AtOnce number calls) (Records count) new h well w = absurd h
+after-listed old (AtOnce number calls) Nothing new h well w = absurd h
+after-listed old (Frame number from bytes now) (Row answers) new h well w = absurd h
+after-listed old (Tick number now) (Row answers) new h well w = absurd h
+after-listed old (Take number delta) (Row answers) new h well w = absurd h
+after-listed old (Asks number peer) (Row answers) new h well w = absurd h
+after-listed old (WriteFails number bytes sync) (Row answers) new h well w = absurd h
+after-listed old (Compact number) (Row answers) new h well w = absurd h
+after-listed old (Restart number kept) (Row answers) new h well w = absurd h
+after-listed old (Show number) (Row answers) new h well w = absurd h
 
 run-listed : (old : Field) (events : List Event) (answers : List Answer) (new : Field) → Run old events answers new → AllByRecursion (λ event. ¬ (Arranges event)) events → AreWell old → AreListed old → AreListed new
 run-listed old [] [] new h never well w = subst AreListed (sym h) w

@@ -1,15 +1,21 @@
 -- The same event stops two runs, for the same reason; and what runs to its end is not stopped.
-use Rattle.std.proofs.Common.{◌≡◌, ◌⊎◌, ℕ, zero, suc, ◌+◌, ◌<◌, List, [], ◌∷◌, take, slice_get, Some, refl, sym, ap, ◌∙◌, subst, arith, inl, inr}
+use Rattle.std.proofs.Common.{◌≡◌, ◌⊎◌, ℕ, zero, suc, ◌+◌, ◌<◌, List, [], ◌∷◌, take, slice_get, Some, Contains, refl, sym, ap, ◌∙◌, subst, arith, inl, inr}
 use Rattle.std.specs.Prelude.{◌≢◌}
 use Rattle.std.proofs.lemmas.Option.{none-some, same_Some}
 use Rattle.sn_local.specs.declared.config.Config.{Config}
 use Rattle.gw_world.specs.declared.event.Event.{Event}
-use Rattle.gw_world.specs.declared.event.Event.TheVariants.{Frame, Tick, Take, Answer as Asks, WriteFails, Compact, Restart, Show}
+use Rattle.gw_world.specs.declared.event.Event.TheVariants.{Frame, Tick, Take, Together as AtOnce, Answer as Asks, WriteFails, Compact, Restart, Show}
+use Rattle.gw_world.specs.declared.event.Call.{Call}
+use Rattle.gw_world.specs.declared.event.Call.TheVariants as calls
 use Rattle.gw_world.specs.declared.event.Answer.{Answer}
-use Rattle.gw_world.specs.declared.event.Answer.TheVariants.{Node, Views, Records, Nothing}
+use Rattle.gw_world.specs.declared.event.Answer.TheVariants.{Node, Row, Views, Records, Nothing}
 use Rattle.gw_world.specs.declared.world.WorldFault.{WorldFault}
 use Rattle.gw_world.specs.declared.world.WorldFault.TheVariants as stops
-use Rattle.gw_world.specs.Field.{Field, new_field, After, Run, NamesNoGateway, NamesNoDelta}
+use Rattle.std.specs.List.{AllByRecursion}
+use Rattle.std.proofs.lemmas.List.Elements.{All-from_recursion, All-contains}
+use Rattle.rep_op.specs.declared.op.Op.{Op}
+use Rattle.gw_answer.specs.declared.step.Step.{Step}
+use Rattle.gw_world.specs.Field.{Field, new_field, IsDeltaAt, IsStepOf, AreStepsOf, After, Run, NamesNoGateway, NamesNoDelta}
 use Rattle.gw_world.specs.Worlds.{Before, IsStop}
 use Rattle.field_laws.proofs.Replaying.{HaveNoConflict, runs-one}
 
@@ -19,6 +25,7 @@ gateway-after : (field : Field) (event : Event) (answer : Answer) (next : Field)
 gateway-after field (Frame number from bytes now) (Node a) next h k = none-some k.0 (sym h ∙ k.4.0)
 gateway-after field (Tick number now) (Node a) next h k = none-some k.0 (sym h ∙ k.4.0)
 gateway-after field (Take number delta) (Node a) next h k = none-some k.0 (sym h ∙ k.5.0)
+gateway-after field (AtOnce number calls) (Row a) next h k = none-some k.0 (sym h ∙ k.5.0)
 gateway-after field (Asks number other) (Node a) next (inl h) k = none-some k.0 (sym h ∙ k.5.0)
 gateway-after field (Asks number other) (Node a) next (inr h) k = none-some k.1 (sym h ∙ k.6.0)
 gateway-after field (WriteFails number bytes sync) Nothing next h k = none-some k.0 (sym h ∙ k.2.0)
@@ -49,12 +56,44 @@ gateway-after field (Asks number peer) Nothing next h k = k
 gateway-after field (Compact number) Nothing next h k = k
 gateway-after field (Restart number kept) Nothing next h k = k
 gateway-after field (Show number) Nothing next h k = k
+gateway-after field (AtOnce number calls) (Node answer) next h k = k
+gateway-after field (AtOnce number calls) (Views views topics) next h k = k
+gateway-after field (AtOnce number calls) (Records count) next h k = k
+gateway-after field (AtOnce number calls) Nothing next h k = k
+gateway-after field (Frame number from bytes now) (Row answers) next h k = k
+gateway-after field (Tick number now) (Row answers) next h k = k
+gateway-after field (Take number delta) (Row answers) next h k = k
+gateway-after field (Asks number peer) (Row answers) next h k = k
+gateway-after field (WriteFails number bytes sync) (Row answers) next h k = k
+gateway-after field (Compact number) (Row answers) next h k = k
+gateway-after field (Restart number kept) (Row answers) next h k = k
+gateway-after field (Show number) (Row answers) next h k = k
+
+-- a delta that calls take is in the list
+absent-given : (field : Field) (called : List Call) (more : List Step) (delta : ℕ) → AreStepsOf field called more → ((ops : List Op) → IsDeltaAt field delta ops → ⊥) → AllByRecursion (λ call. calls.Take delta ≡ call → ⊥) called
+absent-given field [] [] delta given absent = tt
+absent-given field (call ∷ called) (step ∷ more) delta given absent = (one call given.0, absent-given field called more delta given.1 absent)
+  where
+    one : (call : Call) → IsStepOf field call step → calls.Take delta ≡ call → ⊥
+    one call is e = let there = subst (λ (c : Call). IsStepOf field c step) (sym e) is in absent there.0 there.1
+absent-given field [] (step ∷ more) delta given absent = absurd given
+absent-given field (call ∷ called) [] delta given absent = absurd given
+
+given-there : (field : Field) (called : List Call) (more : List Step) (delta : ℕ) → AreStepsOf field called more → Contains called (calls.Take delta) → ((ops : List Op) → IsDeltaAt field delta ops → ⊥) → ⊥
+given-there field called more delta given there absent =
+    All-contains (λ call. calls.Take delta ≡ call → ⊥) called (calls.Take delta) (All-from_recursion (λ call. calls.Take delta ≡ call → ⊥) called (absent-given field called more delta given absent)) there refl
 
 delta-after : (field : Field) (event : Event) (answer : Answer) (next : Field) → NamesNoDelta field event → After field event answer next → ⊥
 delta-after field (Take number delta) (Node a) next h k = h.1 k.4 k.6
 delta-after field (Take number delta) (Views a ts) next h k = k
 delta-after field (Take number delta) (Records a) next h k = k
 delta-after field (Take number delta) Nothing next h k = k
+delta-after field (AtOnce number calls) (Row a) next h k = given-there field calls k.4 h.1.0 k.6 h.1.1 h.1.2
+delta-after field (AtOnce number calls) (Node a) next h k = k
+delta-after field (AtOnce number calls) (Views a ts) next h k = k
+delta-after field (AtOnce number calls) (Records a) next h k = k
+delta-after field (AtOnce number calls) Nothing next h k = k
+delta-after field (Take number delta) (Row a) next h k = k
 delta-after field (Frame number from bytes now) a next h k = h
 delta-after field (Tick number now) a next h k = h
 delta-after field (Asks number other) a next h k = h
@@ -66,6 +105,7 @@ delta-after field (Show number) a next h k = h
 -- an event that names no delta names a gateway
 gateway-delta : (field : Field) (event : Event) → NamesNoGateway field event → NamesNoDelta field event → ⊥
 gateway-delta field (Take number delta) h k = none-some k.0.0 (sym h ∙ k.0.1)
+gateway-delta field (AtOnce number calls) h k = none-some k.0.0 (sym h ∙ k.0.1)
 gateway-delta field (Frame number from bytes now) h k = k
 gateway-delta field (Tick number now) h k = k
 gateway-delta field (Asks number other) h k = k

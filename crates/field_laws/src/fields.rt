@@ -4,7 +4,7 @@
 //! is one induction. An answered delta leaves a gateway flush because of where its names are at
 //! home, and names are at home because gateways are flush.
 
-ghost use Rattle.std.specs.Prelude.{◌≡◌, ℕ, ◌⊎◌, ◌↔◌, true, List, ◌++◌, Some, None, Ok, Err, IfSome, IsTrue, Contains, slice_get};
+ghost use Rattle.std.specs.Prelude.{◌≡◌, ℕ, ◌⊎◌, ◌↔◌, true, List, ◌++◌, map, Result, Some, None, Ok, Err, IfSome, IsTrue, Contains, slice_get};
 ghost use Rattle.rep_op.specs.declared.op.Op.{Op};
 ghost use Rattle.rep_op.specs.declared.op.Subject.{Subject};
 ghost use Rattle.rep_op.specs.declared.op.Put.{Put};
@@ -23,13 +23,21 @@ ghost use Rattle.sn_local.specs.declared.config.Config.{Config};
 ghost use Rattle.sn_plan.specs.declared.plan.Plan.{Plan};
 ghost use Rattle.gw_world.specs.declared.event.Event.{Event};
 ghost use Rattle.gw_world.specs.declared.event.Answer.{Answer};
-ghost use Rattle.gw_world.specs.declared.event.Answer.TheVariants.{Node};
+ghost use Rattle.gw_world.specs.declared.event.Event.TheVariants.{Together};
+ghost use Rattle.gw_world.specs.declared.event.Call.{Call};
+ghost use Rattle.gw_world.specs.declared.event.Answer.TheVariants.{Node, Row};
+ghost use Rattle.gw_answer.specs.Answers.{said};
+ghost use Rattle.gw_answer.specs.declared.fault.NodeFault.{NodeFault};
+ghost use Rattle.gw_node.specs.Failures.{failed};
+ghost use Rattle.std.specs.List.{AllByRecursion};
+ghost use Rattle.std.specs.declared.alloc.Global.{Global};
+ghost use Rattle.std.specs.declared.sync.Arc.{Arc};
 ghost use Rattle.gw_answer.specs.declared.out.Out.{Out};
 ghost use Rattle.gw_answer.specs.declared.fault.NodeFault.TheVariants as faults;
 ghost use Rattle.gw_answer.specs.declared.refusal.Refusal.TheVariants as refusals;
 ghost use Rattle.gw_event.specs.Occasions.{Occasion};
 ghost use Rattle.gw_event.specs.Gateways.{Gateway};
-ghost use Rattle.gw_world.specs.Field.{Field, new_field, IsAt, IsDeltaAt, After, Run, gateway_of, peer_of, shown};
+ghost use Rattle.gw_world.specs.Field.{Field, new_field, IsAt, IsDeltaAt, After, Run, gateway_of, peer_of, shown, by_itself, AreFieldsAlike};
 ghost use Rattle.gw_world.specs.Steps.{AnswerStep};
 ghost use Rattle.gw_event.specs.Event.{IsPlan, OwnStep, TakeStep, IsWritable};
 ghost use Rattle.gw_world.specs.Steady.{IsSteady};
@@ -118,6 +126,10 @@ pub fn consistent_field()
     ensures never { (configs : List Config) (events : List Event) (answers : List Answer)
         (field : Field) (of : Subject) → Run (new_field configs) events answers field
         → Contains answers (Node (Err (faults.Conflict of))) → ⊥ }
+    ensures never_together { (configs : List Config) (events : List Event) (answers : List Answer)
+        (field : Field) (replies : List (Result (Arc Out Global) NodeFault)) (of : Subject)
+        → Run (new_field configs) events answers field → Contains answers (Row replies)
+        → Contains (map said replies) (Err (refusals.Conflict of)) → ⊥ }
 {}
 
 /// No session operation and no message is made twice, and nothing is retained twice under one name.
@@ -224,4 +236,21 @@ pub fn answered_field()
         → Run (record old { deltas = old.deltas ++ made }) more replies new
         → slice_get new.gateways i ≡ Some later
         → Within (all_of made) later.taken → CountsAs (later.taken ++ peer.taken) later.taken }
+{}
+
+/// Calls that come together are calls one by one. Where no answer is that the disk failed, they are
+/// a run of as many events, with these answers, that leads to the same field, disks included. Where
+/// one is, such a run gives these answers as well; what it leads to differs in nothing but that
+/// gateway's disk and what it refused. So what is said of events by themselves holds of each call.
+pub fn together_field()
+    ensures went { (old new : Field) (number : ℕ) (called : List Call)
+        (answers : List (Result (Arc Out Global) NodeFault))
+        → After old (Together number called) (Row answers) new
+        → AllByRecursion (λ answer. failed answer ≡ 0) (map said answers)
+        → Run old (map (by_itself number) called) (map Node answers) new }
+    ensures told { (old new : Field) (number : ℕ) (called : List Call)
+        (answers : List (Result (Arc Out Global) NodeFault))
+        → After old (Together number called) (Row answers) new
+        → (alone : Field) × Run old (map (by_itself number) called) (map Node answers) alone
+        × AreFieldsAlike alone new }
 {}

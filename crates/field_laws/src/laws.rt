@@ -1,6 +1,6 @@
 //! The laws. Each function does nothing; its contract is a law, proved for all runs.
 
-ghost use Rattle.std.specs.Prelude.{◌≡◌, ◌⊎◌, [], ◌++◌, ℕ, Bool, true, List, slice_get, Some, Result, Err, Contains};
+ghost use Rattle.std.specs.Prelude.{◌≡◌, ◌⊎◌, [], ◌++◌, ℕ, true, List, slice_get, Some, Result, Err, Contains};
 ghost use Rattle.std.specs.List.{AllByRecursion};
 ghost use Rattle.std.specs.declared.alloc.Global.{Global};
 ghost use Rattle.std.specs.declared.sync.Arc.{Arc};
@@ -108,18 +108,18 @@ pub fn takes_at_zero()
 pub fn stored()
     ensures made { (configs : List Config) (events more : List Event)
         (answers replies : List Answer) (old mid new : Field) (event : Event) (answer : Answer)
-        (delta : List Op) (i : ℕ) (maker later : Gateway) (b : Bool) (image : Image)
+        (delta : List Op) (i : ℕ) (maker later : Gateway) (n : ℕ) (image : Image)
         → Run (new_field configs) events answers old → After old event answer mid
         → Contains (made_by answer) delta → IsAt old (gateway_of event) i maker
         → Run mid more replies new → slice_get new.gateways i ≡ Some later
-        → StandsFor later.config.gateway (with_refused b later.taken later.refused) [] image
+        → StandsFor later.config.gateway (with_refused n later.taken later.refused) [] image
         → HasStored later.config.gateway image delta }
     ensures answered { (more : List Event) (replies : List Answer) (old mid new : Field)
         (number other : ℕ) (answer : Result (Arc Out Global) NodeFault) (delta : List Op) (i : ℕ)
-        (peer later : Gateway) (b : Bool) (image : Image)
+        (peer later : Gateway) (n : ℕ) (image : Image)
         → After old (Asks number other) (Node answer) mid
         → Contains (answered_of (said answer)) delta → IsAt old other i peer
         → Run mid more replies new → slice_get new.gateways i ≡ Some later
-        → StandsFor later.config.gateway (with_refused b later.taken later.refused) [] image
+        → StandsFor later.config.gateway (with_refused n later.taken later.refused) [] image
         → HasStored later.config.gateway image delta }
 {}

@@ -32,13 +32,44 @@ impl FileDisk<File> {
         ensures { IfOk result (λ disk. disk.failures.count ≡ 0) }
     {
         let first = existing(rt, alloc, path, "0")?;
-        let second = existing(rt, alloc, path, "1")?;
+        match existing(rt, alloc, path, "1") {
+            Ok(second) => FileDisk::of_those(rt, alloc, path, first, second),
+            Err(fault) => {
+                drop(first);
+                Err(fault)
+            }
+        }
+    }
+
+    /// The files at a path, of which those are there already.
+    fn of_those<R: Files<File = File>>(
+        rt: &R,
+        alloc: Global,
+        path: &str,
+        first: Option<File>,
+        second: Option<File>,
+    ) -> Result<FileDisk<File>, FileDiskFault>
+        ensures { IfOk result (λ disk. disk.failures.count ≡ 0) }
+    {
         if is_lost(&first, &second) {
+            drop(first);
+            drop(second);
             return Err(FileDiskFault::Lost);
         }
-        let first = made_durable(first, rt, alloc, path, "0")?;
-        let second = made_durable(second, rt, alloc, path, "1")?;
-        Ok(FileDisk::over(first, second))
+        let first = match made_durable(first, rt, alloc, path, "0") {
+            Ok(first) => first,
+            Err(fault) => {
+                drop(second);
+                return Err(fault);
+            }
+        };
+        match made_durable(second, rt, alloc, path, "1") {
+            Ok(second) => Ok(FileDisk::over(first, second)),
+            Err(fault) => {
+                drop(first);
+                Err(fault)
+            }
+        }
     }
 }
 

@@ -1,11 +1,11 @@
 -- The disk under a gateway as its operator believes it.
-use Rattle.std.specs.Prelude.{◌≡◌, ℕ, ◌+◌, Bool, true, false, nat_lt, if◌then◌else◌, length, List, [], ◌∷◌, Option, Some, None}
+use Rattle.std.specs.Prelude.{◌≡◌, ℕ, ◌+◌, ◌-◌, Bool, true, false, if◌then◌else◌, length, List, [], ◌∷◌, Option, Some, None}
 use Rattle.rep_op.specs.declared.op.Op.{Op}
 use Rattle.jr_disk.specs.declared.disk.Slot.{Slot}
 use Rattle.jr_disk.specs.declared.disk.Plan.{Plan}
 use Rattle.jr_disk.specs.declared.disk.Plan.TheVariants.{Stop, KeepBack}
 use Rattle.jr_disk.specs.Disk.{Slots, Image, at, after_crash}
-use Rattle.jr_journal.specs.Records.{written, base_bytes, slot_content, generation_in, records}
+use Rattle.jr_journal.specs.Records.{written, written_all, base_bytes, slot_content, generation_in, records}
 use Rattle.jr_journal.specs.Crashes.{recovered}
 use Rattle.jr_journal.specs.Arranged.{after_append}
 use Rattle.jr_journal.specs.Journals.{other, emptied}
@@ -47,6 +47,15 @@ torn plan delta drive =
       plan = None;
     }
 
+-- the disk if this failure comes as the deltas are written at once: the journal is halted
+abbrev pub torn_all : Plan → List (List Op) → Drive → Drive
+torn_all plan deltas drive =
+    record drive {
+      slots = after_append (Some plan) drive.slots drive.slot (written_all deltas);
+      halted = true;
+      plan = None;
+    }
+
 -- the disk once the delta is written; one without operations is not
 abbrev pub noted : List Op → Drive → Drive
 noted [] drive = drive
@@ -83,7 +92,8 @@ arranged bytes sync drive = record drive { plan = Some (if sync then KeepBack el
 abbrev pub left_by : ℕ → Drive → Image
 left_by kept drive = after_crash kept kept drive.slots
 
--- an image has more records than are synced, so it has that of the delta that was refused
-abbrev pub has_more : ℕ → Drive → Image → Bool
-has_more gateway drive i =
-    nat_lt (length (records gateway (left_by 0 drive))) (length (records gateway i))
+-- how many records more an image has than are synced: so many first ones of the deltas that were
+-- refused are in it
+abbrev pub more_records : ℕ → Drive → Image → ℕ
+more_records gateway drive i =
+    length (records gateway i) - length (records gateway (left_by 0 drive))

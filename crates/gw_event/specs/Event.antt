@@ -124,7 +124,7 @@ pub record IsTorn (old : Gateway) (delta : List Op) (new : Gateway)
   pub takable : IsTakable old.taken delta
   pub failure : Failure
   pub planned : old.drive.plan ≡ Some failure
-  pub halted : new ≡ record old { refused = delta; drive = torn failure delta old.drive }
+  pub halted : new ≡ record old { refused = delta ∷ []; drive = torn failure delta old.drive }
   pub none : made ≡ []
 
 -- The plan was not carried out: the disk failed, and the excuse is sent instead of what it says.

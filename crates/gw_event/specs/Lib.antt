@@ -3,3 +3,4 @@ pub mod Excuses
 pub mod Drives
 pub mod Gateways
 pub mod Event
+pub mod Together

@@ -1,11 +1,12 @@
 //! Calls of a shift, with a pass that comes back.
 
-ghost use Rattle.std.specs.Prelude.{◌≡◌, ◌≢◌, ℕ, Bool, true, IfOk, IfErr, MatchResult, Err};
+ghost use Rattle.std.specs.Prelude.{◌≡◌, ◌≢◌, ◌≤◌, ℕ, Bool, true, IfOk, IfErr, MatchResult, Err, map};
 ghost use Rattle.std.specs.Arc.{arc_value};
 ghost use Rattle.gw_answer.specs.Answers.{said, told};
 ghost use Rattle.gw_answer.specs.declared.step.Step.{Step as AnyStep};
-ghost use Rattle.gw_shift.specs.Calling.{Made};
+ghost use Rattle.gw_shift.specs.Calling.{Made, MadeInRow};
 ghost use Rattle.gw_link.specs.Adding.{Adds};
+ghost use Rattle.gw_link.specs.inner.Rows.{AllAre};
 ghost use Rattle.gw_link.specs.Calling.{says_halted, CannotCall};
 ghost use Rattle.gw_link.specs.inner.Calling.{reached_by};
 ghost use Rattle.gw_answer.specs.declared.refusal.Refusal.TheVariants as refusals;
@@ -91,6 +92,73 @@ pub fn call<T: Wait, R: Replica, D: Disk + Drop>(
             Ok(refusal) => (pass, Ok(Err(refusal))),
             Err(end) => (pass, Err(end)),
         },
+    }
+}
+
+/// Makes calls in a row, with one sync, each of which is claimed. Says what the gateway answered to
+/// the first of them, one at least: the others are for another row. Or says why none of them reached
+/// it.
+#[tactic(auto, using(crate::proofs::Adding::adds_none, crate::proofs::Adding::adds_row))]
+pub fn call_all<T: Wait, R: Replica, D: Disk + Drop>(
+    rt: &T,
+    alloc: Global,
+    shift: &Shift<R, D>,
+    pass: Pass,
+    steps: &[Arc<Step>],
+    stage: &Stage,
+) -> (Pass, Result<Vec<Answer>, End>)
+    ensures made { IfOk result.1 (λ answers. (number : ℕ) × MadeInRow pass
+        (map arc_value steps.now) (map said answers.items) number result.0) }
+    ensures none { IfErr result.1 (λ end. CannotCall end × (result.0 ≡ pass)) }
+    ensures adds { (is : AnyStep → Bool) → AllAre is (map arc_value steps.now)
+        → Adds is pass result.0 }
+{
+    let claimed = claim_all(stage, steps.len());
+    if claimed == 0 {
+        return (pass, Err(End::Full));
+    }
+    match shift.call_all(rt, alloc, pass, &steps[..claimed]) {
+        Ok((pass, answers, number)) => {
+            give_back(stage, claimed - answers.len());
+            stage.note_made(number.saturating_add(answers.len() as u64 - 1));
+            (pass, Ok(answers))
+        }
+        Err((pass, fault)) => {
+            give_back(stage, claimed - 1);
+            (pass, Err(unreached(fault)))
+        }
+    }
+}
+
+/// Claims calls of the shift, at most so many. Says how many were left.
+fn claim_all(stage: &Stage, most: usize) -> usize
+    ensures { result ≤ most }
+{
+    for count in 0..most {
+        if !stage.claim() {
+            return count;
+        }
+    }
+    most
+}
+
+/// Gives back so many claims that were not used.
+fn give_back(stage: &Stage, count: usize) {
+    for _ in 0..count {
+        stage.give_back();
+    }
+}
+
+/// Why no call of a row reached the gateway, whose refusals are answers.
+fn unreached(fault: CallFault) -> End
+    ensures { CannotCall result }
+{
+    match reached(fault) {
+        Err(end) => end,
+        Ok(refusal) => {
+            drop(refusal);
+            End::Memory
+        }
     }
 }
 

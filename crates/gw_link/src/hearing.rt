@@ -1,11 +1,12 @@
 //! What has come over a link.
 
-ghost use Rattle.std.specs.Prelude.{◌≡◌, true};
+ghost use Rattle.std.specs.Prelude.{◌≡◌, ◌++◌, ◌∷◌, [], true, IfOk, OnOk, map};
 ghost use Rattle.std.specs.Arc.{arc_value};
 ghost use Rattle.gw_link.specs.Adding.{Adds, is_of_link};
+ghost use Rattle.gw_link.specs.inner.Rows.{AllAre};
 ghost use Rattle.gw_link.specs.inner.Calling as spec;
 
-use crate::calling::{End, call, drop_refusal};
+use crate::calling::{End, call, call_all, drop_refusal};
 use crate::counts::{count_answer, is_delta, note_read};
 use crate::link::{Heard, Link};
 use crate::outgoing::is_nothing;
@@ -27,6 +28,18 @@ use std::time::Clock;
 
 /// How often a read may find nothing before the other end has said its number: some ten seconds.
 const MOST_SILENCE: u32 = 1_000;
+
+/// How many deltas are taken in a row at most.
+const MOST_IN_A_ROW: usize = 64;
+
+/// Deltas that are taken in a row.
+#[derive(Drop)]
+struct Row {
+    /// The calls.
+    steps: Vec<Arc<Step>>,
+    /// A share of each that brings what is new here.
+    news: Vec<Option<Arc<Step>>>,
+}
 
 /// What a message says.
 enum Said {
@@ -148,9 +161,9 @@ fn heard(alloc: Global, message: LinkMessage) -> Result<Said, End> {
     }
 }
 
-/// Takes the deltas that came. What the gateway refuses is dropped, also where it is halted; where
-/// the shift has had all its calls the rest waits for the next one. Before both ends have said who
-/// they are, nothing is heard but that.
+/// Takes the deltas that came, as many as wait in a row with one sync. What the gateway refuses is
+/// dropped, also where it is halted; where the shift has had all its calls the rest waits for the
+/// next one. Before both ends have said who they are, nothing is heard but that.
 #[tactic(auto, using(crate::proofs::Adding::adds_more, crate::proofs::Adding::adds_none))]
 pub(crate) fn hear_all<T: Wait, R: Replica, D: Disk + Drop, S: Drop>(
     rt: &T,
@@ -165,20 +178,111 @@ pub(crate) fn hear_all<T: Wait, R: Replica, D: Disk + Drop, S: Drop>(
 {
     let mut pass = pass;
     for _ in rt.forever() {
-        let Some(first) = link.waiting.front() else {
+        let row = match row_of(rt, alloc, link, relay) {
+            Ok(row) => row,
+            Err(end) => return (pass, Err(end)),
+        };
+        if row.steps.is_empty() {
+            drop(row);
             return (pass, Ok(()));
-        };
-        let Ok(step) = first.step.clone() else {
-            return (pass, Err(End::Memory));
-        };
-        let (after, heard) = hear(rt, alloc, shift, pass, link, step, stage, relay);
+        }
+        let (after, heard) = hear_row(rt, alloc, shift, pass, link, row, stage, relay);
         pass = after;
         if let Err(end) = heard {
             return (pass, Err(end));
         }
-        let _ = link.waiting.pop_front();
     }
     unreachable!()
+}
+
+/// The deltas that wait, the first of them, up to one by which the link is lost. It is lost at once
+/// if that is the first.
+fn row_of<T: Wait, S: Drop>(
+    rt: &T,
+    alloc: Global,
+    link: &Link<S>,
+    relay: &Relay,
+) -> Result<Row, End>
+    ensures { IfOk result (λ row. AllAre is_of_link (map arc_value row.steps.items)) }
+{
+    let mut row = Row {
+        steps: Vec::new(alloc),
+        news: Vec::new(alloc),
+    };
+    for index in 0..link.waiting.len().min(MOST_IN_A_ROW) {
+        let Some(heard) = link.waiting.get(index) else {
+            break;
+        };
+        match news_of(rt, link, &heard.step, relay) {
+            Ok(news) => put_in(&mut row, heard, news)?,
+            Err(end) if index == 0 => return Err(end),
+            Err(_) => break,
+        }
+    }
+    Ok(row)
+}
+
+/// Puts a delta into a row, with a share of it if it brings what is new here.
+fn put_in(row: &mut Row, heard: &Heard, news: Option<Arc<Step>>) -> Result<(), End>
+    ensures { OnOk result ((step : _) × (row.new.steps.items ≡ row.old.steps.items ++ step ∷ [])
+        × (is_of_link (arc_value step) ≡ true)) }
+{
+    let Ok(step) = heard.step.clone() else {
+        return Err(End::Memory);
+    };
+    if row.news.push(news).is_err() || row.steps.push(step).is_err() {
+        return Err(End::Memory);
+    }
+    Ok(())
+}
+
+/// Hears deltas in a row. Those that were taken wait no more.
+fn hear_row<T: Wait, R: Replica, D: Disk + Drop, S: Drop>(
+    rt: &T,
+    alloc: Global,
+    shift: &Shift<R, D>,
+    pass: Pass,
+    link: &mut Link<S>,
+    row: Row,
+    stage: &Stage,
+    relay: &Relay,
+) -> (Pass, Result<(), End>)
+    requires { AllAre is_of_link (map arc_value row.steps.items) }
+    ensures { Adds is_of_link pass result.0 }
+{
+    let Row { steps, news } = row;
+    relay.note_working(rt);
+    let (pass, answered) = call_all(rt, alloc, shift, pass, steps.as_slice(), stage);
+    let heard = follow_row(rt, alloc, link, stage, relay, steps, news, answered);
+    relay.note_worked(rt);
+    (pass, heard)
+}
+
+/// What follows on the gateway's answers to a row of deltas.
+fn follow_row<T: Wait, S: Drop>(
+    rt: &T,
+    alloc: Global,
+    link: &mut Link<S>,
+    stage: &Stage,
+    relay: &Relay,
+    steps: Vec<Arc<Step>>,
+    news: Vec<Option<Arc<Step>>>,
+    answered: Result<Vec<Answer>, End>,
+) -> Result<(), End> {
+    let answers = match answered {
+        Ok(answers) => answers,
+        Err(end) => return Err(end),
+    };
+    for (answer, (step, share)) in answers.into_iter().zip(steps.into_iter().zip(news)) {
+        relay.note_heard(rt, link.place, &step);
+        stage.keep(rt, octets_of(&step));
+        drop(step);
+        let followed = follow_answer(rt, alloc, link, stage, relay, share, true, Ok(answer));
+        relay.note_worked(rt);
+        followed?;
+        let _ = link.waiting.pop_front();
+    }
+    Ok(())
 }
 
 /// Answers the digest that came, once what was said so far went out, and for each gateway once in

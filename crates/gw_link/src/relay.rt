@@ -365,6 +365,12 @@ impl Relay {
         }
     }
 
+    /// Messages are worked on, of which none is noted as heard yet.
+    pub(crate) fn note_working<T: Wait>(&self, rt: &T) {
+        let mut board = self.board.lock(rt);
+        board.working = board.working.saturating_add(1);
+    }
+
     /// A message was worked on.
     pub(crate) fn note_worked<T: Wait>(&self, rt: &T) {
         let mut board = self.board.lock(rt);

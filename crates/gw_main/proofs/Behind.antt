@@ -21,7 +21,7 @@ module _ {D : Type 0} {G : Ghosts D} (old mid new : State G) where
     itself = λ S h. again.itself honest S (n S [] h);
     with_read = λ S refused h.
         let none : refused ≡ [] = h.quiet runs in
-        inl (subst (λ (r : List Op). HasTaken S r new) (sym none) (again.itself honest S (n S [] (subst (λ (r : List Op). HasTaken S r old) none h))));
+        inl (subst (λ (r : List (List Op)). HasTaken S r new) (sym none) (again.itself honest S (n S [] (subst (λ (r : List (List Op)). HasTaken S r old) none h))));
   }
 
   pub opened_then : G.honest → TakesAgain old mid → TakesOn mid new → TakesOn old new

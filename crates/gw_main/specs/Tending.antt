@@ -70,5 +70,5 @@ IsGivenUp {G = G} old refusal new =
 -- is so too; or what its journal held is taken as well, and nothing is refused from then on.
 pub record TakesOn {D : Type 0} {G : Ghosts D} (old new : State G) : Type 0 where
   pub itself : (S : List Op) → HasTaken S [] old → HasTaken S [] new
-  pub with_read : (S refused : List Op) → HasTaken S refused old → HasTaken S refused new
-      ⊎ HasTaken (S ++ all_of (on_disk old)) [] new
+  pub with_read : (S : List Op) (refused : List (List Op)) → HasTaken S refused old
+      → HasTaken S refused new ⊎ HasTaken (S ++ all_of (on_disk old)) [] new

@@ -49,7 +49,7 @@ pub fn begin<R: Replica, D: Disk + Drop, O: Write, E: Write>(
         Keeps (all_of (records settings.now.gateway (image (D.slots disk))))
         (state_of R.kept node).kept) }
     // Whatever set the gateway had taken before it stopped, it has taken again,
-    ensures restarts { D.honest → IfOk result (λ node. (S refused : List Op)
+    ensures restarts { D.honest → IfOk result (λ node. (S : List Op) (refused : List (List Op))
         → StandsFor settings.now.gateway S refused (image (D.slots disk))
         → HasTaken (S ++ all_of (records settings.now.gateway (image (D.slots disk)))) []
         (state_of R.kept node)) }
@@ -100,7 +100,7 @@ fn open<R: Replica, D: Disk + Drop>(
     ensures keeps { D.honest → IfOk result (λ opened.
         Keeps (all_of (records settings.now.gateway (image (D.slots disk))))
         (state_of R.kept opened.0).kept) }
-    ensures restarts { D.honest → IfOk result (λ opened. (S refused : List Op)
+    ensures restarts { D.honest → IfOk result (λ opened. (S : List Op) (refused : List (List Op))
         → StandsFor settings.now.gateway S refused (image (D.slots disk))
         → HasTaken (S ++ all_of (records settings.now.gateway (image (D.slots disk)))) []
         (state_of R.kept opened.0)) }

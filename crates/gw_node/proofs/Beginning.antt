@@ -1,5 +1,5 @@
 -- An image of which nothing is known but what an opening found stands for its records.
-use Rattle.std.proofs.Common.{◌≡◌, ℕ, zero, suc, List, [], ◌∷◌, ◌++◌, take, None, refl, sym, ap, ◌∙◌, append-nil, append_assoc, inl}
+use Rattle.std.proofs.Common.{◌≡◌, ℕ, zero, suc, List, [], ◌∷◌, ◌++◌, take, None, refl, sym, ap, ◌∙◌, append-nil, append_assoc}
 use Rattle.rep_op.specs.declared.op.Op.{Op}
 use Rattle.rep_op.specs.Sets.{IsConsistent}
 use Rattle.rep_ops.specs.Splitting.{all_of}
@@ -27,7 +27,7 @@ begins gateway i sound fits proper =
     let J : List Op = all_of (records gateway i) in record {
       sound = sound;
       between = record { lower = within-keep J; upper = within-left J [] };
-      whole = inl (counts-refl J);
+      whole = (zero, counts-refl J);
       roomy = fit_roomy [] (records gateway i) refl fits;
       proper = proper;
     }

@@ -235,24 +235,24 @@ between_more S D deltas all h =
     (record { lower = lower-join S J D h.lower upper; upper = within-nothing_more (J ++ D) (S ++ D) (upper-join S J D upper all) })
 
 -- without it, or with it, where it is refused
-pub between_refused : (S D : List Op) (deltas : List (List Op)) → IsBetween S [] (all_of deltas) → IsBetween S D (all_of deltas)
+pub between_refused : (S D : List Op) (deltas : List (List Op)) → IsBetween S [] (all_of deltas) → IsBetween S (D ∷ []) (all_of deltas)
 between_refused S D deltas h =
-    record { lower = h.lower; upper = within-trans (all_of deltas) S (S ++ D) (within-nothing (all_of deltas) S h.upper) (within-left S D) }
+    record { lower = h.lower; upper = within-trans (all_of deltas) S (S ++ all_of (D ∷ [])) (within-nothing (all_of deltas) S h.upper) (within-left S (all_of (D ∷ []))) }
 
-pub between_left_over : (S D : List Op) (deltas : List (List Op)) → AllAgree S D → IsBetween S [] (all_of deltas) → IsBetween S D (all_of (deltas ++ D ∷ []))
+pub between_left_over : (S D : List Op) (deltas : List (List Op)) → AllAgree S D → IsBetween S [] (all_of deltas) → IsBetween S (D ∷ []) (all_of (deltas ++ D ∷ []))
 between_left_over S D deltas all h =
     let J = all_of deltas in
     let upper = within-nothing J S h.upper in
-    subst (λ (ops : List Op). IsBetween S D ops) (sym (all_of_more deltas D))
-    (record { lower = within-trans (keep S) J (J ++ D) h.lower (within-left J D); upper = upper-join S J D upper all })
+    subst (λ (ops : List Op). IsBetween S (D ∷ []) ops) (sym (all_of_more deltas D))
+    (record { lower = within-trans (keep S) J (J ++ D) h.lower (within-left J D); upper = subst (λ (T : List Op). Within (J ++ D) (S ++ T)) (sym (append-nil D)) (upper-join S J D upper all) })
 
 -- what was read back, with what was taken before
-pub between_again : (S refused J : List Op) → IsBetween S refused J → IsBetween (S ++ J) [] J
+pub between_again : (S : List Op) (refused : List (List Op)) (J : List Op) → IsBetween S refused J → IsBetween (S ++ J) [] J
 between_again S refused J h =
-    record { lower = restart-lower S J h.lower; upper = within-nothing_more J (S ++ J) (restart-upper S J refused h.upper) }
+    record { lower = restart-lower S J h.lower; upper = within-nothing_more J (S ++ J) (restart-upper S J (all_of refused) h.upper) }
 
-pub counts_back : (S refused J : List Op) → IsBetween S refused J → CountsAs (S ++ J) J
-counts_back S refused J h = counts-between (S ++ J) J (record { lower = restart-lower S J h.lower; upper = restart-upper S J refused h.upper })
+pub counts_back : (S : List Op) (refused : List (List Op)) (J : List Op) → IsBetween S refused J → CountsAs (S ++ J) J
+counts_back S refused J h = counts-between (S ++ J) J (record { lower = restart-lower S J h.lower; upper = restart-upper S J (all_of refused) h.upper })
 
-pub counts_again : (S refused J K : List Op) → IsBetween S refused J → CountsAs J K → CountsAs (S ++ J) K
+pub counts_again : (S : List Op) (refused : List (List Op)) (J K : List Op) → IsBetween S refused J → CountsAs J K → CountsAs (S ++ J) K
 counts_again S refused J K h counts = same_trans counts (counts_back S refused J h)

@@ -34,7 +34,7 @@ use Rattle.gw_answer.specs.declared.refusal.Refusal.TheVariants as refusals
 use Rattle.gw_answer.specs.declared.step.Step.{Step}
 use Rattle.gw_answer.specs.declared.step.Step.TheVariants as steps
 use Rattle.gw_node.specs.Calls.{OwnCall, TakeCall, ViewCall, DigestCall, AnswerCall, CompactCall, StepCall, IsDone, AreTooMuch}
-use Rattle.gw_event.specs.Drives.{generation, compacted, torn_base, has_more}
+use Rattle.gw_event.specs.Drives.{generation, compacted, torn_base, more_records}
 use Rattle.gw_event.specs.Event.{Event, OwnStep, TakeStep, ViewStep, DigestStep, ReplyStep, CompactStep, ReopenStep, IsPlan, IsMade, IsTooMuch, HasNoDelta, NothingHappens, shows}
 use Rattle.gw_event.specs.Gateways.{Gateway, with_refused, reopened}
 use Rattle.gw_node.specs.Keeping.{Keeps}
@@ -57,7 +57,7 @@ OrWant answer Step before next made = Step before next made ⊎ ((answer ≡ Err
 
 module _ {D : Type 0} {G : Ghosts D} (g : Gateway) (old : State G) (s : Stands g old) where
   -- the plan by what is kept is the plan by what was taken
-  plan_taken : (occasion : Occasion) (now : ℕ) (plan : Option Plan) → IsPlanFor old occasion now plan → IsPlan g occasion now plan
+  pub plan_taken : (occasion : Occasion) (now : ℕ) (plan : Option Plan) → IsPlanFor old occasion now plan → IsPlan g occasion now plan
   plan_taken occasion now plan h =
       let seen : seen_of old.kept ≡ seen_of g.taken = seen_same g.taken old.kept s.keeps.counts in
       let same : IsPlanOf old.config (seen_of old.kept) old.local occasion now plan ≡ IsPlanOf g.config (seen_of g.taken) g.local occasion now plan =
@@ -369,9 +369,9 @@ module _ {D : Type 0} {G : Ghosts D} (g : Gateway) (old : State G) (s : Stands g
 
   -- what an opening of the disk would read now stands for the set, with what was refused or without
   pub read_now : Lasts g
-      → StandsFor g.config.gateway (with_refused (has_more g.config.gateway g.drive (image g.drive.slots)) g.taken g.refused) [] (image g.drive.slots)
+      → StandsFor g.config.gateway (with_refused (more_records g.config.gateway g.drive (image g.drive.slots)) g.taken g.refused) [] (image g.drive.slots)
   read_now l =
-      subst (λ (i : Image). StandsFor g.config.gateway (with_refused (has_more g.config.gateway g.drive i) g.taken g.refused) [] i) (all_left g.drive.slots)
+      subst (λ (i : Image). StandsFor g.config.gateway (with_refused (more_records g.config.gateway g.drive i) g.taken g.refused) [] i) (all_left g.drive.slots)
       (l.images (length g.drive.slots.first.unsynced) (length g.drive.slots.second.unsynced))
 
   begun_now : Lasts g → is_fresh (image g.drive.slots) ≡ false

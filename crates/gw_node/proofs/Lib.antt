@@ -2,6 +2,7 @@ pub mod Occurring
 pub mod Keeping
 pub mod Calling
 pub mod Between
+pub mod Refused
 pub mod Proper
 pub mod Roomy
 pub mod Taken
@@ -13,5 +14,10 @@ pub mod Held
 pub mod Splits
 pub mod Standing
 pub mod Leading
+pub mod Writes
+mod Each
+mod Unwritten
+mod Finishing
+pub mod Rows
+pub mod Together
 mod Resting
-mod Owned

@@ -1,7 +1,6 @@
 -- From what a node's calls do to what they do to the gateway that it stands for.
-use Rattle.std.proofs.Common.{◌≡◌, ◌≢◌, ◌⊎◌, ℕ, ◌+◌, length, if◌then◌else◌, nat_lt, arith, Bool, true, false, true≢false, append-nil, inl, inr, List, [], ◌∷◌, ◌++◌, Option, Some, None, Ok, Err, refl, sym, ap, ◌∙◌, subst}
+use Rattle.std.proofs.Common.{◌≡◌, ◌≢◌, ◌⊎◌, ℕ, ◌+◌, length, ◌-◌, zero, suc, if◌then◌else◌, arith, Bool, true, false, true≢false, append-nil, inl, inr, List, [], ◌∷◌, ◌++◌, Option, Some, None, Ok, Err, refl, sym, ap, ◌∙◌, subst}
 use Rattle.std.specs.Prelude.{IsSome}
-use Rattle.std.proofs.lemmas.Bool.{lt-ltb, le-ltb}
 use Rattle.std.proofs.lemmas.List.{length-append}
 use Rattle.std.proofs.lemmas.List.Elements.{All-from_recursion, All-contains}
 use Rattle.rep_op.specs.declared.op.Op.{Op}
@@ -25,7 +24,7 @@ use Rattle.jr_journal.specs.Arranged.{after_append, IsStruck, AppendedAs}
 use Rattle.jr_journal.specs.Journals.{emptied}
 use Rattle.jr_journal.specs.Parts.{disk_of, gateway_of, slot_of}
 use Rattle.jr_journal.specs.Records.{written, records, slot_content}
-use Rattle.gw_event.specs.Drives.{with_record, torn, has_more, left_by}
+use Rattle.gw_event.specs.Drives.{with_record, torn, more_records, left_by}
 use Rattle.gw_event.specs.Gateways.{Gateway, with_refused}
 use Rattle.gw_node.specs.Keeping.{Keeps}
 use Rattle.gw_node.specs.Parts.{State, is_halted, IsUntouched, IsUnchanged}
@@ -34,14 +33,10 @@ use Rattle.gw_node.specs.Taking.{on_disk, IsBetween, StandsFor, HasTaken}
 use Rattle.gw_node.specs.Writing.{IsWritten, IsFailed}
 use Rattle.gw_node.proofs.Keeping.{keeps_more}
 use Rattle.gw_node.proofs.Occurring.{operation_occurs, put_occurs, retain_occurs}
+use Rattle.gw_node.proofs.Refused.{without}
 use Rattle.gw_node.proofs.Taken.{StandFor, MayFollow, stands_at, records_stand, taken_then, opened, more}
 
 -- ---- sets
-
--- nothing was refused
-pub without : (b : Bool) (S refused : List Op) → refused ≡ [] → with_refused b S refused ≡ S
-without true S refused none = ap (λ (R : List Op). S ++ R) none ∙ append-nil S
-without false S refused none = refl
 
 -- where a replica keeps what the records have, and these stand for the set
 pub keeps-read : (S J K : List Op) → IsBetween S [] J → IsConsistent J → Keeps J K → CountsAs S K → Keeps S K
@@ -86,7 +81,7 @@ recovered_synced gateway i =
 -- ---- a failure that comes
 
 -- of a failed append nothing need be left
-left_torn : (failure : Failure) (d : Slots) (slot : Slot) (bytes : List ℕ) → IsSynced d → after_crash 0 0 (after_append (Some failure) d slot bytes) ≡ image d
+pub left_torn : (failure : Failure) (d : Slots) (slot : Slot) (bytes : List ℕ) → IsSynced d → after_crash 0 0 (after_append (Some failure) d slot bytes) ≡ image d
 left_torn (Stop k) d First bytes h = λ i. record { first = d.first.synced ++ sym h.first i; second = d.second.synced ++ sym h.second i }
 left_torn (Stop k) d Second bytes h = λ i. record { first = d.first.synced ++ sym h.first i; second = d.second.synced ++ sym h.second i }
 left_torn KeepBack d First bytes h = λ i. record { first = d.first.synced ++ sym h.first i; second = d.second.synced ++ sym h.second i }
@@ -100,7 +95,7 @@ pub record Came (Honest : Type 0) (starved : Bool) (o : Option (Option Failure))
   pub slots : Honest → new ≡ after_append (Some failure) old slot bytes
   pub known : Honest → starved ≡ false → (plan : Option Failure) → o ≡ Some plan → (Some failure ≡ plan) × (after ≡ Some None)
 
-came : (Honest : Type 0) (starved : Bool) (o : Option (Option Failure)) (old : Slots) (slot : Slot) (bytes : List ℕ) (new : Slots) (after : Option (Option Failure)) → IsStruck Honest old slot bytes new
+pub came : (Honest : Type 0) (starved : Bool) (o : Option (Option Failure)) (old : Slots) (slot : Slot) (bytes : List ℕ) (new : Slots) (after : Option (Option Failure)) → IsStruck Honest old slot bytes new
     → (Honest → starved ≡ false → AppendedAs o old slot bytes (Err journal_faults.Disk) new after) → Came Honest starved o old slot bytes new after
 came Honest true o old slot bytes new after s k = record { failure = s.0; slots = s.1; known = λ honest fed plan e. absurd (true≢false fed) }
 came Honest false None old slot bytes new after s k = record { failure = s.0; slots = s.1; known = λ honest fed plan e. absurd cc }
@@ -125,11 +120,11 @@ pub unmet : (o : Option (Option Failure)) (plan : Option Failure) (old : Slots) 
 unmet o plan old slot bytes new after e h =
     let k = subst (λ (x : Option (Option Failure)). AppendedAs x old slot bytes (Ok (record {})) new after) e h in (sym k.0, k.2)
 
-less_one : (n m : ℕ) → m ≡ n + 1 → nat_lt n m ≡ true
-less_one n m e = lt-ltb n m (omega (arith, e))
+one_above : (n m : ℕ) → m ≡ n + 1 → m - n ≡ suc zero
+one_above n m e = omega (arith, e)
 
-less_none : (n m : ℕ) → m ≡ n → nat_lt n m ≡ false
-less_none n m e = le-ltb n m (omega (arith, e))
+none_above : (n m : ℕ) → m ≡ n → m - n ≡ zero
+none_above n m e = omega (arith, e)
 
 -- ---- what a call leaves of a gateway
 
@@ -139,7 +134,7 @@ wrote delta local g = record g { taken = g.taken ++ delta; local = local; drive 
 
 -- a failure came as the record was written
 abbrev pub struck : Failure → List Op → Gateway → Gateway
-struck failure delta g = record g { refused = delta; drive = torn failure delta (record g.drive { plan = Some failure }) }
+struck failure delta g = record g { refused = delta ∷ []; drive = torn failure delta (record g.drive { plan = Some failure }) }
 
 module _ {D : Type 0} {G : Ghosts D} where
   -- what lasts at a gateway a node that stands for it has taken, as long as it goes on
@@ -264,16 +259,16 @@ module _ {D : Type 0} {G : Ghosts D} where
         left_before = ap (λ (i : Image). records g.config.gateway i) (left_torn fate.failure g.drive.slots g.drive.slot (written delta) (l.synced (goes w.runs)))
 
         torn_image : (i : Image) → Opens g.config.gateway (records g.config.gateway (image g.drive.slots)) i ⊎ Opens g.config.gateway (records g.config.gateway (image g.drive.slots) ++ delta ∷ []) i
-            → StandsFor g.config.gateway (with_refused (has_more g.config.gateway (struck fate.failure delta g).drive i) g.taken delta) [] i
+            → StandsFor g.config.gateway (with_refused (more_records g.config.gateway (struck fate.failure delta g).drive i) g.taken (delta ∷ [])) [] i
         torn_image i (inl opens) =
             let count : length (records g.config.gateway i) ≡ length (records g.config.gateway (left_by 0 (struck fate.failure delta g).drive)) = ap length (opens.0 ∙ sym left_before) in
-            let less : has_more g.config.gateway (struck fate.failure delta g).drive i ≡ false = less_none _ _ count in
-            subst (λ (b : Bool). StandsFor g.config.gateway (with_refused b g.taken delta) [] i) (sym less) (opened g.config.gateway g.taken [] (records g.config.gateway (image g.drive.slots)) i opens may.now)
+            let none : more_records g.config.gateway (struck fate.failure delta g).drive i ≡ zero = none_above _ _ count in
+            subst (λ (n : ℕ). StandsFor g.config.gateway (with_refused n g.taken (delta ∷ [])) [] i) (sym none) (opened g.config.gateway g.taken [] (records g.config.gateway (image g.drive.slots)) i opens may.now)
         torn_image i (inr opens) =
             let count : length (records g.config.gateway i) ≡ length (records g.config.gateway (left_by 0 (struck fate.failure delta g).drive)) + 1 =
             ap length opens.0 ∙ length-append (records g.config.gateway (image g.drive.slots)) (delta ∷ []) ∙ ap (λ (ds : List (List Op)). length ds + 1) (sym left_before) in
-            let less : has_more g.config.gateway (struck fate.failure delta g).drive i ≡ true = less_one _ _ count in
-            subst (λ (b : Bool). StandsFor g.config.gateway (with_refused b g.taken delta) [] i) (sym less)
+            let one : more_records g.config.gateway (struck fate.failure delta g).drive i ≡ suc zero = one_above _ _ count in
+            subst (λ (n : ℕ). StandsFor g.config.gateway (with_refused n g.taken (delta ∷ [])) [] i) (sym one)
             (opened g.config.gateway (g.taken ++ delta) [] (records g.config.gateway (image g.drive.slots) ++ delta ∷ []) i opens (taken_then g.taken old.kept delta (records g.config.gateway (image g.drive.slots)) may))
 
       either_begun : (deltas more : List (List Op)) (i : Image) → Opens g.config.gateway deltas i ⊎ Opens g.config.gateway more i → is_fresh i ≡ false

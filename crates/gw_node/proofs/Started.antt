@@ -172,7 +172,7 @@ module _ {D : Type 0} {G : Ghosts D} where
   pub opened_again : {R Z E : Type 0} {P : Promises R Z} (kept : R → List Op) (r : Result (Node R D Z P G) E) (journal : Journal D G) (gateway : ℕ) (old : Slots) (deltas : List (List Op))
       → gateway_of journal ≡ gateway → deltas ≡ records gateway (image old) → Leaves gateway (G.slots (disk_of journal)) deltas
       → IfOk r (λ node. (state_of kept node).journal ≡ journal) → IfOk r (λ node. Keeps (all_of deltas) (state_of kept node).kept)
-      → IfOk r (λ node. (S refused : List Op) → StandsFor gateway S refused (image old) → HasTaken (S ++ all_of (records gateway (image old))) [] (state_of kept node))
+      → IfOk r (λ node. (S : List Op) (refused : List (List Op)) → StandsFor gateway S refused (image old) → HasTaken (S ++ all_of (records gateway (image old))) [] (state_of kept node))
   opened_again kept (Ok node) journal gateway old deltas same is leaves journal_is keeps = λ S refused h.
       subst (λ (ds : List (List Op)). HasTaken (S ++ all_of ds) [] (state_of kept node)) is
       (read_again (state_of kept node) gateway deltas S refused (ap gateway_of journal_is ∙ same) keeps.counts
@@ -233,7 +233,7 @@ started_fits (Err e) gateway old deltas is h = tt
 
 -- ---- the law of openings
 
-pub wants_memory : (gateway : ℕ) (S refused : List Op) (i : Image) (refusal : Refusal) → StandsFor gateway S refused i → IsOpenFault gateway i refusal → (IsDiskFault refusal → ⊥) → refusal ≡ refusals.Memory
+pub wants_memory : (gateway : ℕ) (S : List Op) (refused : List (List Op)) (i : Image) (refusal : Refusal) → StandsFor gateway S refused i → IsOpenFault gateway i refusal → (IsDiskFault refusal → ⊥) → refusal ≡ refusals.Memory
 wants_memory gateway S refused i refusals.Memory h why disk = refl
 wants_memory gateway S refused i (refusals.Journal fault) h why disk = absurd (none-some fault (sym h.sound ∙ why))
 wants_memory gateway S refused i (refusals.Conflict client) h why disk = absurd (no_conflict (records gateway i) h.proper client why)

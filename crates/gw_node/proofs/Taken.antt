@@ -1,5 +1,5 @@
 -- What a node has taken, from call to call.
-use Rattle.std.proofs.Common.{◌≡◌, ◌≢◌, ℕ, Bool, true, false, true≢false, List, [], ◌∷◌, ◌++◌, length, Option, Some, None, unwrap_or, Result, Ok, Err, refl, sym, ap, ◌∙◌, subst, inl, inr, ◌⊎◌, arith}
+use Rattle.std.proofs.Common.{◌≡◌, ◌≢◌, ℕ, zero, suc, Bool, true, false, true≢false, List, [], ◌∷◌, ◌++◌, length, Option, Some, None, unwrap_or, Result, Ok, Err, refl, sym, ap, ◌∙◌, subst, inl, inr, ◌⊎◌, arith}
 use Rattle.std.proofs.lemmas.List.{append-nil, take_all}
 use Rattle.rep_op.specs.declared.op.Op.{Op}
 use Rattle.rep_ops.specs.Deltas.{IsDelta}
@@ -35,6 +35,7 @@ use Rattle.gw_node.specs.Opening.{IsReopened, IsNotReopened, ReopenCall}
 use Rattle.gw_node.specs.Carrying.{TakesMore, TakesNoMore, TakesNothing, TakesAgain, CarriesOn, OwnCarriesOn, ReopenCarriesOn, StepCarriesOn}
 use Rattle.gw_node.specs.Calls.{OwnCall, TakeCall, ViewCall, DigestCall, AnswerCall, CompactCall, StepCall, IsNoted}
 use Rattle.gw_node.proofs.Between.{between_more, between_refused, between_left_over, between_again, counts_back, counts_again, within-trans, within-nothing, within-nothing_more, within-same, within-keep}
+use Rattle.gw_node.proofs.Refused.{none_refused}
 use Rattle.gw_node.proofs.Proper.{delta_consistent, proper_more}
 use Rattle.gw_node.proofs.Roomy.{kept_room, roomy_more}
 
@@ -49,31 +50,30 @@ all_left d =
     let second = left_all d.second in
     λ i. record { first = first i; second = second i }
 
-pub stands_at : (gateway : ℕ) (S refused : List Op) (d : Slots) → EachCrash (λ i. StandsFor gateway S refused i) d → StandsFor gateway S refused (image d)
+pub stands_at : (gateway : ℕ) (S : List Op) (refused : List (List Op)) (d : Slots) → EachCrash (λ i. StandsFor gateway S refused i) d → StandsFor gateway S refused (image d)
 stands_at gateway S refused d h =
     subst (λ (i : Image). StandsFor gateway S refused i) (all_left d) (h (length d.first.unsynced) (length d.second.unsynced))
 
 -- ---- one image
 
 -- what the records of a journal stand for
-pub record StandFor (S refused : List Op) (deltas : List (List Op)) : Type 0 where
+pub record StandFor (S : List Op) (refused : List (List Op)) (deltas : List (List Op)) : Type 0 where
   pub between : IsBetween S refused (all_of deltas)
   pub whole : IsWhole S refused (all_of deltas)
   pub roomy : IsRoomy deltas
   pub proper : IsConsistent (all_of deltas)
 
-pub records_stand : (gateway : ℕ) (S refused : List Op) (i : Image) → StandsFor gateway S refused i → StandFor S refused (records gateway i)
+pub records_stand : (gateway : ℕ) (S : List Op) (refused : List (List Op)) (i : Image) → StandsFor gateway S refused i → StandFor S refused (records gateway i)
 records_stand gateway S refused i h = record { between = h.between; whole = h.whole; roomy = h.roomy; proper = h.proper }
 
-pub opened : (gateway : ℕ) (S refused : List Op) (deltas : List (List Op)) (i : Image) → Opens gateway deltas i → StandFor S refused deltas → StandsFor gateway S refused i
+pub opened : (gateway : ℕ) (S : List Op) (refused : List (List Op)) (deltas : List (List Op)) (i : Image) → Opens gateway deltas i → StandFor S refused deltas → StandsFor gateway S refused i
 opened gateway S refused deltas i opens h =
     let there : StandFor S refused (records gateway i) = subst (λ (ds : List (List Op)). StandFor S refused ds) (sym opens.0) h in
     record { sound = opens.1; between = there.between; whole = there.whole; roomy = there.roomy; proper = there.proper }
 
 -- where nothing was refused it counts as the set
 pub as_taken : (S J : List Op) → IsWhole S [] J → CountsAs S J
-as_taken S J (inl h) = h
-as_taken S J (inr h) = subst (λ (T : List Op). CountsAs T J) (append-nil S) h
+as_taken S J h = subst (λ (T : List Op). CountsAs T J) (none_refused h.0 S) h.1
 
 -- ---- an image in which an opening begins no journal
 
@@ -122,19 +122,19 @@ module _ (S kept D : List Op) (deltas : List (List Op)) (h : MayFollow S kept D 
   proper_then = proper_more S D deltas h.agrees (delta_consistent D h.delta) (within-nothing (all_of deltas) S h.now.between.upper) h.now.proper
 
   pub taken_then : StandFor (S ++ D) [] (deltas ++ D ∷ [])
-  taken_then = record { between = between_more S D deltas h.agrees h.now.between; whole = inl (one_more S D deltas counted); roomy = room_then; proper = proper_then }
+  taken_then = record { between = between_more S D deltas h.agrees h.now.between; whole = (zero, one_more S D deltas counted); roomy = room_then; proper = proper_then }
 
-  left_over : StandFor S D (deltas ++ D ∷ [])
-  left_over = record { between = between_left_over S D deltas h.agrees h.now.between; whole = inr (one_more S D deltas counted); roomy = room_then; proper = proper_then }
+  left_over : StandFor S (D ∷ []) (deltas ++ D ∷ [])
+  left_over = record { between = between_left_over S D deltas h.agrees h.now.between; whole = (suc zero, one_more S D deltas counted); roomy = room_then; proper = proper_then }
 
-  left_out : StandFor S D deltas
-  left_out = record { between = between_refused S D deltas h.now.between; whole = inl counted; roomy = h.now.roomy; proper = h.now.proper }
+  left_out : StandFor S (D ∷ []) deltas
+  left_out = record { between = between_refused S D deltas h.now.between; whole = (zero, counted); roomy = h.now.roomy; proper = h.now.proper }
 
-  torn : (gateway : ℕ) (i : Image) → Opens gateway deltas i ⊎ Opens gateway (deltas ++ D ∷ []) i → StandsFor gateway S D i
-  torn gateway i (inl opens) = opened gateway S D deltas i opens left_out
-  torn gateway i (inr opens) = opened gateway S D (deltas ++ D ∷ []) i opens left_over
+  torn : (gateway : ℕ) (i : Image) → Opens gateway deltas i ⊎ Opens gateway (deltas ++ D ∷ []) i → StandsFor gateway S (D ∷ []) i
+  torn gateway i (inl opens) = opened gateway S (D ∷ []) deltas i opens left_out
+  torn gateway i (inr opens) = opened gateway S (D ∷ []) (deltas ++ D ∷ []) i opens left_over
 
-at_gateway : (a b : ℕ) (S refused : List Op) (d : Slots) → b ≡ a → EachCrash (λ i. StandsFor a S refused i) d → EachCrash (λ i. StandsFor b S refused i) d
+at_gateway : (a b : ℕ) (S : List Op) (refused : List (List Op)) (d : Slots) → b ≡ a → EachCrash (λ i. StandsFor a S refused i) d → EachCrash (λ i. StandsFor b S refused i) d
 at_gateway a b S refused d same h = subst (λ (g : ℕ). EachCrash (λ i. StandsFor g S refused i) d) (sym same) h
 
 -- ---- a base in the place of records
@@ -147,31 +147,31 @@ base_now S kept base deltas (W, is, split) counts h =
         lower = within-same (keep S) (all_of base) (same_sym same);
         upper = within-nothing_more (all_of base) S (within-trans (all_of base) (keep S) S (within-same (all_of base) (keep S) same) (within-keep S));
       };
-      whole = inl (same_trans (base_counts kept base (W, is, split)) counts);
+      whole = (zero, same_trans (base_counts kept base (W, is, split)) counts);
       roomy = base_is_roomy kept base (W, is, split) (kept_room S kept deltas counts (as_taken S (all_of deltas) h.whole) h.roomy);
       proper = subst IsConsistent (sym split.whole) (delta_consistent W is.delta);
     }
 
-base_stands : (S refused kept : List Op) (base deltas : List (List Op)) → refused ≡ [] → IsHeld kept base → CountsAs S kept → StandFor S refused deltas → StandFor S refused base
+base_stands : (S : List Op) (refused : List (List Op)) (kept : List Op) (base deltas : List (List Op)) → refused ≡ [] → IsHeld kept base → CountsAs S kept → StandFor S refused deltas → StandFor S refused base
 base_stands S refused kept base deltas none held counts h =
-    subst (λ (R : List Op). StandFor S R base) (sym none) (base_now S kept base deltas held counts (subst (λ (R : List Op). StandFor S R deltas) none h))
+    subst (λ (R : List (List Op)). StandFor S R base) (sym none) (base_now S kept base deltas held counts (subst (λ (R : List (List Op)). StandFor S R deltas) none h))
 
-either_stands : (gateway : ℕ) (S refused : List Op) (deltas base : List (List Op)) (i : Image) → StandFor S refused deltas → StandFor S refused base → Opens gateway deltas i ⊎ Opens gateway base i → StandsFor gateway S refused i
+either_stands : (gateway : ℕ) (S : List Op) (refused : List (List Op)) (deltas base : List (List Op)) (i : Image) → StandFor S refused deltas → StandFor S refused base → Opens gateway deltas i ⊎ Opens gateway base i → StandsFor gateway S refused i
 either_stands gateway S refused deltas base i h b (inl opens) = opened gateway S refused deltas i opens h
 either_stands gateway S refused deltas base i h b (inr opens) = opened gateway S refused base i opens b
 
 -- ---- records that are read once more
 
-stand_again : (S refused : List Op) (deltas : List (List Op)) → StandFor S refused deltas → StandFor (S ++ all_of deltas) [] deltas
+stand_again : (S : List Op) (refused : List (List Op)) (deltas : List (List Op)) → StandFor S refused deltas → StandFor (S ++ all_of deltas) [] deltas
 stand_again S refused deltas h = record {
   between = between_again S refused (all_of deltas) h.between;
-  whole = inl (counts_back S refused (all_of deltas) h.between);
+  whole = (zero, counts_back S refused (all_of deltas) h.between);
   roomy = h.roomy;
   proper = h.proper;
 }
 
 -- where a crash leaves no more than before, it stands for as much
-stands_still : (gateway : ℕ) (S refused : List Op) (old new : Slots) → LeavesNoMore gateway old new → EachCrash IsBegun old → EachCrash (λ i. StandsFor gateway S refused i) old
+stands_still : (gateway : ℕ) (S : List Op) (refused : List (List Op)) (old new : Slots) → LeavesNoMore gateway old new → EachCrash IsBegun old → EachCrash (λ i. StandsFor gateway S refused i) old
     → EachCrash (λ i. StandsFor gateway S refused i) new
 stands_still gateway S refused old new leaves begun h = λ k l.
     let a = leaves k l in
@@ -194,7 +194,7 @@ module _ {D : Type 0} {G : Ghosts D} where
   -- ---- what was read
 
   -- beside what had been taken before
-  pub read_again : (state : State G) (gateway : ℕ) (deltas : List (List Op)) (S refused : List Op) → gateway_of state.journal ≡ gateway → CountsAs (all_of deltas) state.kept
+  pub read_again : (state : State G) (gateway : ℕ) (deltas : List (List Op)) (S : List Op) (refused : List (List Op)) → gateway_of state.journal ≡ gateway → CountsAs (all_of deltas) state.kept
       → (G.honest → Leaves gateway (G.slots (disk_of state.journal)) deltas) → StandFor S refused deltas → HasTaken (S ++ all_of deltas) [] state
   read_again state gateway deltas S refused same counts leaves h = record {
     counts = counts_again S refused (all_of deltas) state.kept h.between counts;
@@ -219,7 +219,7 @@ module _ {D : Type 0} {G : Ghosts D} where
 
   -- ---- one call
 
-  before : (old : State G) (S refused : List Op) → HasTaken S refused old → G.honest → StandFor S refused (on_disk old)
+  before : (old : State G) (S : List Op) (refused : List (List Op)) → HasTaken S refused old → G.honest → StandFor S refused (on_disk old)
   before old S refused h honest =
       records_stand (gateway_of old.journal) S refused (image (G.slots (disk_of old.journal)))
       (stands_at (gateway_of old.journal) S refused (G.slots (disk_of old.journal)) (h.images honest))
@@ -243,7 +243,7 @@ module _ {D : Type 0} {G : Ghosts D} where
     counts = subst (λ (K : List Op). CountsAs S K) (sym kept) h.counts;
     quiet = λ runs. absurd (let halts = w.halts in cc);
     images = λ honest.
-        at_gateway (gateway_of old.journal) (gateway_of new.journal) S delta (G.slots (disk_of new.journal)) w.gateway
+        at_gateway (gateway_of old.journal) (gateway_of new.journal) S (delta ∷ []) (G.slots (disk_of new.journal)) w.gateway
         (λ k l. torn S old.kept delta (on_disk old) (follow old S delta all is fits h honest) (gateway_of old.journal) (after_crash k l (G.slots (disk_of new.journal))) (w.torn honest k l));
     begun = λ honest. begun_one_more (gateway_of old.journal) (G.slots (disk_of new.journal)) (on_disk old) delta (w.torn honest);
   }
@@ -251,7 +251,7 @@ module _ {D : Type 0} {G : Ghosts D} where
   untouched_begun : (old new : Journal D G) → IsUntouched old new → (G.honest → EachCrash IsBegun (G.slots (disk_of old))) → G.honest → EachCrash IsBegun (G.slots (disk_of new))
   untouched_begun old new u begun honest = subst (λ (d : D). EachCrash IsBegun (G.slots d)) (sym u.disk) (begun honest)
 
-  untouched_images : (old new : Journal D G) (S refused : List Op) → IsUntouched old new → (G.honest → EachCrash (λ i. StandsFor (gateway_of old) S refused i) (G.slots (disk_of old)))
+  untouched_images : (old new : Journal D G) (S : List Op) (refused : List (List Op)) → IsUntouched old new → (G.honest → EachCrash (λ i. StandsFor (gateway_of old) S refused i) (G.slots (disk_of old)))
       → G.honest → EachCrash (λ i. StandsFor (gateway_of new) S refused i) (G.slots (disk_of new))
   untouched_images old new S refused u images honest =
       at_gateway (gateway_of old) (gateway_of new) S refused (G.slots (disk_of new)) u.gateway

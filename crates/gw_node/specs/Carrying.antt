@@ -1,5 +1,5 @@
 -- Whatever set a node has taken before a call, which it has taken after it.
-use Rattle.std.specs.Prelude.{ℕ, List, [], ◌++◌, Some, unwrap_or, Result, Ok, Err}
+use Rattle.std.specs.Prelude.{ℕ, List, [], ◌∷◌, ◌++◌, Some, unwrap_or, Result, Ok, Err}
 use Rattle.rep_op.specs.declared.op.Op.{Op}
 use Rattle.rep_ops.specs.Making.{IsDeltaOf}
 use Rattle.rep_ops.specs.Splitting.{all_of}
@@ -24,15 +24,16 @@ TakesMore old delta new =
 -- the set that was taken before; the delta was refused, and a crash may leave it all the same
 abbrev pub TakesNoMore : {D : Type 0} {G : Ghosts D} → State G → List Op → State G → Type 0
 TakesNoMore old delta new =
-    (S : List Op) → AllAgree S delta → HasTaken S [] old → HasTaken S delta new
+    (S : List Op) → AllAgree S delta → HasTaken S [] old → HasTaken S (delta ∷ []) new
 
 -- the set that was taken before
 abbrev pub TakesNothing : {D : Type 0} {G : Ghosts D} → State G → State G → Type 0
-TakesNothing old new = (S refused : List Op) → HasTaken S refused old → HasTaken S refused new
+TakesNothing old new =
+    (S : List Op) (refused : List (List Op)) → HasTaken S refused old → HasTaken S refused new
 
 -- the set that was taken before, with what was read; if nothing was refused, that is the set itself
 pub record TakesAgain {D : Type 0} {G : Ghosts D} (old new : State G) : Type 0 where
-  pub with_read : G.honest → (S refused : List Op) → HasTaken S refused old
+  pub with_read : G.honest → (S : List Op) (refused : List (List Op)) → HasTaken S refused old
       → HasTaken (S ++ all_of (on_disk old)) [] new
   pub itself : G.honest → (S : List Op) → HasTaken S [] old → HasTaken S [] new
 

@@ -1,5 +1,5 @@
 -- Nodes, and the gateways that they stand for.
-use Rattle.std.specs.Prelude.{◌≡◌, ℕ, false, IsTrue, List, [], Option, Some, Result, Ok, Err}
+use Rattle.std.specs.Prelude.{◌≡◌, ℕ, false, IsTrue, List, [], ◌∷◌, Option, Some, None, Result, Ok, Err}
 use Rattle.rep_op.specs.declared.op.Op.{Op}
 use Rattle.rep_ops.specs.Making.{IsDeltaOf}
 use Rattle.rep_model.specs.Taking.{AllAgree}
@@ -14,9 +14,10 @@ use Rattle.gw_answer.specs.declared.out.Out.{Out}
 use Rattle.gw_answer.specs.declared.refusal.Refusal.{Refusal}
 use Rattle.gw_answer.specs.declared.step.Step.{Step}
 use Rattle.gw_answer.specs.declared.step.Step.TheVariants as steps
-use Rattle.gw_event.specs.Drives.{has_more}
+use Rattle.gw_event.specs.Drives.{more_records}
 use Rattle.gw_event.specs.Gateways.{Gateway, with_refused}
 use Rattle.gw_event.specs.Event.{Event, IsPlan}
+use Rattle.gw_event.specs.Together.{Together}
 use Rattle.gw_node.specs.Failures.{failed}
 use Rattle.gw_node.specs.Keeping.{Keeps}
 use Rattle.gw_event.specs.Occasions.{Occasion, Datagram, Clock}
@@ -31,14 +32,14 @@ pub record IsSynced (slots : Slots) : Type 0 where
   pub second : slots.second.unsynced ≡ []
 
 -- As long as the gateway goes on, all of its disk is synced, and nothing was refused. Every crash
--- leaves a journal that stands for the set. If it has one record more than are synced, it stands
--- for the set with the whole of what was refused. No opening of it begins a new journal.
+-- leaves a journal that stands for the set; with more records than are synced, for the set with so
+-- many first ones of what was refused. No opening of it begins a new journal.
 pub record Lasts (gateway : Gateway) : Type 0 where
   pub synced : gateway.drive.halted ≡ false → IsSynced gateway.drive.slots
   pub none : gateway.drive.halted ≡ false → gateway.refused ≡ []
   pub images : EachCrash (λ i. StandsFor gateway.config.gateway
-      (with_refused (has_more gateway.config.gateway gateway.drive i) gateway.taken gateway.refused)
-      [] i) gateway.drive.slots
+      (with_refused (more_records gateway.config.gateway gateway.drive i) gateway.taken
+      gateway.refused) [] i) gateway.drive.slots
   pub begun : EachCrash (λ i. is_fresh i ≡ false) gateway.drive.slots
 
 -- ---- a node
@@ -133,3 +134,33 @@ EventOn old step answer new =
     (gateway : Gateway) → Stands gateway old → CanBeSaid gateway old step answer new
     → LeadsTo (λ before next made. Event before step answer next made) (Agrees gateway step)
     gateway old new
+
+-- ---- several calls with one write
+
+-- what each of several calls takes contradicts nothing that the gateway has taken by then, wherever
+-- the calls before it lead
+abbrev pub AgreeInTurn : Gateway → List Step → Type 0
+AgreeInTurn gateway [] = Unit {0}
+AgreeInTurn gateway (step ∷ rest) =
+    Agrees gateway step
+    × ((answer : Result Out Refusal) (next : Gateway) (made : List (List Op))
+    → Event gateway step answer next made → AgreeInTurn next rest)
+
+-- what must be known of the disk so that the calls can be said to be events of the gateway: nothing,
+-- unless there is one call alone
+abbrev pub CanAllBeSaid : {D : Type 0} {G : Ghosts D} → Gateway → State G → List Step
+    → List (Result Out Refusal) → State G → Type 0
+CanAllBeSaid gateway old [] answers new = Unit {0}
+CanAllBeSaid gateway old (step ∷ next ∷ rest) answers new = Unit {0}
+CanAllBeSaid gateway old (step ∷ []) [] new = Unit {0}
+CanAllBeSaid gateway old (step ∷ []) (answer ∷ answers) new = CanBeSaid gateway old step answer new
+
+-- Whatever gateway the node stood for, the calls are its events with one write, and the node stands
+-- for the next one. What was taken lasts if it did before, and if what the calls take, written one
+-- by one, contradicts nothing.
+abbrev pub EventsOn : {D : Type 0} {G : Ghosts D} → State G → List Step
+    → List (Result Out Refusal) → State G → Type 0
+EventsOn old calls answers new =
+    (gateway : Gateway) → Stands gateway old → CanAllBeSaid gateway old calls answers new
+    → LeadsTo (λ before next made. Together before calls answers next made)
+    (AgreeInTurn (fated None gateway) calls) gateway old new

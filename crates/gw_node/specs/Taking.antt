@@ -1,5 +1,5 @@
 -- What a node has taken, and what a crash would leave of it.
-use Rattle.std.specs.Prelude.{◌≡◌, ◌⊎◌, ℕ, false, List, [], ◌++◌, None}
+use Rattle.std.specs.Prelude.{◌≡◌, ℕ, false, List, [], ◌++◌, None}
 use Rattle.rep_op.specs.declared.op.Op.{Op}
 use Rattle.rep_op.specs.Sets.{Within, IsConsistent}
 use Rattle.rep_ops.specs.Splitting.{all_of}
@@ -10,25 +10,26 @@ use Rattle.jr_disk.specs.Disk.{Image, image, EachCrash}
 use Rattle.jr_journal.specs.Records.{records}
 use Rattle.jr_journal.specs.Faults.{is_fresh, fault_of}
 use Rattle.jr_journal.specs.Parts.{disk_of, gateway_of}
+use Rattle.gw_event.specs.Gateways.{with_refused}
 use Rattle.gw_node.specs.Parts.{State, is_halted}
 
 -- the records that an opening of the node's disk would read
 abbrev pub on_disk : {D : Type 0} {G : Ghosts D} → State G → List (List Op)
 on_disk {G = G} state = records (gateway_of state.journal) (image (G.slots (disk_of state.journal)))
 
--- J contains what must be kept of S, and lies within S and the refused delta
-pub record IsBetween (S refused J : List Op) : Type 0 where
+-- J contains what must be kept of S, and lies within S and the deltas that were refused
+pub record IsBetween (S : List Op) (refused : List (List Op)) (J : List Op) : Type 0 where
   pub lower : Within (keep S) J
-  pub upper : Within J (S ++ refused)
+  pub upper : Within J (S ++ all_of refused)
 
--- J counts as S, or as S with the whole of the refused delta
-abbrev pub IsWhole : List Op → List Op → List Op → Type 0
-IsWhole S refused J = CountsAs S J ⊎ CountsAs (S ++ refused) J
+-- J counts as S with some first ones of the deltas that were refused, each whole
+abbrev pub IsWhole : List Op → List (List Op) → List Op → Type 0
+IsWhole S refused J = (n : ℕ) × CountsAs (with_refused n S refused) J
 
--- An opening finds no fault in the image. Its records stand for S, or for S with the whole refused
--- delta. They contradict nothing. No front part of them passes a limit: they can be taken again,
--- one after the other.
-pub record StandsFor (gateway : ℕ) (S refused : List Op) (i : Image) : Type 0 where
+-- An opening finds no fault in the image. Its records stand for S with some first ones of what was
+-- refused. They contradict nothing. No front part of them passes a limit: they can be taken again.
+pub record StandsFor (gateway : ℕ) (S : List Op) (refused : List (List Op)) (i : Image)
+    : Type 0 where
   pub sound : fault_of gateway i ≡ None
   pub between : IsBetween S refused (all_of (records gateway i))
   pub whole : IsWhole S refused (all_of (records gateway i))
@@ -36,9 +37,9 @@ pub record StandsFor (gateway : ℕ) (S refused : List Op) (i : Image) : Type 0 
   pub proper : IsConsistent (all_of (records gateway i))
 
 -- The node has taken the set S. Its replica counts as S. Whatever a crash leaves of an honest disk
--- stands for S, or for S with the whole refused delta. There is no refused delta as long as the
--- node goes on. No opening of it begins a new journal.
-pub record HasTaken {D : Type 0} {G : Ghosts D} (S refused : List Op)
+-- stands for S with some first ones of the deltas that were refused, each whole. There is no
+-- refused delta as long as the node goes on. No opening of it begins a new journal.
+pub record HasTaken {D : Type 0} {G : Ghosts D} (S : List Op) (refused : List (List Op))
     (state : State G) : Type 0 where
   pub counts : CountsAs S state.kept
   pub quiet : is_halted state ≡ false → refused ≡ []

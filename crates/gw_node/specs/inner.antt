@@ -1,6 +1,7 @@
 -- What proofs stand on and no public clause cites.
+pub mod Ahead
 pub mod Handling
 pub mod Opening
 pub mod Resting
-pub mod Tidy
+pub mod Rows
 pub mod Writing

@@ -14,12 +14,13 @@ ghost use Rattle.gw_answer.specs.Answers.{only_sends};
 ghost use Rattle.gw_node.specs.Plans.{IsMisfit};
 ghost use Rattle.gw_node.specs.inner.Writing.{WrittenAs, WrittenIfMade, WrittenIfAny, refusal_of};
 ghost use Rattle.gw_node.specs.Calls.{TakeCall, IsDone};
+ghost use Rattle.gw_node.specs.inner.Ahead.{GoesBackAs};
 ghost use Rattle.gw_node.specs.inner.Handling.{HaveNoDelta, CarriedOut};
 ghost use Rattle.gw_event.specs.Event.{IsWritable};
 
 use super::node::Node;
-use super::tidy::{keep_owned, note_changes, note_taken};
 use gw_answer::{Out, Refusal, Shares, Subjects};
+use gw_own::{keep_owned, note_changes, note_taken};
 use jr_journal::{Disk, Journal, JournalFault};
 use octets::{NoMemory, Sequence};
 use rep_model::{Replica, TakeFault};
@@ -56,6 +57,7 @@ pub(crate) fn prepare<R: Replica>(
     ensures taken { IfOk result (λ staged. IsKeptOf (R.kept replica.old ++ delta.now)
         (R.after replica.new staged)) }
     ensures misfit { IfErr result (λ refusal. IsMisfit (R.kept replica.old) delta.now refusal) }
+    ensures aside { GoesBackAs R.can_go_back R.back replica.old replica.new }
 {
     let _ops = delta.ops();
     match replica.prepare(alloc, delta) {
@@ -109,7 +111,7 @@ fn write_if_any<D: Disk + Drop>(
 }
 
 /// The operations of a delta, if there is one.
-fn ops_of(made: &Option<Delta>) -> &[Op]
+pub(crate) fn ops_of(made: &Option<Delta>) -> &[Op]
     ensures { result.now ≡ unwrap_or made.now [] }
 {
     match made {
@@ -141,6 +143,7 @@ pub(crate) fn note<R: Replica, D: Disk + Drop>(
         (state_of R.kept node.new)) }
     ensures err { OnErr result (IsUnchanged (state_of R.kept node.old) (state_of R.kept
         node.new)) }
+    ensures replica { node.new.replica ≡ node.old.replica }
 {
     let Plan {
         ops: _,
@@ -171,7 +174,7 @@ pub(crate) fn note<R: Replica, D: Disk + Drop>(
 
 /// Makes ready to take the delta of these operations and to note these changes. Nothing of it is
 /// done yet.
-fn make_ready<R: Replica>(
+pub(crate) fn make_ready<R: Replica>(
     alloc: Global,
     replica: &mut R,
     dialogs: &mut Dialogs,
@@ -192,6 +195,7 @@ fn make_ready<R: Replica>(
     ensures err { IfErr result (λ refusal. HaveNoDelta ops.items refusal
         ⊎ ((delta : List Op) × IsDeltaOf ops.items delta
         × IsMisfit (R.kept replica.old) delta refusal)) }
+    ensures aside { GoesBackAs R.can_go_back R.back replica.old replica.new }
 {
     let Ok(()) = dialogs.prepare(local) else {
         drop(ops);

@@ -15,9 +15,9 @@ ghost use Rattle.gw_event.specs.Event.{shows};
 
 use super::anew::{handle_compact, handle_reopen};
 use super::carrying::{carry_out, note, take_in};
-use super::excuse::excuses;
 use super::node::Node;
 use gw_answer::{Out, Refusal, Shares, Step};
+use gw_own::excuses;
 use jr_journal::Disk;
 use octets::{NoMemory, Sequence};
 use rep_answer::answer;
@@ -32,7 +32,7 @@ use sn_tick::{is_idle, tick as plan_tick};
 use std::alloc::Global;
 
 /// The frame that a datagram spells.
-fn read(alloc: Global, bytes: &[u8]) -> Result<Frame, Refusal>
+pub(crate) fn read(alloc: Global, bytes: &[u8]) -> Result<Frame, Refusal>
     ensures ok { IfOk result (λ frame. IsMessage frame × IsValue frame × Spells bytes.now frame) }
     ensures err { IfErr result (IsNoFrameBy bytes.now) }
 {
@@ -44,7 +44,7 @@ fn read(alloc: Global, bytes: &[u8]) -> Result<Frame, Refusal>
 }
 
 /// The plan for a frame from an address at a moment.
-fn plan_for<R: Replica, D: Disk>(
+pub(crate) fn plan_for<R: Replica, D: Disk>(
     alloc: Global,
     node: &Node<R, D>,
     from: Addr,
@@ -73,7 +73,7 @@ fn plan_for<R: Replica, D: Disk>(
 }
 
 /// The plan of a tick at a moment.
-fn plan_of_tick<R: Replica, D: Disk>(
+pub(crate) fn plan_of_tick<R: Replica, D: Disk>(
     alloc: Global,
     node: &Node<R, D>,
     now: u64,

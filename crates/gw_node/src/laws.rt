@@ -1,16 +1,17 @@
 //! What an opening finds that goes on with what was taken.
 
-ghost use Rattle.std.specs.Prelude.{◌≡◌, ℕ, List, [], None};
+ghost use Rattle.std.specs.Prelude.{◌≡◌, ◌⊎◌, ℕ, List, [], ◌∷◌, ◌++◌, None};
 ghost use Rattle.rep_op.specs.declared.op.Op.{Op};
-ghost use Rattle.rep_op.specs.Sets.{IsConsistent};
+ghost use Rattle.rep_op.specs.Sets.{IsConsistent, Within};
 ghost use Rattle.rep_ops.specs.Splitting.{all_of};
+ghost use Rattle.rep_model.specs.Keep.{CountsAs};
 ghost use Rattle.jr_disk.specs.Disk.{Image};
 ghost use Rattle.jr_journal.specs.Records.{records};
 ghost use Rattle.jr_journal.specs.Faults.{fault_of};
 ghost use Rattle.rep_op.specs.declared.op.Subject.{Subject};
 ghost use Rattle.gw_answer.specs.declared.refusal.Refusal.{Refusal};
 ghost use Rattle.gw_answer.specs.declared.refusal.Refusal.TheVariants as refusals;
-ghost use Rattle.gw_node.specs.Taking.{StandsFor};
+ghost use Rattle.gw_node.specs.Taking.{IsBetween, IsWhole, StandsFor};
 ghost use Rattle.gw_node.specs.Opening.{FitInTurn, HasMisfit, IsOpenFault, IsDiskFault};
 
 /// An image that stands for what a gateway had taken is opened again: each of its records fits to
@@ -19,15 +20,24 @@ ghost use Rattle.gw_node.specs.Opening.{FitInTurn, HasMisfit, IsOpenFault, IsDis
 /// they contradict nothing, stands for these records: what was opened goes on from there. The
 /// function does nothing; its contract is the law.
 pub fn opening_laws()
-    ensures room { (gateway : ℕ) (S refused : List Op) (i : Image) → StandsFor gateway S refused i
-        → HasMisfit (records gateway i) refusals.Full → ⊥ }
-    ensures agreement { (gateway : ℕ) (S refused : List Op) (i : Image) (of : Subject)
-        → StandsFor gateway S refused i → HasMisfit (records gateway i)
+    ensures room { (gateway : ℕ) (S : List Op) (refused : List (List Op)) (i : Image)
+        → StandsFor gateway S refused i → HasMisfit (records gateway i) refusals.Full → ⊥ }
+    ensures agreement { (gateway : ℕ) (S : List Op) (refused : List (List Op)) (i : Image)
+        (of : Subject) → StandsFor gateway S refused i → HasMisfit (records gateway i)
         (refusals.Conflict of) → ⊥ }
-    ensures memory { (gateway : ℕ) (S refused : List Op) (i : Image) (refusal : Refusal)
-        → StandsFor gateway S refused i → IsOpenFault gateway i refusal → (IsDiskFault refusal → ⊥)
-        → refusal ≡ refusals.Memory }
+    ensures memory { (gateway : ℕ) (S : List Op) (refused : List (List Op)) (i : Image)
+        (refusal : Refusal) → StandsFor gateway S refused i → IsOpenFault gateway i refusal
+        → (IsDiskFault refusal → ⊥) → refusal ≡ refusals.Memory }
     ensures begins { (gateway : ℕ) (i : Image) → fault_of gateway i ≡ None
         → FitInTurn [] (records gateway i) → IsConsistent (all_of (records gateway i))
         → StandsFor gateway (all_of (records gateway i)) [] i }
+{}
+
+/// A call by itself is refused one delta. What stands for a set with it counts as the set, or as
+/// the set with the whole of that delta, and lies within both. The function does nothing; its
+/// contract is the law.
+pub fn single_refusal()
+    ensures whole { (S delta J : List Op) → IsWhole S (delta ∷ []) J
+        → CountsAs S J ⊎ CountsAs (S ++ delta) J }
+    ensures within { (S delta J : List Op) → IsBetween S (delta ∷ []) J → Within J (S ++ delta) }
 {}

@@ -12,14 +12,15 @@
 //! - `handling`: what the calls do, up to the answer.
 //! - `carrying`: a plan is carried out, a delta is taken: room, delta, journal, replica, local
 //!   state, in this order.
+//! - `row`: several calls with one write. `looking` finds what has something to write, and `ahead`
+//!   carries a call out, but for the write.
 //! - `anew`: the journal is written anew from what is kept, or read anew.
-//! - `excuse`: what a client is told where its frame came to nothing for want of a disk.
 //! - `retained`: what it retains of topics.
-//! - `tidy`: whether each address and each timer is of a client that the gateway owns.
-//! - `laws`: what an opening finds that goes on with what was taken (`opening_laws`).
+//! - `laws`: what an opening finds that goes on with what was taken (`opening_laws`), and what is
+//!   said of one delta that was refused (`single_refusal`).
 //!
 //! A call as a value (`Step`), and what is answered (`Out`, `NodeFault`), are in the crate
-//! `gw_answer`.
+//! `gw_answer`. Whom a gateway owns, and how it excuses itself, is in `gw_own`.
 //!
 //! What a gateway is to its operator, and what each call does to it, is in the crate `gw_event`
 //! (`Event`); that a node stands for such a gateway, before each call and after it, is in
@@ -33,17 +34,19 @@
 //! on), `Opening`. `Handling` is for private functions.
 #![tactic(auto)]
 
+mod ahead;
 mod anew;
 mod carrying;
-mod excuse;
 mod handling;
 mod laws;
+mod looking;
 mod node;
 mod opening;
 mod retained;
-mod tidy;
+mod row;
 
-pub use gw_answer::{Answer, NodeFault, Out, Step, same_answer, same_step};
-pub use laws::opening_laws;
+pub use gw_answer::{Answer, NodeFault, Out, Refusal, Shares, Step, same_answer, same_step};
+pub use laws::{opening_laws, single_refusal};
 pub use node::Node;
 pub use rep_same::same_deltas;
+pub use row::{MOST_OF_A_ROW, Reply};

@@ -7,11 +7,11 @@
 //!   only by what is long enough ago, so a tick that finds nothing ten seconds ahead answers for
 //!   every moment before (`idle_lasts` of step_laws). Each frame that is carried out and each delta
 //!   clears it. If something is due within those seconds, a tick walks the clients twice.
-//! - `tidy`: the gateway owns the client of each address and of each timer (`tidy.rt`).
+//! - `tidy`: the gateway owns the client of each address and of each timer (`gw_own`).
 
 ghost use Rattle.std.specs.Prelude.{◌≡◌, true};
 ghost use Rattle.gw_node.specs.inner.Resting.{rests};
-ghost use Rattle.gw_node.specs.inner.Tidy.{tidied};
+ghost use Rattle.gw_own.specs.inner.Tidy.{tidied};
 
 use super::anew::{handle_compact, handle_reopen};
 use super::carrying::take_in;
@@ -20,6 +20,7 @@ use super::handling::{
 };
 use super::opening::{not_opened, nothing, start};
 use super::retained::retained_of;
+use super::row::{Reply, USUAL, WHOLE, play};
 use gw_answer::{Answer, NodeFault, Step, one_share, three_shares};
 use gw_glance::{glance, messages_known};
 use gw_report::Glimpse;
@@ -31,6 +32,7 @@ use rep_ops::{ClientId, Delta, Retained};
 use sn_local::{Addr, Config, Dialogs};
 use sn_topic::TopicName;
 use std::alloc::Global;
+use std::sync::Arc;
 
 /// A gateway: what it was told, what it keeps of what it has taken, which address is which client,
 /// and its journal.
@@ -50,7 +52,8 @@ pub struct Node<R: Replica, D: Disk> {
 }
 
 impl<R: Replica, D: Disk + Drop> Node<R, D> {
-    ghost use Rattle.std.specs.Prelude.{◌≡◌, ◌≤◌, ◌<◌, ◌++◌, List, [], None, true, false, length, IfOk, IfErr, OnOk, IsTrue, MatchResult, take};
+    ghost use Rattle.std.specs.Prelude.{◌≡◌, ◌≤◌, ◌<◌, ◌+◌, ◌++◌, List, [], None, true, false, length, map, vec_capacity, IfOk, IfErr, OnOk, IsTrue, MatchResult, take};
+    ghost use Rattle.std.specs.Arc.{arc_value};
     ghost use Rattle.rep_op.specs.declared.op.Op.{Op};
     ghost use Rattle.rep_ops.specs.Splitting.{all_of};
     ghost use Rattle.rep_model.specs.Keep.{CountsAs};
@@ -72,7 +75,8 @@ impl<R: Replica, D: Disk + Drop> Node<R, D> {
     ghost use Rattle.gw_node.specs.Taking.{StandsFor, HasTaken};
     ghost use Rattle.gw_node.specs.Opening.{IsStarted, FitInTurn, MayRefuse, IsDiskFault, IsOpenFault, LeavesSlots, GoesOnIn, ReopenCall};
     ghost use Rattle.gw_node.specs.Carrying.{CarriesOn, OwnCarriesOn, TakesNothing, ReopenCarriesOn, StepCarriesOn};
-    ghost use Rattle.gw_node.specs.Standing.{EventOn};
+    ghost use Rattle.gw_node.specs.Standing.{EventOn, EventsOn};
+    ghost use Rattle.gw_node.specs.Failures.{failed_all};
     ghost use Rattle.gw_node.specs.Glancing.{glimpses_of};
     ghost use Rattle.gw_glance.specs.Knowing as known;
 
@@ -111,7 +115,7 @@ impl<R: Replica, D: Disk + Drop> Node<R, D> {
         ensures fits { D.honest → OnOk result
             (FitInTurn [] (records config.gateway (image (D.slots disk)))) }
         // beside whatever set it had taken before it stopped.
-        ensures restarts { D.honest → IfOk result (λ node. (S refused : List Op)
+        ensures restarts { D.honest → IfOk result (λ node. (S : List Op) (refused : List (List Op))
             → StandsFor config.gateway S refused (image (D.slots disk)) →
             HasTaken (S ++ all_of (records config.gateway (image (D.slots disk)))) []
             (state_of R.kept node)) }
@@ -306,6 +310,50 @@ impl<R: Replica, D: Disk + Drop> Node<R, D> {
         ensures third { said result.2 ≡ said result.0 }
     {
         three_shares(handle_step(alloc, self, step))
+    }
+
+    /// Calls one after the other, of which what they make and take is written at once, with one
+    /// sync. The first ones are done, and the first at least: as many as there are answers. The
+    /// others are for another row.
+    ///
+    /// Each call is answered as if it came alone, on what those before it led to; and its answer is
+    /// given in shares, which are taken before the journal is written. Where the disk fails, `Disk`
+    /// is told to the first call that had something to write, with its excuse, and `Halted` to those
+    /// behind it; what the node keeps and knows is as before that first one. Of the deltas that were
+    /// to be written a crash may leave some first ones, each whole.
+    ///
+    /// A call is done alone if it is no datagram, delta or tick, if the node is halted, if it has
+    /// nothing to write or more than 64 operations, and where memory runs out for a row. A row ends
+    /// before such a call, and once its records have more than 1,048,576 octets; but a datagram, a
+    /// delta or a tick that has nothing to write may stand behind the first call.
+    pub fn step_all(&mut self, alloc: Global, steps: &[Arc<Step>], room: Vec<Reply>) -> Vec<Reply>
+        requires some { 0 < length steps.now }
+        requires room { (room.items ≡ []) × (length steps.now ≤ vec_capacity room) }
+        ensures some { (0 < length result.items) × (length result.items ≤ length steps.now) }
+        ensures events { EventsOn (state_of R.kept self.old)
+            (take (length result.items) (map arc_value steps.now)) result.items
+            (state_of R.kept self.new) }
+        ensures failures { D.failures (disk_of self.old) + failed_all result.items
+            ≤ D.failures (disk_of self.new) }
+    {
+        play(alloc, self, USUAL, &steps[0], &steps[1..], room)
+    }
+
+    /// Calls one after the other, of which what they make and take is written at once, as `step_all`
+    /// carries them out, but without its bounds. No call is done alone and no row ends because there
+    /// are too many operations, or octets of records. So where the disk fails, and memory did not
+    /// run out, all calls behind the first that had something to write were in the write.
+    pub fn step_whole(&mut self, alloc: Global, steps: &[Arc<Step>], room: Vec<Reply>) -> Vec<Reply>
+        requires some { 0 < length steps.now }
+        requires room { (room.items ≡ []) × (length steps.now ≤ vec_capacity room) }
+        ensures some { (0 < length result.items) × (length result.items ≤ length steps.now) }
+        ensures events { EventsOn (state_of R.kept self.old)
+            (take (length result.items) (map arc_value steps.now)) result.items
+            (state_of R.kept self.new) }
+        ensures failures { D.failures (disk_of self.old) + failed_all result.items
+            ≤ D.failures (disk_of self.new) }
+    {
+        play(alloc, self, WHOLE, &steps[0], &steps[1..], room)
     }
 
     /// The gateway's number.

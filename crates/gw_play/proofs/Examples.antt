@@ -3,14 +3,13 @@ use Rattle.std.proofs.Common.{◌≡◌, ◌++◌, [], ◌∷◌, None, Some, re
 use Rattle.std.specs.Prelude.{codes, Ok, Err}
 use Rattle.std.specs.Fmt.{digits}
 use Rattle.hex.specs.Hex.{encode_with}
-use Rattle.gw_world.specs.declared.event.Answer.TheVariants as answers
 use Rattle.gw_answer.specs.declared.refusal.Refusal.TheVariants as refusals
 use Rattle.gw_answer.specs.Answers.{only_sends}
 use Rattle.gw_world.specs.declared.world.WorldFault.TheVariants as world_faults
 use Rattle.sn_frame.specs.declared.fault.FrameFault.TheVariants as frame_faults
 use Rattle.gw_play.specs.Texts.{line_end}
-use Rattle.gw_play.specs.Printing.{send_line, refusal_text, said_text, put_line, client_text, retained_line, answers_text}
-use Rattle.gw_play.specs.inner.Printing.{world_fault_line, bad_line_text}
+use Rattle.gw_play.specs.Printing.{send_line, refusal_text, said_text, put_line, client_text, retained_line}
+use Rattle.gw_play.specs.inner.Printing.{world_fault_line, bad_line_text, bad_call_text}
 
 -- a CONNACK for port 7
 datagram : send_line (record { to = record { host = 0; port = 7 }; bytes = 3 ∷ 5 ∷ 0 ∷ [] }) ≡ codes "to 7 030500" ++ line_end
@@ -65,3 +64,8 @@ no_gateway = refl
 third : bad_line_text 3 ≡ codes "line 3: not a command" ++ line_end
 unfolding digits
 third = refl
+
+-- a script's fourth line, behind one that says that two calls come together
+fourth : bad_call_text 4 ≡ codes "line 4: not a call" ++ line_end
+unfolding digits
+fourth = refl

@@ -1,5 +1,5 @@
 -- What answers are printed as. Each line ends with a line feed.
-use Rattle.std.specs.Prelude.{ℕ, ◌+◌, ◌==◌, ◌∷◌, ◌++◌, if◌then◌else◌, List, [], Option, Some, Result, Ok, Err, Bool, true, false, codes, flat_map, length}
+use Rattle.std.specs.Prelude.{ℕ, ◌+◌, ◌==◌, ◌∷◌, ◌++◌, if◌then◌else◌, List, [], Option, Some, Result, Ok, Err, Bool, true, false, codes, map, flat_map, length}
 use Rattle.std.specs.Option.{option_to_list}
 use Rattle.std.specs.Fmt.{decimal}
 use Rattle.sn_frame.specs.Faults.{fault_number}
@@ -137,21 +137,34 @@ abbrev pub said_text : ℕ → Result Out Refusal → List ℕ
 said_text before (Ok out) = out_text before out
 said_text before (Err refusal) = refusal_text refusal
 
--- what an answer is printed as, if so many deltas were made before it
-abbrev pub answer_text : ℕ → Answer → List ℕ
-answer_text before (answers.Node answer) = said_text before (said answer)
-answer_text before (answers.Views views topics) = views_text views topics
-answer_text before (answers.Records count) = records_line count
-answer_text before answers.Nothing = codes "quiet" ▹ line_end
-
 -- how many deltas there are after it
 abbrev pub deltas_behind : ℕ → Result Out Refusal → ℕ
 deltas_behind before (Ok out) = before + length (joined out)
 deltas_behind before (Err refusal) = before
 
+-- what a gateway answered to calls that came together: each as if it had come alone
+abbrev pub row_text : ℕ → List (Result Out Refusal) → List ℕ
+row_text before [] = []
+row_text before (answer ∷ rest) =
+    said_text before answer ▹ row_text (deltas_behind before answer) rest
+
+-- how many deltas there are after them
+abbrev pub row_behind : ℕ → List (Result Out Refusal) → ℕ
+row_behind before [] = before
+row_behind before (answer ∷ rest) = row_behind (deltas_behind before answer) rest
+
+-- what an answer is printed as, if so many deltas were made before it
+abbrev pub answer_text : ℕ → Answer → List ℕ
+answer_text before (answers.Node answer) = said_text before (said answer)
+answer_text before (answers.Row all) = row_text before (map said all)
+answer_text before (answers.Views views topics) = views_text views topics
+answer_text before (answers.Records count) = records_line count
+answer_text before answers.Nothing = codes "quiet" ▹ line_end
+
 -- how many deltas there are after an answer, if there were so many before it
 abbrev pub deltas_after : ℕ → Answer → ℕ
 deltas_after before (answers.Node answer) = deltas_behind before (said answer)
+deltas_after before (answers.Row all) = row_behind before (map said all)
 deltas_after before (answers.Views views topics) = before
 deltas_after before (answers.Records count) = before
 deltas_after before answers.Nothing = before

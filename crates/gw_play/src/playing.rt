@@ -7,7 +7,7 @@ ghost use Rattle.gw_play.specs.Playing.{IsAnswered};
 ghost use Rattle.gw_play.specs.inner.Playing.{IsOutcome};
 ghost use Rattle.gw_play.specs.Printing.{answers_text};
 
-use super::printing::{print_answers, print_bad_line, print_world_fault};
+use super::printing::{print_answers, print_bad_call, print_bad_line, print_world_fault};
 use super::reading::{ReadFault, Source, read_all};
 use super::replica::Held;
 use gw_script::{ScriptFault, parse};
@@ -62,6 +62,7 @@ fn outcome<R: Replica>(alloc: Global, text: &[u8]) -> Result<(String, u8), Alloc
     let script = match parse(alloc, text) {
         Ok(script) => script,
         Err(ScriptFault::Line { number }) => return Ok((print_bad_line(alloc, number)?, 1)),
+        Err(ScriptFault::Call { number }) => return Ok((print_bad_call(alloc, number)?, 1)),
         Err(ScriptFault::Memory) => return Err(AllocError),
     };
     let ran = run::<R>(alloc, script.configs.as_slice(), script.events.as_slice());

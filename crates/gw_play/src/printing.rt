@@ -2,12 +2,12 @@
 //!
 //! Each function appends lines to a text, and each line ends with a line feed.
 
-ghost use Rattle.std.specs.Prelude.{◌≡◌, ◌+◌, ◌++◌, IfOk, OnOk, flat_map, length, string_bytes};
+ghost use Rattle.std.specs.Prelude.{◌≡◌, ◌+◌, ◌++◌, map, IfOk, OnOk, flat_map, length, string_bytes};
 ghost use Rattle.std.specs.Option.{option_to_list};
-ghost use Rattle.gw_play.specs.Printing.{answers_text, answer_text, deltas_after, out_text, joined, delta_line, delta_lines, send_line, refusal_text, records_line, views_text, client_text, client_line, stamp_text, session_text, session_lines, moment_text, put_line, retained_line};
+ghost use Rattle.gw_play.specs.Printing.{answers_text, answer_text, said_text, deltas_behind, row_text, row_behind, deltas_after, out_text, joined, delta_line, delta_lines, send_line, refusal_text, records_line, views_text, client_text, client_line, stamp_text, session_text, session_lines, moment_text, put_line, retained_line};
 ghost use Rattle.gw_play.specs.Printing as spec;
-ghost use Rattle.gw_play.specs.inner.Printing.{world_fault_line, bad_line_text};
-ghost use Rattle.gw_answer.specs.Answers.{told};
+ghost use Rattle.gw_play.specs.inner.Printing.{world_fault_line, bad_line_text, bad_call_text};
+ghost use Rattle.gw_answer.specs.Answers.{told, said};
 
 use super::session_lines::print_tables;
 use super::text::hexadecimal;
@@ -18,6 +18,7 @@ use sn_local::Send;
 use sn_session::{Presence, Session};
 use sn_tables::sn_topic::TopicName;
 use std::alloc::{AllocError, Global};
+use std::sync::Arc;
 
 /// The lines of answers, in their order. Deltas are numbered in the order of making, from 1.
 pub fn print_answers(alloc: Global, answers: &[Answer]) -> Result<String, AllocError>
@@ -44,11 +45,8 @@ fn print_answer(
     ensures deltas { IfOk result (λ after. after ≡ deltas_after before answer.now) }
 {
     match answer {
-        Answer::Node(Ok(out)) => print_out(alloc, text, out, before),
-        Answer::Node(Err(fault)) => {
-            print_fault(alloc, text, fault)?;
-            Ok(before)
-        }
+        Answer::Node(answer) => print_said(alloc, text, answer, before),
+        Answer::Row(answers) => print_row(alloc, text, answers.as_slice(), before),
         Answer::Views(views, topics) => {
             print_views(alloc, text, views.as_slice(), topics.as_slice())?;
             Ok(before)
@@ -62,6 +60,45 @@ fn print_answer(
             Ok(before)
         }
     }
+}
+
+/// The lines of what a gateway answered to a call. The result is how many deltas there are then.
+fn print_said(
+    alloc: Global,
+    text: &mut String,
+    answer: &Result<Arc<Out>, NodeFault>,
+    before: usize,
+) -> Result<usize, AllocError>
+    ensures text { OnOk result (string_bytes text.new ≡ string_bytes text.old ++ said_text before
+        (said answer.now)) }
+    ensures deltas { IfOk result (λ after. after ≡ deltas_behind before (said answer.now)) }
+{
+    match answer {
+        Ok(out) => print_out(alloc, text, out, before),
+        Err(fault) => {
+            print_fault(alloc, text, fault)?;
+            Ok(before)
+        }
+    }
+}
+
+/// The lines of what a gateway answered to calls that came together, in their order. The result is
+/// how many deltas there are then.
+fn print_row(
+    alloc: Global,
+    text: &mut String,
+    answers: &[Result<Arc<Out>, NodeFault>],
+    before: usize,
+) -> Result<usize, AllocError>
+    ensures text { OnOk result (string_bytes text.new ≡ string_bytes text.old ++ row_text before
+        (map said answers.now)) }
+    ensures deltas { IfOk result (λ after. after ≡ row_behind before (map said answers.now)) }
+{
+    let mut after = before;
+    for answer in answers {
+        after = print_said(alloc, text, answer, after)?;
+    }
+    Ok(after)
 }
 
 /// The line of a gateway that was opened again.
@@ -375,4 +412,11 @@ pub fn print_bad_line(alloc: Global, number: usize) -> Result<String, AllocError
     ensures { IfOk result (λ text. string_bytes text ≡ bad_line_text number) }
 {
     format!(in alloc; "line {number}: not a command\n")
+}
+
+/// The line of a script in which a line is to be a call and is none.
+pub fn print_bad_call(alloc: Global, number: usize) -> Result<String, AllocError>
+    ensures { IfOk result (λ text. string_bytes text ≡ bad_call_text number) }
+{
+    format!(in alloc; "line {number}: not a call\n")
 }

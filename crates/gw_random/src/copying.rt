@@ -1,7 +1,7 @@
 //! Equal events, and events with what each leaves shown.
 
-use gw_world::Event;
-use octets::{NoMemory, Octets};
+use gw_world::{Call, Event};
+use octets::{NoMemory, Octets, Sequence};
 use sn_local::Addr;
 use std::alloc::Global;
 
@@ -22,6 +22,7 @@ fn copy_event(alloc: Global, event: &Event) -> Result<Event, NoMemory> {
             gateway: *gateway,
             delta: *delta,
         }),
+        Event::Together { gateway, calls } => copy_row(alloc, *gateway, calls.as_slice()),
         Event::Answer { gateway, peer } => Ok(Event::Answer {
             gateway: *gateway,
             peer: *peer,
@@ -42,6 +43,31 @@ fn copy_event(alloc: Global, event: &Event) -> Result<Event, NoMemory> {
         }),
         Event::Show { gateway } => Ok(Event::Show { gateway: *gateway }),
     }
+}
+
+/// An equal call.
+pub(crate) fn copy_call(alloc: Global, call: &Call) -> Result<Call, NoMemory> {
+    match call {
+        Call::Frame { from, bytes, now } => Ok(Call::Frame {
+            from: *from,
+            bytes: bytes.copied(alloc)?,
+            now: *now,
+        }),
+        Call::Tick { now } => Ok(Call::Tick { now: *now }),
+        Call::Take { delta } => Ok(Call::Take { delta: *delta }),
+    }
+}
+
+/// Equal calls that come together.
+fn copy_row(alloc: Global, gateway: u8, calls: &[Call]) -> Result<Event, NoMemory> {
+    let mut made = Sequence::empty(alloc);
+    for call in calls {
+        made.push(copy_call(alloc, call)?)?;
+    }
+    Ok(Event::Together {
+        gateway,
+        calls: made,
+    })
 }
 
 /// A datagram with equal octets.

@@ -4,12 +4,14 @@ use super::copying::append_copy;
 use super::drive::Left;
 use super::field::{Field, Played};
 use super::judge::{What, delta_at, held_of};
+use super::row::append_put;
 use super::seat::Seat;
 use gw_world::{Answer, Event, NodeFault};
 use octets::NoMemory;
 use rep_model::Replica;
 use rep_ops::Delta;
 use std::alloc::Global;
+use std::mem;
 
 /// Whether a gateway may do what an event asks. Where it is halted, it only answers others.
 pub(crate) fn may_go_on(seat: &Seat, event: &Event) -> bool {
@@ -51,8 +53,8 @@ fn base_of(alloc: Global, seat: &Seat) -> Result<u64, NoMemory> {
     Ok(held.len() as u64)
 }
 
-/// A gateway refused. Only frames that are none may be refused, what would pass a limit, and what
-/// meets a disk that fails.
+/// A gateway refused what an event asks; or a call of it asks, the one in this place. Only frames
+/// that are none may be refused, what would pass a limit, and what meets a disk that fails.
 pub(crate) fn follow_fault<R: Replica>(
     alloc: Global,
     field: &Field,
@@ -60,17 +62,17 @@ pub(crate) fn follow_fault<R: Replica>(
     played: &Played,
     seat: &mut Seat,
     at: usize,
+    place: usize,
     event: &Event,
     fault: &NodeFault,
 ) -> Result<Option<What>, NoMemory> {
-    seat.latest = None;
     match fault {
         NodeFault::Frame { .. } | NodeFault::Full | NodeFault::Exhausted => {
             Ok(differs_unless(may_go_on(seat, event), What::Halted))
         }
         NodeFault::Halted => Ok(differs_unless(seat.drive.is_halted(), What::Halted)),
         NodeFault::Disk { .. } => {
-            follow_failure::<R>(alloc, field, events, played, seat, at, event)
+            follow_failure::<R>(alloc, field, events, played, seat, at, place, event)
         }
         NodeFault::Conflict { .. } | NodeFault::Journal { .. } => Ok(Some(What::Refused)),
         NodeFault::Memory => Ok(Some(What::Stopped)),
@@ -85,6 +87,7 @@ fn follow_failure<R: Replica>(
     played: &Played,
     seat: &mut Seat,
     at: usize,
+    place: usize,
     event: &Event,
 ) -> Result<Option<What>, NoMemory> {
     if seat.drive.is_halted() {
@@ -93,83 +96,101 @@ fn follow_failure<R: Replica>(
     let Some(failure) = seat.drive.failure else {
         return Ok(Some(What::Disk));
     };
-    let refused = refused_by::<R>(alloc, field, events, played, at, event, failure.first)?;
-    let is_right = matches!(event, Event::Compact { .. }) || has_operations(refused.as_ref());
+    let first = failure.first;
+    let refused = refused_by::<R>(alloc, field, events, played, at, place, event, first)?;
+    let is_right = matches!(event, Event::Compact { .. }) || !refused.is_empty();
     seat.drive.fail(refused);
     Ok(differs_unless(is_right, What::Disk))
 }
 
-/// The delta that is refused where the write of an event fails; none where that was a compaction.
+/// The deltas that are refused where the write of an event fails, by the call in this place and
+/// those behind it; none where that was a compaction, or the call writes nothing.
 fn refused_by<R: Replica>(
     alloc: Global,
     field: &Field,
     events: &[Event],
     played: &Played,
     at: usize,
+    place: usize,
     event: &Event,
     first: usize,
-) -> Result<Option<Delta>, NoMemory> {
-    match event {
-        Event::Compact { .. } => Ok(None),
-        Event::Take { delta, .. } => copy_of(alloc, delta_at(played, *delta)),
-        _ => made_without::<R>(alloc, field, events, at, first),
+) -> Result<Vec<Delta>, NoMemory> {
+    let mut refused = Vec::new(alloc);
+    if matches!(event, Event::Compact { .. }) {
+        return Ok(refused);
+    }
+    match append_refused::<R>(alloc, &mut refused, field, events, played, at, place, first) {
+        Ok(()) => Ok(refused),
+        Err(fault) => {
+            drop(refused);
+            Err(fault)
+        }
     }
 }
 
-/// Whether there is a delta with operations.
-fn has_operations(delta: Option<&Delta>) -> bool {
-    match delta {
-        Some(delta) => !delta.ops().is_empty(),
-        None => false,
-    }
-}
-
-/// An equal delta.
-fn copy_of(alloc: Global, delta: Option<&Delta>) -> Result<Option<Delta>, NoMemory> {
+/// Appends an equal delta, if this one is there and has operations.
+pub(crate) fn append_delta(
+    alloc: Global,
+    deltas: &mut Vec<Delta>,
+    delta: Option<&Delta>,
+) -> Result<(), NoMemory> {
     let Some(delta) = delta else {
-        return Ok(None);
+        return Ok(());
     };
+    if delta.ops().is_empty() {
+        return Ok(());
+    }
     match delta.copied(alloc) {
-        Ok(copy) => Ok(Some(copy)),
+        Ok(copy) => {
+            deltas.push(copy)?;
+            Ok(())
+        }
         Err(_) => Err(NoMemory),
     }
 }
 
-/// What the event of this index makes where no failure was arranged for its gateway from the event
-/// `first` on.
-fn made_without<R: Replica>(
+/// Appends what the event of this index puts into the journal, from the call in this place on,
+/// where no failure was arranged for its gateway from the event `first` on.
+fn append_refused<R: Replica>(
     alloc: Global,
+    refused: &mut Vec<Delta>,
     field: &Field,
     events: &[Event],
+    played: &Played,
     at: usize,
+    place: usize,
     first: usize,
-) -> Result<Option<Delta>, NoMemory> {
+) -> Result<(), NoMemory> {
     let Some(last) = events.get(at) else {
-        return Ok(None);
+        return Ok(());
     };
     let mut calm = Vec::new(alloc);
-    let made = match append_calm(alloc, &mut calm, events, at, last.gateway(), first) {
-        Ok(()) => made_last::<R>(alloc, field, calm.as_slice()),
+    let done = match append_calm(alloc, &mut calm, events, at, last.gateway(), first) {
+        Ok(()) => append_last::<R>(alloc, refused, field, calm.as_slice(), played, place),
         Err(fault) => Err(fault),
     };
     drop(calm);
-    made
+    done
 }
 
-/// What the last of these events makes.
-fn made_last<R: Replica>(
+/// Appends what the last of these events puts into the journal, from the call in this place on.
+fn append_last<R: Replica>(
     alloc: Global,
+    refused: &mut Vec<Delta>,
     field: &Field,
     events: &[Event],
-) -> Result<Option<Delta>, NoMemory> {
-    match field.play::<R>(alloc, events)? {
-        Some(played) => {
-            let made = last_made(alloc, &played);
-            drop(played);
-            made
-        }
-        None => Ok(None),
-    }
+    played: &Played,
+    place: usize,
+) -> Result<(), NoMemory> {
+    let Some(calm) = field.play::<R>(alloc, events)? else {
+        return Ok(());
+    };
+    let done = match (events.last(), calm.answers.as_slice().last()) {
+        (Some(event), Some(answer)) => append_put(alloc, refused, played, event, answer, place),
+        _ => Ok(()),
+    };
+    drop(calm);
+    done
 }
 
 /// Appends the events up to this index that are played again, where no failure was arranged for the
@@ -190,14 +211,6 @@ fn append_calm(
     Ok(())
 }
 
-/// The delta that the last answer tells of.
-fn last_made(alloc: Global, played: &Played) -> Result<Option<Delta>, NoMemory> {
-    match played.answers.as_slice().last() {
-        Some(answer) => copy_of(alloc, made_of(answer)),
-        None => Ok(None),
-    }
-}
-
 /// Whether an event is played again: not where it only shows, or arranges a failure for this
 /// gateway late.
 fn is_played(event: &Event, number: u8, is_late: bool) -> bool {
@@ -208,14 +221,6 @@ fn is_played(event: &Event, number: u8, is_late: bool) -> bool {
     }
 }
 
-/// The delta that an answer tells of.
-fn made_of(answer: &Answer) -> Option<&Delta> {
-    match answer {
-        Answer::Node(Ok(out)) => out.made.as_ref(),
-        Answer::Node(Err(_)) | Answer::Views(_, _) | Answer::Records(_) | Answer::Nothing => None,
-    }
-}
-
 /// A gateway is opened again, and tells of so many records.
 pub(crate) fn follow_restart(
     alloc: Global,
@@ -223,32 +228,28 @@ pub(crate) fn follow_restart(
     event: &Event,
     told: u64,
 ) -> Result<Option<What>, NoMemory> {
-    seat.latest = None;
     let Event::Restart { keep, .. } = event else {
         return Ok(Some(What::Stopped));
     };
     let base = base_of(alloc, seat)?;
-    let left = seat.drive.left(*keep, told, base);
+    let left = seat.drive.left(alloc, *keep, told, base)?;
     seat.drive.reopen(told);
     follow_left(alloc, seat, left)
 }
 
-/// What a restart left of the delta that was refused, which is refused no more.
+/// What a restart left of the deltas that were refused, which are refused no more.
 fn follow_left(alloc: Global, seat: &mut Seat, left: Left) -> Result<Option<What>, NoMemory> {
-    let refused = seat.drive.refused.take();
+    let mut refused = mem::replace(&mut seat.drive.refused, Vec::new(alloc));
     match left {
-        Left::Before => Ok(None),
-        Left::Wrong => Ok(Some(What::Records)),
-        Left::More => join(alloc, seat, refused),
+        Left::Wrong => {
+            drop(refused);
+            Ok(Some(What::Records))
+        }
+        Left::More(count) => {
+            refused.truncate(count);
+            let is_right = seat.take_all(alloc, refused.as_slice());
+            drop(mem::replace(&mut seat.joined, refused));
+            Ok(differs_unless(is_right?, What::Refused))
+        }
     }
-}
-
-/// A gateway has what it had refused.
-fn join(alloc: Global, seat: &mut Seat, refused: Option<Delta>) -> Result<Option<What>, NoMemory> {
-    let Some(delta) = refused else {
-        return Ok(Some(What::Records));
-    };
-    let is_right = seat.take(alloc, &delta)?;
-    seat.joined = Some(delta);
-    Ok(differs_unless(is_right, What::Refused))
 }

@@ -1,6 +1,8 @@
 //! What a gateway's journal must hold, and the failures that are arranged for it.
 
+use octets::NoMemory;
 use rep_ops::Delta;
+use std::alloc::Global;
 
 /// A failure that is arranged.
 #[derive(Clone, Copy)]
@@ -13,13 +15,11 @@ pub(crate) struct Failure {
     pub(crate) first: usize,
 }
 
-/// What a restart left of a delta that was refused.
+/// What a restart left of the deltas that were refused.
 #[derive(Clone, Copy)]
 pub(crate) enum Left {
-    /// The journal is as it was before.
-    Before,
-    /// It has the refused delta too.
-    More,
+    /// The journal has so many first ones of them, beside what it had before.
+    More(usize),
     /// It has what it must not have, or has not what it must have.
     Wrong,
 }
@@ -33,18 +33,52 @@ pub(crate) struct Drive {
     pub(crate) failure: Option<Failure>,
     /// The failure that halted the gateway, if one did.
     pub(crate) met: Option<Failure>,
-    /// The delta that was refused then; none where it was a compaction.
-    pub(crate) refused: Option<Delta>,
+    /// The deltas that were refused then, in the order in which they were to be written; none where
+    /// it was a compaction.
+    pub(crate) refused: Vec<Delta>,
+}
+
+/// How many octets the record of a delta has: a letter, four of a length, and those of the delta.
+fn record_size(alloc: Global, delta: &Delta) -> Result<u64, NoMemory> {
+    let mut octets = Vec::new(alloc);
+    let written = delta.append_to(&mut octets);
+    let size = (octets.len() as u64).saturating_add(5);
+    drop(octets);
+    match written {
+        Ok(()) => Ok(size),
+        Err(_) => Err(NoMemory),
+    }
+}
+
+/// How many octets the records of deltas have.
+fn size_of_all(alloc: Global, deltas: &[Delta]) -> Result<u64, NoMemory> {
+    let mut size = 0u64;
+    for delta in deltas {
+        size = size.saturating_add(record_size(alloc, delta)?);
+    }
+    Ok(size)
+}
+
+/// How many first ones of the records of deltas so many octets hold, each whole.
+fn count_whole(alloc: Global, deltas: &[Delta], octets: u64) -> Result<usize, NoMemory> {
+    let mut end = 0u64;
+    for (count, delta) in deltas.iter().enumerate() {
+        end = end.saturating_add(record_size(alloc, delta)?);
+        if end > octets {
+            return Ok(count);
+        }
+    }
+    Ok(deltas.len())
 }
 
 impl Drive {
     /// A journal without records.
-    pub(crate) fn empty() -> Drive {
+    pub(crate) fn empty(alloc: Global) -> Drive {
         Drive {
             records: 0,
             failure: None,
             met: None,
-            refused: None,
+            refused: Vec::new(alloc),
         }
     }
 
@@ -75,7 +109,7 @@ impl Drive {
     }
 
     /// The failure that is arranged comes.
-    pub(crate) fn fail(&mut self, refused: Option<Delta>) {
+    pub(crate) fn fail(&mut self, refused: Vec<Delta>) {
         self.met = self.failure;
         self.failure = None;
         self.refused = refused;
@@ -83,21 +117,35 @@ impl Drive {
 
     /// What a restart left that kept so many bytes and told so many records. A journal written anew
     /// has `base` records.
-    pub(crate) fn left(&self, keep: u64, told: u64, base: u64) -> Left {
+    pub(crate) fn left(
+        &self,
+        alloc: Global,
+        keep: u64,
+        told: u64,
+        base: u64,
+    ) -> Result<Left, NoMemory> {
         let Some(failure) = self.met else {
-            return left_if(told == self.records, Left::Before);
+            return Ok(left_if(told == self.records, 0));
         };
-        if self.refused.is_none() {
-            return left_if(told == self.records || told == base, Left::Before);
+        if self.refused.is_empty() {
+            return Ok(left_if(told == self.records || told == base, 0));
         }
-        if told == self.records {
-            return left_if(!failure.sync || keep < u64::MAX, Left::Before);
-        }
-        let may_be_whole = keep > 0 && (failure.sync || failure.bytes > 0);
-        left_if(
-            may_be_whole && told == self.records.saturating_add(1),
-            Left::More,
-        )
+        let count = self.whole(alloc, failure, keep)?;
+        let all = self.records.saturating_add(count as u64);
+        Ok(left_if(told == all, count))
+    }
+
+    /// How many first ones of the deltas that were refused the journal has whole, where the failure
+    /// let their octets out and a restart kept so many of these.
+    fn whole(&self, alloc: Global, failure: Failure, keep: u64) -> Result<usize, NoMemory> {
+        let refused = self.refused.as_slice();
+        let all = size_of_all(alloc, refused)?;
+        let out = if failure.sync {
+            all
+        } else {
+            failure.bytes.min(all)
+        };
+        count_whole(alloc, refused, out.min(keep))
     }
 
     /// The gateway is opened again, and its journal has so many records.
@@ -107,7 +155,11 @@ impl Drive {
     }
 }
 
-/// This, where it is right.
-fn left_if(is_right: bool, left: Left) -> Left {
-    if is_right { left } else { Left::Wrong }
+/// So many deltas, where that is right.
+fn left_if(is_right: bool, count: usize) -> Left {
+    if is_right {
+        Left::More(count)
+    } else {
+        Left::Wrong
+    }
 }

@@ -1,13 +1,14 @@
 //! The gateways of a script, and what they answer.
 
 use super::writing::{PREDEFINED, PREDEFINED_ID, lifetime_of};
-use gw_world::{Answer, Event, World, WorldFault, run};
+use gw_world::{Answer, Event, NodeFault, Out, World, WorldFault, run};
 use octets::{NoMemory, Sequence};
 use rep_model::Replica;
 use rep_ops::Delta;
 use sn_local::Config;
 use sn_topic::{Predefined, TopicName};
 use std::alloc::Global;
+use std::sync::Arc;
 
 /// The gateways of a script, which are numbered from 1.
 #[derive(Drop)]
@@ -90,6 +91,26 @@ pub(crate) fn added(answer: &Answer) -> u64 {
             let made = if out.made.is_some() { 1 } else { 0 };
             (out.answer.len() as u64).saturating_add(made)
         }
+        Answer::Row(answers) => made_by_row(answers.as_slice()),
         Answer::Node(Err(_)) | Answer::Views(_, _) | Answer::Records(_) | Answer::Nothing => 0,
+    }
+}
+
+/// How many deltas the answers to calls that came together add to the list.
+pub(crate) fn made_by_row(answers: &[Result<Arc<Out>, NodeFault>]) -> u64 {
+    let mut count = 0u64;
+    for answer in answers {
+        if has_made(answer) {
+            count = count.saturating_add(1);
+        }
+    }
+    count
+}
+
+/// Whether an answer tells of a delta that was made.
+pub(crate) fn has_made(answer: &Result<Arc<Out>, NodeFault>) -> bool {
+    match answer {
+        Ok(out) => out.made.is_some(),
+        Err(_) => false,
     }
 }

@@ -1,22 +1,29 @@
 //! A script from a seed.
 
+ghost use Rattle.std.specs.Prelude.{◌<◌, vec_len, IfSome};
+
 use super::copying::append;
 use super::draw::Draw;
 use super::field::{Field, added};
 use super::frames::{Kind, frame_of, octets_of, reply};
 use super::listed::Listed;
-use gw_world::{Answer, Event, NodeFault, Out};
-use octets::{NoMemory, Octets};
+use super::row::{as_call, calls_of};
+use gw_world::{Answer, Call, Event, NodeFault, Out};
+use octets::{NoMemory, Octets, Sequence};
 use rep_model::Replica;
 use sn_frame::{Frame, decode};
 use sn_local::{Addr, Send};
 use std::alloc::Global;
+use std::sync::Arc;
 
 /// How many rounds a script has. Between two of them it is played, so that the next can answer.
 const ROUNDS: u8 = 12;
 
 /// How many events a round has at least.
 const LEAST: u8 = 10;
+
+/// How many calls come together at most.
+const MOST_CALLS: u8 = 8;
 
 /// How many answers clients keep in mind.
 const IN_MIND: usize = 16;
@@ -69,6 +76,22 @@ fn decoded(alloc: Global, bytes: &[u8]) -> Result<Frame, NoMemory> {
     match decode(alloc, bytes) {
         Ok(frame) => Ok(frame),
         Err(_) => Err(NoMemory),
+    }
+}
+
+/// The delta that a gateway is to take, if the event is that.
+fn taken_by(event: &Event) -> Option<u64> {
+    match event {
+        Event::Take { delta, .. } => Some(*delta),
+        _ => None,
+    }
+}
+
+/// The delta that a gateway is to take, if the call is that.
+fn taken_by_call(call: Option<&Call>) -> Option<u64> {
+    match call {
+        Some(Call::Take { delta }) => Some(*delta),
+        _ => None,
     }
 }
 
@@ -303,8 +326,93 @@ impl Invention {
         if self.draw.is_once_in(3) {
             return self.event(alloc);
         }
+        if self.draw.is_once_in(3) {
+            return self.row(alloc, gateway);
+        }
         self.wait();
         self.writes(alloc, gateway)
+    }
+
+    /// Calls that come to a gateway together.
+    fn row(&mut self, alloc: Global, gateway: u8) -> Result<Event, NoMemory> {
+        let mut calls = Vec::new(alloc);
+        for _ in 0..self.draw.octet_below(MOST_CALLS).saturating_add(1) {
+            self.comes(alloc, gateway, &mut calls)?;
+        }
+        Ok(Event::Together {
+            gateway,
+            calls: Sequence::new(calls),
+        })
+    }
+
+    /// One more call comes to a gateway with others.
+    fn comes(&mut self, alloc: Global, gateway: u8, calls: &mut Vec<Call>) -> Result<(), NoMemory> {
+        if self.draw.is_once_in(4) {
+            self.wait();
+        }
+        let event = self.called(alloc, gateway)?;
+        if let Some(call) = as_call(event) {
+            calls.push(call)?;
+        }
+        Ok(())
+    }
+
+    /// An event at a gateway that may come together with others.
+    fn called(&mut self, alloc: Global, gateway: u8) -> Result<Event, NoMemory> {
+        match self.draw.octet_below(8) {
+            0 | 1 => Ok(self.takes(gateway)),
+            2 => Ok(self.ticks(gateway)),
+            3 | 4 => self.answers_at(alloc, gateway),
+            _ => self.visits(alloc, gateway),
+        }
+    }
+
+    /// A client sends what it has to answer to a gateway, or else something of itself.
+    fn answers_at(&mut self, alloc: Global, gateway: u8) -> Result<Event, NoMemory> {
+        match self.reply_at(gateway) {
+            Some(index) => Ok(self.replies.remove(index)),
+            None => self.visits(alloc, gateway),
+        }
+    }
+
+    /// The index of a frame that a client answers to a gateway.
+    fn reply_at(&self, gateway: u8) -> Option<usize>
+        ensures { IfSome result (λ index. index < vec_len self.entry.now.replies) }
+    {
+        for index in 0..self.replies.len() {
+            if self.replies[index].gateway() == gateway {
+                return Some(index);
+            }
+        }
+        None
+    }
+
+    /// A client sends something of itself to a gateway, at which it mostly is.
+    fn visits(&mut self, alloc: Global, gateway: u8) -> Result<Event, NoMemory> {
+        let drawn = self.client();
+        let client = self.guest(gateway, drawn);
+        if self.draw.is_once_in(5) {
+            self.moves(client, gateway);
+            return self.speaks(alloc, client, gateway, Kind::Connect);
+        }
+        self.speaks(alloc, client, gateway, Kind::Any)
+    }
+
+    /// A client that is at a gateway, from the one of this number on; this one where none is.
+    fn guest(&self, gateway: u8, client: u8) -> u8 {
+        for next in client..self.clients() {
+            if self.homes.get(usize::from(next)).copied() == Some(gateway) {
+                return next;
+            }
+        }
+        client
+    }
+
+    /// A client is at a gateway now.
+    fn moves(&mut self, client: u8, gateway: u8) {
+        if let Some(home) = self.homes.get_mut(usize::from(client)) {
+            *home = gateway;
+        }
     }
 
     /// An event at a gateway that it may write for.
@@ -336,10 +444,11 @@ impl Invention {
     fn event(&mut self, alloc: Global) -> Result<Event, NoMemory> {
         self.wait();
         let gateway = self.gateway();
-        match self.draw.octet_below(32) {
+        match self.draw.octet_below(38) {
             0..=8 => self.answers(alloc),
             9..=16 => self.sends(alloc),
             17..=25 => Ok(self.takes(gateway)),
+            32..=37 => self.row(alloc, gateway),
             seldom => Ok(self.seldom(gateway, seldom)),
         }
     }
@@ -412,18 +521,51 @@ impl Invention {
         }
     }
 
-    /// A gateway is halted: it is to be opened again soon, and what it was to take it has not.
-    fn note_halt(&mut self, event: &Event, fault: &NodeFault) {
+    /// A gateway is halted: it is to be opened again soon, and the delta that it was to take it has
+    /// not.
+    fn note_halt(&mut self, gateway: u8, taken: Option<u64>, fault: &NodeFault) {
         match fault {
             NodeFault::Halted | NodeFault::Disk { .. } => {}
             _ => return,
         }
         if self.due.is_none() {
-            self.due = Some((event.gateway(), 2));
+            self.due = Some((gateway, 2));
         }
-        if let Event::Take { gateway, delta } = event {
-            self.listed.forget(*gateway, *delta);
+        if let Some(delta) = taken {
+            self.listed.forget(gateway, delta);
         }
+    }
+
+    /// What an answer to a call tells the inventor. The delta is the one that was to be taken.
+    fn learn_call(
+        &mut self,
+        alloc: Global,
+        gateway: u8,
+        taken: Option<u64>,
+        answer: &Result<Arc<Out>, NodeFault>,
+    ) -> Result<(), NoMemory> {
+        match answer {
+            Ok(out) => self.hear(alloc, gateway, out),
+            Err(fault) => {
+                self.note_halt(gateway, taken, fault);
+                Ok(())
+            }
+        }
+    }
+
+    /// What the answers to calls that came together tell the inventor.
+    fn learn_row(
+        &mut self,
+        alloc: Global,
+        event: &Event,
+        answers: &[Result<Arc<Out>, NodeFault>],
+    ) -> Result<(), NoMemory> {
+        let calls = calls_of(event);
+        for (index, answer) in answers.iter().enumerate() {
+            let taken = taken_by_call(calls.get(index));
+            self.learn_call(alloc, event.gateway(), taken, answer)?;
+        }
+        Ok(())
     }
 
     /// What an answer tells the inventor: which deltas there are, and what clients were sent.
@@ -431,11 +573,8 @@ impl Invention {
         let gateway = event.gateway();
         self.list(event.peer().unwrap_or(gateway), added(answer))?;
         match answer {
-            Answer::Node(Ok(out)) => self.hear(alloc, gateway, out),
-            Answer::Node(Err(fault)) => {
-                self.note_halt(event, fault);
-                Ok(())
-            }
+            Answer::Node(answer) => self.learn_call(alloc, gateway, taken_by(event), answer),
+            Answer::Row(answers) => self.learn_row(alloc, event, answers.as_slice()),
             Answer::Views(_, _) | Answer::Records(_) | Answer::Nothing => Ok(()),
         }
     }

@@ -3,11 +3,12 @@
 use super::disk::{follow_fault, follow_restart, is_written, may_go_on};
 use super::field::{Field, Played, added_at};
 use super::moments::{is_late, moments_differ};
-use super::seat::{Seat, are_same, has_vanished};
+use super::row::follow_row;
+use super::seat::{Seat, acknowledges, are_same, waits};
 use gw_world::{Answer, Event, Out};
 use octets::{NoMemory, Sequence};
 use rep_model::{ClientView, Replica};
-use rep_ops::{ClientId, Delta, Retained};
+use rep_ops::{ClientId, Delta, Put, Retained};
 use rep_same::same_deltas;
 use sn_topic::TopicName;
 use std::alloc::Global;
@@ -106,7 +107,7 @@ pub(crate) fn delta_at(played: &Played, number: u64) -> Option<&Delta> {
 pub(crate) fn views_at(played: &Played, at: usize) -> Option<&Sequence<(ClientId, ClientView)>> {
     match played.answers.as_slice().get(at)? {
         Answer::Views(views, _) => Some(views),
-        Answer::Node(_) | Answer::Records(_) | Answer::Nothing => None,
+        Answer::Node(_) | Answer::Row(_) | Answer::Records(_) | Answer::Nothing => None,
     }
 }
 
@@ -246,11 +247,17 @@ fn follow_at<R: Replica>(
     match answer {
         Answer::Node(Ok(out)) => follow_out(alloc, seat, played, listed, event, out),
         Answer::Node(Err(fault)) => {
-            follow_fault::<R>(alloc, field, events, played, seat, at, event, fault)
+            follow_fault::<R>(alloc, field, events, played, seat, at, 0, event, fault)
         }
         Answer::Views(views, topics) => {
             let (views, topics) = (views.as_slice(), topics.as_slice());
             Ok(follow_shown(events, seat, played, at, views, topics))
+        }
+        Answer::Row(answers) => {
+            let answers = answers.as_slice();
+            follow_row::<R>(
+                alloc, field, events, played, seat, listed, at, event, answers,
+            )
         }
         Answer::Records(told) => follow_restart(alloc, seat, event, *told),
         Answer::Nothing => Ok(arranged(seat, at, event)),
@@ -272,7 +279,7 @@ fn number_of(listed: u64, event: &Event, out: &Out) -> Option<u64> {
 }
 
 /// A gateway did what it was to do.
-fn follow_out(
+pub(crate) fn follow_out(
     alloc: Global,
     seat: &mut Seat,
     played: &Played,
@@ -280,12 +287,12 @@ fn follow_out(
     event: &Event,
     out: &Out,
 ) -> Result<Option<What>, NoMemory> {
-    seat.latest = number_of(listed, event, out);
     if !may_go_on(seat, event) {
         return Ok(Some(What::Halted));
     }
-    match seat.latest {
+    match number_of(listed, event, out) {
         Some(number) => {
+            seat.latest.push(number)?;
             let delta = delta_at(played, number);
             follow_delta(alloc, seat, played, event, out, delta)
         }
@@ -334,10 +341,49 @@ fn vanished(seat: &Seat, played: &Played, views: &[(ClientId, ClientView)]) -> b
     let Some(before) = views_at(played, shown) else {
         return false;
     };
-    match seat.latest {
-        Some(number) => has_vanished(before.as_slice(), views, delta_at(played, number)),
-        None => has_vanished(before.as_slice(), views, seat.joined.as_ref()),
+    for (client, view) in before.as_slice() {
+        if has_vanished(seat, played, client, view, views) {
+            return true;
+        }
     }
+    false
+}
+
+/// Whether a message waits no more that waited for this client, and what the gateway has since does
+/// not acknowledge it.
+fn has_vanished(
+    seat: &Seat,
+    played: &Played,
+    client: &ClientId,
+    before: &ClientView,
+    views: &[(ClientId, ClientView)],
+) -> bool {
+    for put in before.pending.as_slice() {
+        if !waits(views, client, put) && !is_acknowledged(seat, played, client, put) {
+            return true;
+        }
+    }
+    false
+}
+
+/// Whether what the gateway has made, taken or found since it was shown acknowledges a message.
+fn is_acknowledged(seat: &Seat, played: &Played, client: &ClientId, put: &Put) -> bool {
+    for number in seat.latest.as_slice() {
+        if acknowledges(delta_at(played, *number), client, put) {
+            return true;
+        }
+    }
+    is_acknowledged_by(seat.joined.as_slice(), client, put)
+}
+
+/// Whether one of these deltas acknowledges a message.
+fn is_acknowledged_by(deltas: &[Delta], client: &ClientId, put: &Put) -> bool {
+    for delta in deltas {
+        if acknowledges(Some(delta), client, put) {
+            return true;
+        }
+    }
+    false
 }
 
 /// A gateway is shown, with what it retains of topics.
@@ -369,8 +415,8 @@ fn follow_views(
         return Some(What::Vanished);
     }
     seat.shown = Some(at);
-    seat.latest = None;
-    seat.joined = None;
+    seat.latest.clear();
+    seat.joined.clear();
     if seat.shows(views) {
         None
     } else {

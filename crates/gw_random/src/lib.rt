@@ -3,6 +3,7 @@
 //! `random_run` makes scripts from a seed, plays each through the real thing (`gw_world::run`), and
 //! checks at each step what the definitions say: a gateway shows the views of the set that it made
 //! and took, and what that retains, and a message that waits goes away only by its acknowledgement.
+//! Some calls come to a gateway together, with one write, which may fail as any other may.
 //! Two gateways of three have a lifetime, so that messages expire: never early, and never late.
 //! A script that shows something else is made short and is part of the report.
 //!
@@ -15,6 +16,7 @@
 //! - `writing`: events as lines that the simulator reads.
 //! - `copying`: equal events, and events with what each leaves shown.
 //! - `seat`: what a gateway must show by the definitions (`Seat`).
+//! - `row`: calls that come to a gateway together.
 //! - `disk`: events at a gateway whose disk may fail.
 //! - `moments`: when messages expire.
 //! - `judge`: a run compared with the definitions (`Difference`).
@@ -37,6 +39,7 @@ mod judge;
 mod listed;
 mod moments;
 mod report;
+mod row;
 mod seat;
 mod shorten;
 mod writing;

@@ -2,11 +2,13 @@
 
 use super::field::Played;
 use super::judge::{What, views_at};
+use super::row::calls_of;
 use super::seat::{Seat, acknowledges};
 use super::writing::lifetime_of;
-use gw_world::{Answer, Event, Out};
+use gw_world::{Answer, Call, Event, NodeFault, Out};
 use rep_model::ClientView;
 use rep_ops::{ClientId, Delta, Op, Put};
+use std::sync::Arc;
 
 /// What differs in the moments of a delta that an event made or took, if something does.
 pub(crate) fn moments_differ(
@@ -125,24 +127,49 @@ pub(crate) fn is_late(
 }
 
 /// The gateway and the second of a tick right before the event of this index, which is the same
-/// gateway's, if it had nothing to do.
+/// gateway's, if it had nothing to do. It may be the last of calls that came together.
 fn quiet_tick(events: &[Event], played: &Played, at: usize) -> Option<(u8, u64)> {
     let before = at.checked_sub(1)?;
-    let Some(Event::Tick { gateway, now }) = events.get(before) else {
-        return None;
-    };
-    if events.get(at)?.gateway() != *gateway {
+    let event = events.get(before)?;
+    let now = last_tick(event)?;
+    if events.get(at)?.gateway() != event.gateway() {
         return None;
     }
-    match played.answers.as_slice().get(before)? {
-        Answer::Node(Ok(out)) => {
-            if out.sends.is_empty() && out.made.is_none() {
-                Some((*gateway, *now))
-            } else {
-                None
-            }
-        }
-        Answer::Node(Err(_)) | Answer::Views(_, _) | Answer::Records(_) | Answer::Nothing => None,
+    if is_quiet(played.answers.as_slice().get(before)?) {
+        Some((event.gateway(), now))
+    } else {
+        None
+    }
+}
+
+/// The second of the tick that an event is, or that its last call is.
+fn last_tick(event: &Event) -> Option<u64> {
+    if let Event::Tick { now, .. } = event {
+        return Some(*now);
+    }
+    match calls_of(event).last() {
+        Some(Call::Tick { now }) => Some(*now),
+        _ => None,
+    }
+}
+
+/// Whether an answer, or the last of those to calls that came together, tells of nothing done.
+fn is_quiet(answer: &Answer) -> bool {
+    match answer {
+        Answer::Node(answer) => is_nothing(answer),
+        Answer::Row(answers) => match answers.as_slice().last() {
+            Some(answer) => is_nothing(answer),
+            None => false,
+        },
+        Answer::Views(_, _) | Answer::Records(_) | Answer::Nothing => false,
+    }
+}
+
+/// Whether a gateway had nothing to do.
+fn is_nothing(answer: &Result<Arc<Out>, NodeFault>) -> bool {
+    match answer {
+        Ok(out) => out.sends.is_empty() && out.made.is_none(),
+        Err(_) => false,
     }
 }
 

@@ -16,10 +16,10 @@ pub(crate) struct Seat {
     pub(crate) plain: Plain,
     /// The index of the answer that showed its views last.
     pub(crate) shown: Option<usize>,
-    /// The number of the delta that it has made or taken since.
-    pub(crate) latest: Option<u64>,
-    /// The delta that was refused, and that it has since it was opened again.
-    pub(crate) joined: Option<Delta>,
+    /// The numbers of the deltas that it has made or taken since.
+    pub(crate) latest: Vec<u64>,
+    /// The deltas that were refused, and that it has since it was opened again.
+    pub(crate) joined: Vec<Delta>,
     /// What its journal must hold.
     pub(crate) drive: Drive,
 }
@@ -33,15 +33,25 @@ impl Seat {
         Ok(Seat {
             plain,
             shown: None,
-            latest: None,
-            joined: None,
-            drive: Drive::empty(),
+            latest: Vec::new(alloc),
+            joined: Vec::new(alloc),
+            drive: Drive::empty(alloc),
         })
     }
 
     /// Takes a delta. False where it does not fit.
     pub(crate) fn take(&mut self, alloc: Global, delta: &Delta) -> Result<bool, NoMemory> {
         take_into(alloc, &mut self.plain, delta)
+    }
+
+    /// Takes deltas. False where one does not fit.
+    pub(crate) fn take_all(&mut self, alloc: Global, deltas: &[Delta]) -> Result<bool, NoMemory> {
+        for delta in deltas {
+            if !self.take(alloc, delta)? {
+                return Ok(false);
+            }
+        }
+        Ok(true)
     }
 
     /// Whether these are the clients of the set, and their views.
@@ -111,24 +121,8 @@ fn is_same_row(one: &(ClientId, ClientView), other: Option<&(ClientId, ClientVie
     }
 }
 
-/// Whether a message waited before, waits no more, and this delta does not acknowledge it.
-pub(crate) fn has_vanished(
-    before: &[(ClientId, ClientView)],
-    after: &[(ClientId, ClientView)],
-    delta: Option<&Delta>,
-) -> bool {
-    for (client, view) in before {
-        for put in view.pending.as_slice() {
-            if !waits(after, client, put) && !acknowledges(delta, client, put) {
-                return true;
-            }
-        }
-    }
-    false
-}
-
 /// Whether a message waits for a client.
-fn waits(views: &[(ClientId, ClientView)], client: &ClientId, put: &Put) -> bool {
+pub(crate) fn waits(views: &[(ClientId, ClientView)], client: &ClientId, put: &Put) -> bool {
     for (other, view) in views {
         if same_client(other, client) {
             return view

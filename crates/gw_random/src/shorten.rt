@@ -1,11 +1,11 @@
 //! A script that differs, made short.
 
-use super::copying::{append, append_copy, with_shows};
+use super::copying::{append, append_copy, copy_call, with_shows};
 use super::exchange::with_exchange;
 use super::field::{Field, added};
 use super::judge::{Difference, What, judged};
-use gw_world::{Answer, Event};
-use octets::NoMemory;
+use gw_world::{Answer, Call, Event};
+use octets::{NoMemory, Sequence};
 use rep_model::Replica;
 use std::alloc::Global;
 use std::mem;
@@ -317,19 +317,64 @@ fn push_moved(
     event: &Event,
     part: Part,
 ) -> Result<(), NoMemory> {
-    let Event::Take { gateway, delta } = event else {
-        return append_copy(alloc, made, event);
-    };
-    match moved(*delta, part.first, part.count) {
-        Some(delta) => append(
-            made,
-            Event::Take {
-                gateway: *gateway,
-                delta,
-            },
-        ),
-        None => Ok(()),
+    match event {
+        Event::Take { gateway, delta } => match moved(*delta, part.first, part.count) {
+            Some(delta) => append(
+                made,
+                Event::Take {
+                    gateway: *gateway,
+                    delta,
+                },
+            ),
+            None => Ok(()),
+        },
+        Event::Together { gateway, calls } => {
+            push_moved_row(alloc, made, *gateway, calls.as_slice(), part)
+        }
+        _ => append_copy(alloc, made, event),
     }
+}
+
+/// Appends calls that come together, with the numbers that their deltas then have, if any is left.
+fn push_moved_row(
+    alloc: Global,
+    made: &mut Vec<Event>,
+    gateway: u8,
+    calls: &[Call],
+    part: Part,
+) -> Result<(), NoMemory> {
+    let mut kept = Sequence::empty(alloc);
+    for call in calls {
+        push_moved_call(alloc, &mut kept, call, part)?;
+    }
+    if kept.is_empty() {
+        drop(kept);
+        return Ok(());
+    }
+    append(
+        made,
+        Event::Together {
+            gateway,
+            calls: kept,
+        },
+    )
+}
+
+/// Appends a call, with the number that its delta then has.
+fn push_moved_call(
+    alloc: Global,
+    kept: &mut Sequence<Call>,
+    call: &Call,
+    part: Part,
+) -> Result<(), NoMemory> {
+    let Call::Take { delta } = call else {
+        kept.push(copy_call(alloc, call)?)?;
+        return Ok(());
+    };
+    if let Some(delta) = moved(*delta, part.first, part.count) {
+        kept.push(Call::Take { delta })?;
+    }
+    Ok(())
 }
 
 /// The number that a delta has without those that are left out, if it is none of these.

@@ -1,6 +1,6 @@
 //! Events as lines that the simulator reads.
 
-use gw_world::Event;
+use gw_world::{Call, Event};
 use std::alloc::{AllocError, Global};
 
 /// A topic that each gateway has a predefined id of.
@@ -51,11 +51,37 @@ fn event_line(alloc: Global, text: &mut String, event: &Event) -> Result<(), All
         } => frame_line(alloc, text, *gateway, from.port, *now, bytes.as_slice()),
         Event::Tick { gateway, now } => numbered_line(text, "tick", *gateway, *now),
         Event::Take { gateway, delta } => numbered_line(text, "take", *gateway, *delta),
+        Event::Together { gateway, calls } => row_lines(alloc, text, *gateway, calls.as_slice()),
         other => further_line(text, other),
     }
 }
 
-/// The line of an event that is no datagram, no moment and no delta.
+/// The line of calls that come together, and a line for each of them.
+fn row_lines(
+    alloc: Global,
+    text: &mut String,
+    gateway: u8,
+    calls: &[Call],
+) -> Result<(), AllocError> {
+    numbered_line(text, "together", gateway, calls.len() as u64)?;
+    for call in calls {
+        call_line(alloc, text, gateway, call)?;
+    }
+    Ok(())
+}
+
+/// The line of a call that comes together with others.
+fn call_line(alloc: Global, text: &mut String, gateway: u8, call: &Call) -> Result<(), AllocError> {
+    match call {
+        Call::Frame { from, bytes, now } => {
+            frame_line(alloc, text, gateway, from.port, *now, bytes.as_slice())
+        }
+        Call::Tick { now } => numbered_line(text, "tick", gateway, *now),
+        Call::Take { delta } => numbered_line(text, "take", gateway, *delta),
+    }
+}
+
+/// The line of an event that is no datagram, no moment and no delta, nor several.
 fn further_line(text: &mut String, event: &Event) -> Result<(), AllocError> {
     match event {
         Event::WriteFails {

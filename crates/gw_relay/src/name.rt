@@ -27,40 +27,36 @@ pub struct Name {
 pub fn name_of(alloc: Global, op: &Op) -> Result<Name, NoMemory>
     ensures { IfOk result (λ name. name ≡ spec.name_of op.now) }
 {
+    let of = op.subject(alloc)?;
     match op {
-        Op::Session {
-            client,
-            stamp,
-            counter,
-            ..
-        } => Ok(Name {
-            of: Subject::Client(client.copied(alloc)?),
+        Op::Session { stamp, counter, .. } => Ok(Name {
+            of,
             kind: 0,
             gateway: stamp.gateway,
             first: stamp.epoch,
             last: u64::from(*counter),
         }),
-        Op::Put { client, put } => Ok(Name {
-            of: Subject::Client(client.copied(alloc)?),
+        Op::Put { put, .. } => Ok(Name {
+            of,
             kind: 1,
             gateway: put.origin,
             first: put.seq,
             last: put.seq,
         }),
         Op::Ack {
-            client,
             origin,
             first,
             last,
+            ..
         } => Ok(Name {
-            of: Subject::Client(client.copied(alloc)?),
+            of,
             kind: 2,
             gateway: *origin,
             first: *first,
             last: *last,
         }),
-        Op::Retain { topic, retained } => Ok(Name {
-            of: Subject::Topic(topic.copied(alloc)?),
+        Op::Retain { retained, .. } => Ok(Name {
+            of,
             kind: 3,
             gateway: retained.gateway,
             first: retained.clock,

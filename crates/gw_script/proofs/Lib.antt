@@ -1,3 +1,4 @@
 mod Examples
 pub mod Growth
 pub mod Lines
+pub mod Together

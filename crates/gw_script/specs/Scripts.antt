@@ -1,12 +1,15 @@
 -- A script: gateways, and then events.
-use Rattle.std.specs.Prelude.{◌≡◌, ◌≢◌, ◌==◌, ℕ, ◌-◌, ◌<◌, ◌⊎◌, Bool, false, List, [], ◌∷◌, ◌++◌, take, position, slice_get, slice_set, Some, IsTrue, All, AllPairs}
+use Rattle.std.specs.Prelude.{◌≡◌, ◌≢◌, ◌==◌, ℕ, ◌+◌, ◌-◌, ◌<◌, ◌⊎◌, Bool, false, List, [], ◌∷◌, ◌++◌, drop, length, take, position, slice_get, slice_set, Some, IsTrue, All, AllPairs}
 use Rattle.std.specs.List.{list_any}
 use Rattle.sn_topic.specs.Table.{is_table}
 use Rattle.sn_local.specs.declared.config.Config.{Config}
 use Rattle.gw_script.specs.declared.command.Command.{Command}
 use Rattle.gw_script.specs.declared.command.Command.TheVariants as commands
 use Rattle.gw_script.specs.declared.script.Script.{Script}
+use Rattle.gw_world.specs.declared.event.Call.{Call}
+use Rattle.gw_world.specs.declared.event.Event.TheVariants.{Together}
 use Rattle.gw_script.specs.Commands.{Spells}
+use Rattle.gw_script.specs.Rows.{BeginsRow, SpellCalls, SpellsNoCall}
 
 -- a gateway whose settings are its number alone
 abbrev pub config_of : ℕ → Config
@@ -50,18 +53,27 @@ Adds before (commands.Lifetime number seconds) after =
 Adds before (commands.Happens event) after =
     after ≡ record { configs = before.configs; events = before.events ++ event ∷ [] }
 
+-- a script, and then calls that come to a gateway together
+abbrev pub with_row : Script → ℕ → List Call → Script
+with_row before gateway calls =
+    record { configs = before.configs; events = before.events ++ Together gateway calls ∷ [] }
+
 -- the second script says what the first says, and then the line; an empty line says nothing
 abbrev pub Extends : Script → List ℕ → Script → Type 0
 Extends before line after =
     ((line ≡ []) × (after ≡ before))
     ⊎ ((command : Command) × Spells line command × Adds before command after)
 
--- the lines make up the script
+-- the lines make up the script; behind a line by which calls come together, each line is one of them
 pub data IsScriptOf : List (List ℕ) → Script → Type 0 where
   none : IsScriptOf [] empty_script
   more : (lines : List (List ℕ)) (line : List ℕ) (before after : Script) → IsScriptOf lines before
       → Extends before line after
       → IsScriptOf (lines ++ line ∷ []) after
+  row : (lines : List (List ℕ)) (line : List ℕ) (behind : List (List ℕ)) (gateway : ℕ)
+      (calls : List Call) (before : Script) → IsScriptOf lines before
+      → BeginsRow line gateway (length calls) → SpellCalls gateway behind calls
+      → IsScriptOf (lines ++ line ∷ behind) (with_row before gateway calls)
 
 -- gateways as a field may have them: each has a number that is not 0, and no two have the same
 pub record AreGateways (configs : List Config) : Type 0 where
@@ -77,3 +89,22 @@ pub record IsBadLine (lines : List (List ℕ)) (number : ℕ) : Type 0 where
   pub there : slice_get lines (number - 1) ≡ Some line
   pub read : IsScriptOf (take (number - 1) lines) before
   pub refused : (after : Script) → Extends before line after → ⊥
+  pub no_row : (gateway count : ℕ) → BeginsRow line gateway count → ⊥
+
+-- The line of this number, from 1, is to be a call and is none, or is not there. The lines before
+-- `head` make up a script. The next one says that calls come together, and the lines between spell
+-- the first ones of them.
+pub record IsBadCall (lines : List (List ℕ)) (number : ℕ) : Type 0 where
+  pub head : ℕ
+  pub before : Script
+  pub line : List ℕ
+  pub gateway : ℕ
+  pub count : ℕ
+  pub calls : List Call
+  pub read : IsScriptOf (take head lines) before
+  pub there : slice_get lines head ≡ Some line
+  pub begins : BeginsRow line gateway count
+  pub first : SpellCalls gateway (take (length calls) (drop (head + 1) lines)) calls
+  pub fewer : length calls < count
+  pub counted : number ≡ head + length calls + 2
+  pub refused : SpellsNoCall gateway (slice_get lines (number - 1))

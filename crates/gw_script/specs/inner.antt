@@ -1,2 +1,3 @@
 -- What proofs stand on and no public clause cites.
 pub mod Commands
+pub mod Rows

@@ -16,7 +16,7 @@ use sn_topic::{TopicFault, TopicName};
 use std::alloc::{AllocError, Global};
 
 /// What a line says.
-#[derive(Drop, PartialEq, Eq)]
+#[derive(Drop)]
 pub enum Command {
     /// There is a gateway of this number.
     Gateway {

@@ -41,6 +41,10 @@ pub enum ScriptFault {
     /// The first bad line. Lines are numbered from 1, empty ones too.
     #[error("line {number}: not a command")]
     Line { number: usize },
+    /// The first line that is no call of those that are to come together, or the number that it
+    /// would have if it were there.
+    #[error("line {number}: not a call")]
+    Call { number: usize },
     /// Memory ran out.
     #[error("out of memory")]
     Memory,
@@ -51,6 +55,14 @@ impl<T: Drop> From<AllocFailed<T>> for LineFault {
 
     fn from(_error: AllocFailed<T>) -> LineFault {
         LineFault::Memory
+    }
+}
+
+impl<T: Drop> From<AllocFailed<T>> for ScriptFault {
+    ghost from_gives = { λ _ e. e ≡ script_faults.Memory };
+
+    fn from(_error: AllocFailed<T>) -> ScriptFault {
+        ScriptFault::Memory
     }
 }
 

@@ -3,11 +3,12 @@
 ghost use Rattle.std.specs.Prelude.{◌≡◌, ◌∷◌, ◌++◌, ◌==◌, [], ℕ, Err, IfOk, IsTrue, IsFalse, IfSome, length, ◌<◌, position};
 ghost use Rattle.sn_topic.specs.Table.{is_table};
 ghost use Rattle.gw_script.specs.Commands.{lines_of};
-ghost use Rattle.gw_script.specs.Scripts.{IsScriptOf, AreGateways, IsBadLine};
+ghost use Rattle.gw_script.specs.Scripts.{IsScriptOf, AreGateways, IsBadLine, IsBadCall};
 
 use super::command::{Command, cut, read_command};
 use super::fault::{LineFault, ScriptFault};
-use gw_world::Event;
+use super::rows::{calls_of, row_of};
+use gw_world::{Call, Event};
 use octets::{NoMemory, Sequence};
 use sn_local::Config;
 use sn_topic::{Predefined, TopicFault, TopicName};
@@ -23,10 +24,12 @@ pub struct Script {
 }
 
 impl Script {
-    ghost use Rattle.std.specs.Prelude.{◌≡◌, OnOk, OnErr};
+    ghost use Rattle.std.specs.Prelude.{◌≡◌, ◌+◌, ◌<◌, ℕ, [], Err, IfOk, OnOk, OnErr, get_or, length, map};
     ghost use Rattle.gw_script.specs.declared.script.Script.{Script};
     ghost use Rattle.gw_script.specs.declared.command.Command.TheVariants.{Gateway, Lifetime, Predefine};
-    ghost use Rattle.gw_script.specs.Scripts.{empty_script, Adds, Extends};
+    ghost use Rattle.gw_script.specs.Rows.{BeginsRow};
+    ghost use Rattle.gw_script.specs.Scripts.{empty_script, with_row, Adds, Extends};
+    ghost use Rattle.gw_script.specs.inner.Rows.{RowRead, LineRead, NoLineAt, NoCallBehind};
     ghost use Rattle.gw_script.specs.Scripts as spec;
 
     /// The script that says nothing.
@@ -136,6 +139,60 @@ impl Script {
         Ok(())
     }
 
+    /// Adds that calls come to a gateway together. On an error the script is as it was.
+    fn add_row(&mut self, gateway: u8, calls: Vec<Call>) -> Result<(), NoMemory>
+        ensures ok { OnOk result (self.new ≡ with_row self.old gateway calls.items) }
+        ensures err { OnErr result (self.new ≡ self.old) }
+    {
+        self.events.push(Event::Together {
+            gateway,
+            calls: Sequence::new(calls),
+        })?;
+        Ok(())
+    }
+
+    /// Adds the calls of the lines behind that at this place, if this one says that calls come
+    /// together. The place behind them.
+    fn read_row(&mut self, alloc: Global, lines: &[&[u8]], at: usize) -> Result<usize, ScriptFault>
+        requires { at < length lines.now }
+        ensures ok { IfOk result (λ next. RowRead self.old
+            (map (λ line. line.now) lines.now) at self.new next) }
+        ensures bad { (k : ℕ) → result ≡ Err (ScriptFault.Line k) → (k ≡ at + 1)
+            × ((gateway count : ℕ)
+            → ¬ (BeginsRow (get_or (map (λ line. line.now) lines.now) at []) gateway count)) }
+        ensures call { (k : ℕ) → result ≡ Err (ScriptFault.Call k)
+            → NoCallBehind (map (λ line. line.now) lines.now) at k }
+    {
+        let Some((gateway, count)) = row_of(alloc, lines[at])? else {
+            return Err(ScriptFault::Line { number: at + 1 });
+        };
+        let calls = match calls_of(alloc, &lines[at + 1..], gateway, count, at + 1) {
+            Ok(calls) => calls,
+            Err(fault) => return Err(fault),
+        };
+        let next = at + 1 + calls.len();
+        self.add_row(gateway, calls)?;
+        Ok(next)
+    }
+
+    /// Adds what the line at this place says, with the lines behind it that belong to it. The place
+    /// behind them.
+    fn read_at(&mut self, alloc: Global, lines: &[&[u8]], at: usize) -> Result<usize, ScriptFault>
+        requires { at < length lines.now }
+        ensures ok { IfOk result (λ next. LineRead self.old
+            (map (λ line. line.now) lines.now) at self.new next) }
+        ensures bad { (k : ℕ) → result ≡ Err (ScriptFault.Line k) → (k ≡ at + 1)
+            × NoLineAt self.old (map (λ line. line.now) lines.now) at }
+        ensures call { (k : ℕ) → result ≡ Err (ScriptFault.Call k)
+            → NoCallBehind (map (λ line. line.now) lines.now) at k }
+    {
+        match self.extend(alloc, lines[at]) {
+            Ok(()) => Ok(at + 1),
+            Err(LineFault::NotACommand) => self.read_row(alloc, lines, at),
+            Err(LineFault::Memory) => Err(ScriptFault::Memory),
+        }
+    }
+
     /// Whether there is a gateway of this number.
     fn has_gateway(&self, number: u8) -> bool
         ensures { result ≡ spec.has_gateway self.now.configs number }
@@ -219,16 +276,15 @@ pub fn parse(alloc: Global, text: &[u8]) -> Result<Script, ScriptFault>
     ensures gateways { IfOk result (λ script. AreGateways script.configs) }
     // The first bad line is told.
     ensures bad { (k : ℕ) → result ≡ Err (ScriptFault.Line k) → IsBadLine (lines_of text.now) k }
+    ensures call { (k : ℕ) → result ≡ Err (ScriptFault.Call k) → IsBadCall (lines_of text.now) k }
 {
     let lines = cut(alloc, text, b'\n')?;
     let mut script = Script::empty(alloc);
-    for (index, line) in lines.iter().enumerate() {
-        match script.extend(alloc, line) {
-            Ok(()) => {}
-            Err(LineFault::NotACommand) => {
-                return Err(ScriptFault::Line { number: index + 1 });
-            }
-            Err(LineFault::Memory) => return Err(ScriptFault::Memory),
+    let mut at = 0;
+    'reading: while at < lines.len() {
+        match script.read_at(alloc, lines.as_slice(), at) {
+            Ok(next) => at = next,
+            Err(fault) => return Err(fault),
         }
     }
     Ok(script)

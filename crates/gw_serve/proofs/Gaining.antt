@@ -1,19 +1,14 @@
 -- What steps add to a pass.
-use Rattle.std.proofs.Common.{◌≡◌, ◌<◌, ℕ, Result, Err, true, List, [], ◌∷◌, ◌++◌, map, Option, IfSome, Some, None, is_some, inl, inr, true≢false, sym, refl, ap, ◌∙◌, subst, append-nil, arith}
+use Rattle.std.proofs.Common.{eqb-true, false, ◌==◌, ◌≡◌, ◌<◌, ◌≤◌, ◌+◌, ℕ, Result, true, All, List, [], ◌∷◌, ◌++◌, length, map, Option, IfSome, Some, None, is_some, inl, inr, true≢false, sym, refl, ap, ◌∙◌, subst, append-nil, arith}
 use Rattle.std.proofs.lemmas.List.{map-append}
 use Rattle.std.proofs.lemmas.Option.{same_Some, none-some}
-use Rattle.std.proofs.lemmas.List.Elements.{All-append, All-cons, All-nil}
+use Rattle.std.proofs.lemmas.List.Elements.{All-append, All-cons, All-head, All-nil, All-tail}
 use Rattle.gw_shift.specs.Calls.{Held, Holder}
 use Rattle.gw_answer.specs.declared.step.Step.{Step}
 use Rattle.gw_answer.specs.declared.out.Out.{Out}
 use Rattle.gw_answer.specs.declared.refusal.Refusal.{Refusal}
-use Rattle.gw_answer.specs.Answers.{told}
-use Rattle.gw_shift.specs.Passes.{held_as, seen_by, with_calls}
-use Rattle.gw_shift.specs.Calling.{Made, NotMade}
-use Rattle.gw_shift.specs.declared.fault.CallFault.{CallFault}
-use Rattle.gw_shift.specs.declared.fault.CallFault.TheVariants as faults
-use Rattle.gw_serve.specs.declared.worker.Handled.{Handled}
-use Rattle.gw_serve.specs.declared.worker.Handled.TheVariants.{Stepped, Refused, Failed}
+use Rattle.gw_shift.specs.Passes.{held_as, held_from, seen_by, with_calls}
+use Rattle.gw_shift.specs.Calling.{MadeInRow}
 use Rattle.gw_serve.specs.declared.worker.Trouble.{Trouble}
 use Rattle.gw_serve.specs.declared.worker.Trouble.TheVariants as troubles
 use Rattle.gw_serve.specs.declared.worker.Seat.{Seat}
@@ -28,7 +23,8 @@ use Rattle.crossbeam_channel.specs.Claims.{view, IsSeatAt}
 use Rattle.gw_serve.specs.Count.{weigh}
 use Rattle.gw_serve.specs.inner.Queue.{hand}
 use Rattle.gw_serve.specs.Serving.{is_frame, Gains, HaveSeen}
-use Rattle.gw_serve.specs.inner.Handling.{IsHandled, IsRefused}
+use Rattle.gw_serve.specs.inner.Handling.{IsHandled}
+use Rattle.gw_serve.specs.inner.Rows.{HasTaken, numbers_from}
 use Rattle.gw_serve.specs.inner.Work.{IsWorked, IsWorking}
 use Rattle.gw_serve.proofs.Balance.{weigh-append}
 use Rattle.gw_shift.proofs.Gained.{with_none, with_both}
@@ -36,8 +32,31 @@ use Rattle.gw_shift.proofs.Gained.{with_none, with_both}
 pub gains_none : (before after : Holder) → after ≡ before → Gains before [] after
 gains_none before after e = ([], e ∙ sym (with_none before), refl, All-nil (λ (m : Held). is_frame m.step ≡ true))
 
-pub gains_one : (before : Holder) (step : Step) (answer : Result Out Refusal) (n : ℕ) (after : Holder) → is_frame step ≡ true → Made before step answer n after → Gains before (n ∷ []) after
-gains_one before step answer n after frame made = (held_as n step answer ∷ [], made.holds, refl, All-cons (λ (m : Held). is_frame m.step ≡ true) (held_as n step answer) [] frame (All-nil (λ (m : Held). is_frame m.step ≡ true)))
+-- the calls of datagrams that a pass holds
+frames_held : (number : ℕ) (steps : List Step) (answers : List (Result Out Refusal)) → All (λ (step : Step). is_frame step ≡ true) steps
+    → All (λ (m : Held). is_frame m.step ≡ true) (held_from number steps answers)
+frames_held number steps [] are = All-nil (λ (m : Held). is_frame m.step ≡ true)
+frames_held number [] (a ∷ answers) are = All-nil (λ (m : Held). is_frame m.step ≡ true)
+frames_held number (s ∷ steps) (a ∷ answers) are =
+    All-cons
+    (λ (m : Held). is_frame m.step ≡ true)
+    (held_as number s a)
+    (held_from (number + 1) steps answers)
+    (All-head (λ (step : Step). is_frame step ≡ true) s steps are)
+    (frames_held (number + 1) steps answers (All-tail (λ (step : Step). is_frame step ≡ true) s steps are))
+
+-- their numbers
+numbers_held : (number : ℕ) (steps : List Step) (answers : List (Result Out Refusal)) → length answers ≤ length steps
+    → map (λ (m : Held). m.number) (held_from number steps answers) ≡ numbers_from number (length answers)
+numbers_held number steps [] few = refl
+numbers_held number [] (a ∷ answers) few = absurd (omega (arith, few))
+numbers_held number (s ∷ steps) (a ∷ answers) few = ap (λ (ns : List ℕ). number ∷ ns) (numbers_held (number + 1) steps answers (omega (arith, few)))
+
+-- what calls in a row add
+pub gains_row : (before : Holder) (steps : List Step) (answers : List (Result Out Refusal)) (n : ℕ) (after : Holder) → All (λ (step : Step). is_frame step ≡ true) steps
+    → MadeInRow before steps answers n after → Gains before (numbers_from n (length answers)) after
+gains_row before steps answers n after frames made =
+    (held_from n steps answers, made.holds, numbers_held n steps answers made.few, frames_held n steps answers frames)
 
 pub gains_more : (a b c : Holder) (s t : List ℕ) → Gains a s b → Gains b t c → Gains a (s ++ t) c
 gains_more a b c s t x y = (
@@ -49,21 +68,6 @@ gains_more a b c s t x y = (
 
 pub memory_is_not_behind : troubles.Memory ≡ troubles.Behind → ⊥
 memory_is_not_behind e = cc
-
-pub refused_is : (before : Holder) (step : Step) (fault : CallFault) (after : Holder) (handled : Handled) → is_frame step ≡ true → NotMade before step fault after → IsRefused fault handled → IsHandled before handled after
-refused_is before step faults.ShiftFull after handled frame same is = subst (λ h. IsHandled before h after) (sym is) (gains_none before after same)
-refused_is before step (faults.Behind held) after handled frame same is =
-    subst (λ h. IsHandled before h after) (sym is) (
-      ([], gains_none before after same.1),
-      λ _. subst (λ (p : Holder). 0 < seen_by p) (sym same.1) (omega (arith, same.0)),
-    )
-refused_is before step faults.Memory after handled frame same is = subst (λ h. IsHandled before h after) (sym is) (([], gains_none before after same), λ e. absurd (memory_is_not_behind e))
-refused_is before step (faults.Node number fault) after (Failed cause) frame more is = (
-  (number ∷ [], gains_one before step (Err (told fault)) number after frame more),
-  λ e. absurd (memory_is_not_behind (sym is ∙ e)),
-)
-refused_is before step (faults.Node number fault) after (Stepped n) frame more is = subst (λ (k : ℕ). Gains before (k ∷ []) after) (sym is) (gains_one before step (Err (told fault)) number after frame more)
-refused_is before step (faults.Node number fault) after Refused frame more is = absurd is
 
 -- a pass that comes back keeps what it has seen
 pub seen_more : (ps qs : List Holder) → HaveSeen ps → HaveSeen (ps ++ qs)
@@ -91,39 +95,48 @@ pub kept : (before : Holder) (v v' : Hand) (t t' : List Taken) (l l' : List ℕ)
 kept before v v' t t' l l' pass a b d was =
     subst (λ (x : Hand). IsWorking before x t' l' pass) (sym a) (subst (λ (x : List Taken). IsWorking before v x l' pass) (sym b) (subst (λ (x : List ℕ). IsWorking before v t x pass) (sym d) was))
 
--- what a number taken does to a seat
-pub stepped : (before : Holder) (v w : Hand) (taken : List Taken) (left : List ℕ) (pass after : Holder) (n s : ℕ) → IsWorking before v taken left pass → w ≡ hand v.parts v.sent (v.taken ++ n ∷ [])
-    → Gains pass (s ∷ []) after → IsWorking before w (taken ++ record { datagram = n; step = s } ∷ []) left after
-stepped before v w taken left pass after n s was is gains =
-    let t : Taken = record { datagram = n; step = s } in
+-- two tests
+pub is_zero : (n : ℕ) → true ≡ (n == 0) → n ≡ 0
+is_zero n e = eqb-true n 0 (sym e)
+
+pub none_of : (o : Option Trouble) → is_some o ≡ false → o ≡ None
+none_of None e = refl
+none_of (Some trouble) e = absurd (true≢false e)
+
+-- what a row of numbers does to a seat
+pub handled : (before : Holder) (v w : Hand) (t t' : List Taken) (l l' numbers : List ℕ) (pass after : Holder) → IsWorking before v t l pass → HasTaken v numbers w
+    → IsHandled pass numbers t l None t' l' after → IsWorking before w t' l' after
+handled before v w t t' l l' numbers pass after was is row =
+    let done = row.done refl in
+    let more : List Taken = done.0 in
+    let others : List ℕ = done.1 in
     record {
       part = ap (λ (u : Hand). u.parts) is ∙ was.part;
       unsent = ap (λ (u : Hand). u.sent) is ∙ was.unsent;
-      gains = subst (λ (l : List ℕ). Gains before l after) (sym (map-append (λ (u : Taken). u.step) taken (t ∷ []))) (gains_more before pass after (map (λ (u : Taken). u.step) taken) (s ∷ []) was.gains gains);
+      gains = subst (λ (xs : List ℕ). Gains before xs after)
+          (sym (ap (λ (us : List Taken). map (λ (u : Taken). u.step) us) done.2 ∙ map-append (λ (u : Taken). u.step) t more))
+          (gains_more before pass after (map (λ (u : Taken). u.step) t) (map (λ (u : Taken). u.step) more) was.gains done.5);
       numbers = λ h.
-          let a : weigh h w.taken ≡ weigh h (v.taken ++ n ∷ []) = ap (λ (u : Hand). weigh h u.taken) is in
-          let b = weigh-append h v.taken (n ∷ []) in
-          let d : weigh h (map (λ (u : Taken). u.datagram) (taken ++ t ∷ [])) ≡ weigh h (map (λ (u : Taken). u.datagram) taken ++ n ∷ []) = ap (weigh h) (map-append (λ (u : Taken). u.datagram) taken (t ∷ [])) in
-          let e = weigh-append h (map (λ (u : Taken). u.datagram) taken) (n ∷ []) in
-          let f = was.numbers h in
+          let a : weigh h w.taken ≡ weigh h (v.taken ++ numbers) = ap (λ (u : Hand). weigh h u.taken) is in
+          let b = weigh-append h v.taken numbers in
+          let d : weigh h numbers ≡ weigh h (map (λ (u : Taken). u.datagram) more ++ others) = ap (weigh h) (sym done.4) in
+          let e = weigh-append h (map (λ (u : Taken). u.datagram) more) others in
+          let f : weigh h (map (λ (u : Taken). u.datagram) t') ≡ weigh h (map (λ (u : Taken). u.datagram) t ++ map (λ (u : Taken). u.datagram) more) =
+          ap (weigh h) (ap (λ (us : List Taken). map (λ (u : Taken). u.datagram) us) done.2 ∙ map-append (λ (u : Taken). u.datagram) t more) in
+          let g = weigh-append h (map (λ (u : Taken). u.datagram) t) (map (λ (u : Taken). u.datagram) more) in
+          let k : weigh h l' ≡ weigh h (l ++ others) = ap (weigh h) done.3 in
+          let m = weigh-append h l others in
+          let n = was.numbers h in
           omega arith;
     }
 
--- what a number left does to a seat
-pub leaves : (before : Holder) (v w : Hand) (taken : List Taken) (left : List ℕ) (pass after : Holder) (n : ℕ) → IsWorking before v taken left pass → w ≡ hand v.parts v.sent (v.taken ++ n ∷ [])
-    → Gains pass [] after → IsWorking before w taken (left ++ n ∷ []) after
-leaves before v w taken left pass after n was is gains =
-    record {
-      part = ap (λ (u : Hand). u.parts) is ∙ was.part;
-      unsent = ap (λ (u : Hand). u.sent) is ∙ was.unsent;
-      gains = subst (λ (l : List ℕ). Gains before l after) (append-nil (map (λ (u : Taken). u.step) taken)) (gains_more before pass after (map (λ (u : Taken). u.step) taken) [] was.gains gains);
-      numbers = λ h.
-          let a : weigh h w.taken ≡ weigh h (v.taken ++ n ∷ []) = ap (λ (u : Hand). weigh h u.taken) is in
-          let b = weigh-append h v.taken (n ∷ []) in
-          let e = weigh-append h left (n ∷ []) in
-          let f = was.numbers h in
-          omega arith;
-    }
+-- a row of no numbers does nothing to it
+pub no_numbers : (before : Holder) (v w : Hand) (t t' : List Taken) (l l' numbers : List ℕ) (pass : Holder) → IsWorking before v t l pass → HasTaken v numbers w → numbers ≡ []
+    → t' ≡ t → l' ≡ l → IsWorking before w t' l' pass
+no_numbers before v w t t' l l' numbers pass was is none same alike =
+    let still : w ≡ v =
+    is ∙ ap (λ (xs : List ℕ). hand v.parts v.sent (v.taken ++ xs)) none ∙ ap (λ (xs : List ℕ). hand v.parts v.sent xs) (append-nil v.taken) in
+    kept before v w t t' l l' pass still same alike was
 
 -- nothing was done
 pub fresh : (before pass : Holder) (v : Hand) (taken : List Taken) (left : List ℕ) → v ≡ hand 1 [] [] → pass ≡ before → taken ≡ [] → left ≡ [] → IsWorking before v taken left pass
@@ -144,10 +157,10 @@ module _ {Q M L A : Type 0} (c : Rows (Badge (Key Datagram)) (Doing Datagram Han
   worked before seat channel was never =
       record { channel = channel; part = was.part; unsent = was.unsent; gains = (map (λ (u : Taken). u.step) seat.taken.items, was.gains); working = λ none. was; behind = λ e. absurd (never e) }
 
-  -- a datagram was lost by a fault
-  pub failed : (before : Holder) (v : Hand) (taken : List Taken) (left : List ℕ) (pass : Holder) (n : ℕ) (seat : Seat) (cause : Trouble) → IsWorking before v taken left pass → IsSeatAt c seat.ticket
-      → view seat.ticket ≡ hand v.parts v.sent (v.taken ++ n ∷ []) → ((steps : List ℕ) × Gains pass steps seat.pass) × (cause ≡ troubles.Behind → 0 < seen_by seat.pass) → seat.fault ≡ Some cause → IsWorked c before seat
-  failed before v taken left pass n seat cause was channel is gains fault =
+  -- datagrams were lost by a fault
+  pub failed : (before : Holder) (v : Hand) (taken : List Taken) (left : List ℕ) (pass : Holder) (numbers : List ℕ) (seat : Seat) (cause : Trouble) → IsWorking before v taken left pass → IsSeatAt c seat.ticket
+      → HasTaken v numbers (view seat.ticket) → ((steps : List ℕ) × Gains pass steps seat.pass) × (cause ≡ troubles.Behind → 0 < seen_by seat.pass) → seat.fault ≡ Some cause → IsWorked c before seat
+  failed before v taken left pass numbers seat cause was channel is gains fault =
       record {
         channel = channel;
         part = ap (λ (u : Hand). u.parts) is ∙ was.part;
@@ -155,4 +168,18 @@ module _ {Q M L A : Type 0} (c : Rows (Badge (Key Datagram)) (Doing Datagram Han
         gains = (map (λ (u : Taken). u.step) taken ++ gains.0.0, gains_more before pass seat.pass (map (λ (u : Taken). u.step) taken) gains.0.0 was.gains gains.0.1);
         working = λ none. absurd (true≢false (ap is_some (sym fault ∙ none)));
         behind = λ e. gains.1 (same_Some cause troubles.Behind (sym fault ∙ e));
+      }
+
+  -- a row was handled, and the worker ends
+  pub ended : (before : Holder) (v : Hand) (taken : List Taken) (left : List ℕ) (pass : Holder) (numbers : List ℕ) (seat : Seat) → IsWorking before v taken left pass → IsSeatAt c seat.ticket → HasTaken v numbers (view seat.ticket)
+      → IsHandled pass numbers taken left seat.fault seat.taken.items seat.left.items seat.pass → IsWorked c before seat
+  ended before v taken left pass numbers seat was channel is h =
+      record {
+        channel = channel;
+        part = ap (λ (u : Hand). u.parts) is ∙ was.part;
+        unsent = ap (λ (u : Hand). u.sent) is ∙ was.unsent;
+        gains = (map (λ (u : Taken). u.step) taken ++ h.gains.0, gains_more before pass seat.pass (map (λ (u : Taken). u.step) taken) h.gains.0 was.gains h.gains.1);
+        working = λ none. handled before v (view seat.ticket) taken seat.taken.items left seat.left.items numbers pass seat.pass was is
+            (subst (λ (f : Option Trouble). IsHandled pass numbers taken left f seat.taken.items seat.left.items seat.pass) none h);
+        behind = h.behind;
       }

@@ -2,4 +2,5 @@
 pub mod Handling
 pub mod Queue
 pub mod Room
+pub mod Rows
 pub mod Work

@@ -19,14 +19,17 @@
 //! - A worker whose look has ended takes its word back itself where the count is the same: no ring
 //!   has come, so the word is its own.
 //!
-//! The bell also counts what was taken from the queue, by which the reader knows whether there is
-//! room for more. A worker counts after it has taken: there is never less room than that says.
+//! The bell also counts what was put into the queue and what was taken from it. By the second the
+//! reader knows whether there is room for more: a worker counts after it has taken, so there is
+//! never less room than that says. By both a worker knows whether it may take several datagrams at
+//! once. The reader counts after it has put, and each that takes counts while it has the turn, so
+//! that never more is said to wait than waits.
 //!
-//! Beside the bell stands the turn of the workers: who has it takes a number and makes its call, so
-//! that the calls are made in the order of the numbers. A worker that took a number and then waited
-//! for the gateway would be overtaken there by one with a later number.
+//! Beside the bell stands the turn of the workers: who has it takes numbers and makes their calls,
+//! so that the calls are made in the order of the numbers. A worker that took a number and then
+//! waited for the gateway would be overtaken there by one with a later number.
 
-use crate::queue::has_room;
+use crate::queue::{has_room, may_take_more};
 use std::hint::spin_loop;
 use std::sync::atomic::{AtomicU64, Ordering};
 use std::sync::{Condvar, Mutex, MutexGuard, Wait};
@@ -49,8 +52,12 @@ pub struct Bell {
     /// How often it has rung, and one more where it is closed. Who looks reads it without the lock.
     count: AtomicU64,
     rung: Condvar,
-    /// Who has it takes a number and makes its call.
+    /// Who has it takes numbers and makes their calls.
     turn: Mutex<()>,
+    /// How many workers there are.
+    workers: u64,
+    /// How many datagrams were put into the queue.
+    put: AtomicU64,
     /// How many datagrams were taken from the queue.
     taken: AtomicU64,
 }
@@ -65,8 +72,8 @@ pub struct Heard {
 }
 
 impl Bell {
-    /// A bell that has not rung.
-    pub(crate) fn new() -> Bell {
+    /// A bell that has not rung, for so many workers.
+    pub(crate) fn new(workers: u64) -> Bell {
         Bell {
             rings: Mutex::new(Rings {
                 closed: false,
@@ -75,8 +82,22 @@ impl Bell {
             count: AtomicU64::new(0),
             rung: Condvar::new(),
             turn: Mutex::new(()),
+            workers,
+            put: AtomicU64::new(0),
             taken: AtomicU64::new(0),
         }
+    }
+
+    /// A datagram was put into the queue.
+    pub(crate) fn note_put(&self) {
+        self.put.fetch_add(1, Ordering::SeqCst);
+    }
+
+    /// Whether who has the turn may take one more datagram at once.
+    pub(crate) fn may_take_more(&self) -> bool {
+        let put = self.put.load(Ordering::SeqCst);
+        let taken = self.taken.load(Ordering::SeqCst);
+        may_take_more(put, taken, self.workers)
     }
 
     /// A datagram was taken from the queue.
@@ -90,7 +111,7 @@ impl Bell {
         has_room(put, self.taken.load(Ordering::SeqCst))
     }
 
-    /// Waits for the turn to take a number and make its call. It is over when what comes back is
+    /// Waits for the turn to take numbers and make their calls. It is over when what comes back is
     /// unlocked.
     pub(crate) fn take_turn<R: Wait>(&self, rt: &R) -> MutexGuard<'_, ()> {
         self.turn.lock(rt)

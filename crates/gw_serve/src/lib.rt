@@ -2,14 +2,16 @@
 //!
 //! The reader numbers what comes and puts it into a queue of 64, and reads nothing while that is
 //! full. A datagram that finds it full all the same is dropped without a number. One worker at a
-//! time takes a number and makes its call under the shift's lock, so that the calls come in the
-//! order of the numbers; it sends the replies after that, while another worker's call goes on. At
-//! the end each number is accounted for: it became a call, or it was left. How many there are the
-//! counts of the wire say.
+//! time takes numbers and makes their calls under the shift's lock, so that the calls come in the
+//! order of the numbers; it sends the replies after that, while another worker's calls go on. It
+//! takes one number, and more only while as many wait as there are workers: then one sync serves
+//! them all. At the end each number is accounted for: it became a call, or it was left. How many
+//! there are the counts of the wire say.
 //!
 //! - `serving`: the whole (`serve`), and what it hands back (`Served`, `ServeFault`).
 //! - `reader`: datagrams are numbered and put into the queue.
-//! - `worker`: numbers are taken, and their calls are made (`Taken`, `Cause`).
+//! - `worker`: numbers are taken, and become calls or are left (`Taken`, `Cause`).
+//! - `row`: the calls of the numbers that were taken at once, and their replies.
 //! - `queue`: the queue and the rule over it.
 //! - `bell`: how workers are woken that found the queue empty.
 //!
@@ -21,6 +23,7 @@
 mod bell;
 mod queue;
 mod reader;
+mod row;
 mod serving;
 mod worker;
 

@@ -21,6 +21,15 @@ pub fn has_room(put: u64, taken: u64) -> bool
     put.saturating_sub(taken) < CAPACITY as u64
 }
 
+/// Whether a worker may take one more datagram at once, if so many were put into the queue and so
+/// many were taken: at least as many wait as there are workers. So none of them is kept from its
+/// own, and a reply that is held up holds up no datagram that another worker could take.
+pub fn may_take_more(put: u64, taken: u64, workers: u64) -> bool
+    ensures { result ≡ spec.may_take_more put taken workers }
+{
+    workers <= put.saturating_sub(taken)
+}
+
 /// A numbered datagram.
 #[derive(Drop)]
 pub struct Datagram {

@@ -61,7 +61,7 @@ pub fn read_all<R: Wait, W: Wire>(
         if stop.load(Ordering::SeqCst) {
             break;
         }
-        await_room(wire, bell, count);
+        await_room(wire, bell, count, stop);
         match take_in(alloc, wire, buffer, count + 1) {
             Err(cause) => {
                 fault = Some(cause);
@@ -71,6 +71,7 @@ pub fn read_all<R: Wait, W: Wire>(
             Ok(Some(datagram)) => {
                 if sender.try_send_as::<Sends, R>(rt, ticket, datagram).is_ok() {
                     count += 1;
+                    bell.note_put();
                     bell.ring(rt);
                 } else {
                     wire.unheard();
@@ -82,19 +83,24 @@ pub fn read_all<R: Wait, W: Wire>(
     Reading { count, fault }
 }
 
-/// Waits until the queue has room, into which so many datagrams were put. It gives up after some
-/// ten seconds.
-fn await_room<W: Wire>(wire: &mut W, bell: &Bell, put: u64)
+/// Waits until the queue has room, into which so many datagrams were put, or the reader is to stop.
+/// It gives up after some ten seconds.
+fn await_room<W: Wire>(wire: &mut W, bell: &Bell, put: u64, stop: &AtomicBool)
     ensures failures { W.failures wire.new ≡ W.failures wire.old }
     ensures datagrams { (W.arrivals wire.new ≡ W.arrivals wire.old)
         × (W.drops wire.new ≡ W.drops wire.old) }
 {
     for _ in 0..MOST_RESTS {
-        if bell.has_room(put) {
+        if may_go_on(bell, put, stop) {
             return;
         }
         wire.rest();
     }
+}
+
+/// Whether the queue has room, into which so many datagrams were put, or the reader is to stop.
+fn may_go_on(bell: &Bell, put: u64, stop: &AtomicBool) -> bool {
+    bell.has_room(put) || stop.load(Ordering::SeqCst)
 }
 
 /// What comes, under a number.

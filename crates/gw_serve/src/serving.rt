@@ -167,12 +167,13 @@ where
         back,
         mut buffer,
     } = room;
+    let workers = passes.len() as u64;
     let mut slots = seated(alloc, sender, root, passes, slots);
     let shared = Shared {
         rt,
         alloc,
         shift,
-        bell: Bell::new(),
+        bell: Bell::new(workers),
         stop: AtomicBool::new(false),
         post,
         gate,

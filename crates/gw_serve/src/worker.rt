@@ -1,23 +1,23 @@
-//! A worker: it takes numbers, makes their calls, and sends the replies when a call is done.
+//! A worker: it takes numbers, makes their calls, and sends the replies when the calls are done.
 
-ghost use Rattle.std.specs.Prelude.{◌≡◌, ◌<◌, ℕ, true, vec_len, vec_capacity, Some, None, List, [], ◌∷◌, ◌++◌, map, IfOk};
-ghost use Rattle.std.specs.Arc.{arc_value};
+ghost use Rattle.std.specs.Prelude.{◌≡◌, ◌≤◌, ◌+◌, vec_len, vec_capacity, None, [], IfSome};
 ghost use Rattle.crossbeam_channel.specs.Ends.{receives_on};
-ghost use Rattle.gw_serve.specs.Serving.{is_frame};
-ghost use Rattle.gw_serve.specs.inner.Handling.{IsHandled, IsRefused};
+ghost use Rattle.gw_serve.specs.declared.queue.TheConstants.{CAPACITY};
+ghost use Rattle.gw_serve.specs.declared.worker.Trouble.TheVariants as troubles;
+ghost use Rattle.gw_serve.specs.inner.Handling.{IsHandled};
+ghost use Rattle.gw_serve.specs.inner.Rows.{IsRow, IsEmptyRow};
 ghost use Rattle.gw_serve.specs.inner.Work.{IsFresh, IsWorked};
 
 use crate::bell::Bell;
-use crate::queue::{Datagram, Receiver, Takes, Ticket};
-use gw_shift::gw_node::{NodeFault, Out, Step};
-use gw_shift::{CallFault, Pass, Shift};
+use crate::queue::{CAPACITY, Receiver, Ticket};
+use crate::row::{End, Row, call_row, leave_rest, take_row, tell_all};
+use gw_shift::{Pass, Shift};
 use gw_wire::{Gate, Post};
 use jr_disk::Disk;
-use octets::{NoMemory, Octets};
 use rep_model::Replica;
 use std::alloc::Global;
 use std::sync::atomic::{AtomicBool, Ordering};
-use std::sync::{Arc, MutexGuard, Wait};
+use std::sync::{MutexGuard, Wait};
 use thiserror::Error;
 
 /// Why serving ended early.
@@ -104,17 +104,6 @@ pub struct Shared<'a, T: Wait, R: Replica, D: Disk, P: Post, G: Gate> {
     pub gate: &'a G,
 }
 
-/// What became of a datagram.
-#[derive(Clone, Copy)]
-pub enum Handled {
-    /// It became the call of this number.
-    Stepped(u64),
-    /// The shift has had all its calls.
-    Refused,
-    /// The worker must end.
-    Failed(Trouble),
-}
-
 /// Works until the queue is closed and empty, and has the reader stop where it failed.
 pub fn work<T: Wait, R: Replica, D: Disk + Drop, P: Post, G: Gate>(
     shared: &Shared<'_, T, R, D, P, G>,
@@ -131,8 +120,8 @@ pub fn work<T: Wait, R: Replica, D: Disk + Drop, P: Post, G: Gate>(
     seat
 }
 
-/// Takes numbers until the queue is closed and empty. Room for a number is made before it is taken,
-/// so each that was taken is told of, unless the worker must end with a fault.
+/// Takes numbers until the queue is closed and empty. Room for all that may be taken at once is made
+/// before, so each that was taken is told of, unless the worker must end with a fault.
 fn take_all<T: Wait, R: Replica, D: Disk + Drop, P: Post, G: Gate>(
     shared: &Shared<'_, T, R, D, P, G>,
     receiver: &Receiver,
@@ -152,41 +141,30 @@ fn take_all<T: Wait, R: Replica, D: Disk + Drop, P: Post, G: Gate>(
     let bell = &shared.bell;
     let mut has_worked = false;
     for _ in rt.forever() {
-        if !has_room(&mut taken, &mut left) {
+        let Some(mut row) = room_for(shared.alloc, &mut taken, &mut left) else {
             return seat_of(pass, ticket, taken, left, Some(Trouble::Memory));
-        }
+        };
         let heard = bell.heard(rt);
         let turn = bell.take_turn(rt);
-        match receiver.try_recv_as::<Takes, T>(rt, &mut ticket) {
-            Ok(datagram) => {
-                bell.note_taken();
-                let number = datagram.number;
-                let (after, handled) = handle(shared, pass, datagram, turn);
-                pass = after;
-                has_worked = true;
-                match handled {
-                    Handled::Stepped(step) => {
-                        taken.push_reserved(Taken {
-                            datagram: number,
-                            step,
-                        });
-                    }
-                    Handled::Refused => {
-                        left.push_reserved(number);
-                        shared.stop.store(true, Ordering::SeqCst);
-                    }
-                    Handled::Failed(cause) => {
-                        return seat_of(pass, ticket, taken, left, Some(cause));
-                    }
-                }
+        let Ok(()) = take_row(shared, receiver, &mut ticket, &mut row) else {
+            drop(turn);
+            drop(row);
+            return seat_of(pass, ticket, taken, left, Some(Trouble::Memory));
+        };
+        if row.numbers.is_empty() {
+            let _ = MutexGuard::unlock(turn);
+            drop(row);
+            if heard.closed {
+                return seat_of(pass, ticket, taken, left, None);
             }
-            Err(_) => {
-                let _ = MutexGuard::unlock(turn);
-                if heard.closed {
-                    return seat_of(pass, ticket, taken, left, None);
-                }
-                bell.wait_past(rt, heard, has_worked);
-                has_worked = false;
+            bell.wait_past(rt, heard, has_worked);
+            has_worked = false;
+        } else {
+            let (after, trouble) = handle(shared, pass, row, turn, &mut taken, &mut left);
+            pass = after;
+            has_worked = true;
+            if trouble.is_some() {
+                return seat_of(pass, ticket, taken, left, trouble);
             }
         }
     }
@@ -218,98 +196,69 @@ fn seat_of(
     }
 }
 
-/// Makes room for one more number in either list.
-fn has_room(taken: &mut Vec<Taken>, left: &mut Vec<u64>) -> bool
+/// Room for as many numbers more as may be taken at once, in either list and in a row.
+fn room_for(alloc: Global, taken: &mut Vec<Taken>, left: &mut Vec<u64>) -> Option<Row>
     ensures same { (taken.new.items ≡ taken.old.items) × (left.new.items ≡ left.old.items) }
-    ensures room { result ≡ true → (vec_len taken.new < vec_capacity taken.new)
-        × (vec_len left.new < vec_capacity left.new) }
+    ensures room { IfSome result (λ row. IsEmptyRow row
+        × (vec_len taken.new + CAPACITY ≤ vec_capacity taken.new)
+        × (vec_len left.new + CAPACITY ≤ vec_capacity left.new)) }
 {
-    taken.reserve(1).is_ok() && left.reserve(1).is_ok()
+    let Ok(()) = taken.reserve(CAPACITY) else {
+        return None;
+    };
+    let Ok(()) = left.reserve(CAPACITY) else {
+        return None;
+    };
+    match Row::new(alloc) {
+        Ok(row) => Some(row),
+        Err(_) => None,
+    }
 }
 
-/// Makes the call of a datagram, which ends the worker's turn, and sends its replies after the
-/// lock.
+/// Makes the calls of a row, which ends the worker's turn, and sends their replies after the lock.
+/// What the shift does not make is left, and the reader is to stop.
 fn handle<T: Wait, R: Replica, D: Disk + Drop, P: Post, G: Gate>(
     shared: &Shared<'_, T, R, D, P, G>,
     pass: Pass,
-    datagram: Datagram,
+    mut row: Row,
     turn: MutexGuard<'_, ()>,
-) -> (Pass, Handled)
-    ensures { IsHandled pass result.1 result.0 }
+    taken: &mut Vec<Taken>,
+    left: &mut Vec<u64>,
+) -> (Pass, Option<Trouble>)
+    requires row { IsRow row }
+    requires room { (vec_len taken.old + CAPACITY ≤ vec_capacity taken.old)
+        × (vec_len left.old + CAPACITY ≤ vec_capacity left.old) }
+    ensures { IsHandled pass row.numbers.items taken.old.items left.old.items result.1
+        taken.new.items left.new.items result.0 }
 {
-    let alloc = shared.alloc;
-    let number = datagram.number;
-    let Ok(step) = step_of(alloc, datagram) else {
-        drop(turn);
-        return (pass, Handled::Failed(Trouble::Memory));
-    };
-    match shared.shift.call(shared.rt, alloc, pass, step) {
-        Ok((pass, out, made)) => {
-            let _ = MutexGuard::unlock(turn);
-            send_all(shared.post, shared.gate, number, &out);
-            drop(out);
-            (pass, Handled::Stepped(made))
+    let (pass, end) = call_row(shared, pass, &mut row);
+    let _ = MutexGuard::unlock(turn);
+    let Row {
+        numbers,
+        steps,
+        called,
+    } = row;
+    drop(steps);
+    let count = called.len();
+    let is_wanting = tell_all(shared.post, shared.gate, called, taken);
+    match end {
+        End::Failed(trouble) => (pass, Some(trouble)),
+        End::Done => (pass, trouble_if(is_wanting)),
+        End::Full => {
+            leave_rest(numbers.as_slice(), count, left);
+            shared.stop.store(true, Ordering::SeqCst);
+            (pass, trouble_if(is_wanting))
         }
-        Err((pass, fault)) => {
-            let _ = MutexGuard::unlock(turn);
-            (pass, refused(shared.post, shared.gate, number, fault))
-        }
     }
 }
 
-/// The step of a datagram.
-fn step_of(alloc: Global, datagram: Datagram) -> Result<Arc<Step>, NoMemory>
-    ensures { IfOk result (λ step. is_frame (arc_value step) ≡ true) }
+/// That memory ran out, if it did.
+fn trouble_if(is_wanting: bool) -> Option<Trouble>
+    ensures { IfSome result (λ trouble. trouble ≡ troubles.Memory) }
 {
-    let Datagram {
-        number: _,
-        from,
-        bytes,
-        moment,
-    } = datagram;
-    let Ok(bytes) = Octets::new(bytes) else {
-        return Err(NoMemory);
-    };
-    let frame = Step::Frame {
-        from,
-        bytes,
-        now: moment,
-    };
-    match Arc::new(alloc, frame) {
-        Ok(step) => Ok(step),
-        Err(_) => Err(NoMemory),
+    if is_wanting {
+        Some(Trouble::Memory)
+    } else {
+        None
     }
-}
-
-/// What a refused call means for its datagram. A gateway whose disk failed may still have something
-/// to send.
-fn refused<P: Post, G: Gate>(post: &P, gate: &G, number: u64, fault: CallFault) -> Handled
-    ensures { IsRefused fault result }
-{
-    match fault {
-        CallFault::ShiftFull => Handled::Refused,
-        CallFault::Behind { .. } => Handled::Failed(Trouble::Behind),
-        CallFault::Memory => Handled::Failed(Trouble::Memory),
-        CallFault::Node {
-            number: made,
-            fault,
-        } => match fault {
-            NodeFault::Memory => Handled::Failed(Trouble::Memory),
-            NodeFault::Disk { out } => {
-                send_all(post, gate, number, &out);
-                Handled::Stepped(made)
-            }
-            _ => Handled::Stepped(made),
-        },
-    }
-}
-
-/// Sends what a call answered. A reply whose send fails is dropped: the client tries again, or the
-/// gateway does, but for a message at quality of service 0.
-fn send_all<P: Post, G: Gate>(post: &P, gate: &G, number: u64, out: &Arc<Out>) {
-    gate.before_send(number);
-    for reply in out.sends.as_slice() {
-        let _ = post.send(reply.to, reply.bytes.as_slice());
-    }
-    gate.sent(number);
 }

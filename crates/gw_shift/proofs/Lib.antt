@@ -1,5 +1,6 @@
 pub mod Histories
 pub mod Holding
+pub mod Rows
 pub mod Handing
 pub mod Counting
 pub mod Strangers

@@ -24,6 +24,14 @@ seen_by pass = last_of 0 pass.calls
 abbrev pub held_as : ℕ → Step → Result Out Refusal → Held
 held_as number step answer = record { number = number; step = step; answer = answer }
 
+-- calls with their answers as a pass holds them: this is the number of the first, and each other
+-- call has the next one
+abbrev pub held_from : ℕ → List Step → List (Result Out Refusal) → List Held
+held_from number steps [] = []
+held_from number [] (answer ∷ answers) = []
+held_from number (step ∷ steps) (answer ∷ answers) =
+    held_as number step answer ∷ held_from (number + 1) steps answers
+
 -- the pass holds what it held, and this
 abbrev pub with_call : Holder → Held → Holder
 with_call pass made =

@@ -4,3 +4,4 @@ pub mod Closing
 pub mod Glances
 pub mod Legal
 pub mod Passes
+pub mod Rooms

@@ -7,12 +7,14 @@
 //! one history, in which each call stands once, and which leads from what the gateway held at the
 //! opening to the gateway that is handed back.
 //!
-//! - `shift`: a gateway under a lock, with its history (`Shift`): open, call, read what was made,
-//!   end.
+//! - `shift`: a gateway under a lock, with its history (`Shift`): open, call, call several at once,
+//!   read what was made, end.
 //! - `pass`: who may call it (`Pass`).
 //! - `ended`: the shift is over (`Ended`), and is closed with its passes (`Closed`).
 //! - `entry`: a call as the history and as a pass have it.
 //! - `locked`: what is under the lock.
+//! - `row`: several calls with one sync: what is made ready before the lock is taken, and what they
+//!   leave.
 //! - `first`: what it was when the shift was opened, for contracts alone (`First`).
 //! - `gathering`: the deltas that calls made: shares of them are taken under the lock, copies
 //!   outside.
@@ -40,6 +42,7 @@ mod gathering;
 mod laws;
 mod locked;
 mod pass;
+mod row;
 mod shift;
 mod tallying;
 

@@ -12,6 +12,7 @@ use super::fault::CallFault;
 use super::first::First;
 use super::gathering::shares;
 use super::pass::Pass;
+use super::row::{Room, Row, move_behind, row_of};
 use gw_node::{Answer, Node, Out, Step};
 use gw_report::Glimpse;
 use jr_journal::Disk;
@@ -41,11 +42,13 @@ pub struct Locked<R: Replica, D: Disk> {
 }
 
 impl<R: Replica, D: Disk + Drop> Locked<R, D> {
-    ghost use Rattle.std.specs.Prelude.{◌≡◌, ◌≤◌, ◌<◌, ◌+◌, ◌++◌, ◌∷◌, [], ℕ, IfOk, IfErr, vec_len, take, drop, length};
+    ghost use Rattle.std.specs.Prelude.{◌≡◌, ◌≤◌, ◌<◌, ◌+◌, ◌++◌, ◌∷◌, [], ℕ, IfOk, IfErr, vec_len, take, drop, length, map};
     ghost use Rattle.gw_answer.specs.Answers.{said};
     ghost use Rattle.gw_shift.specs.Calls.{Call};
-    ghost use Rattle.gw_shift.specs.inner.Passes.{call, made_after, told_by};
-    ghost use Rattle.gw_shift.specs.inner.Calling.{Entered, NotEntered, IsNotTold};
+    ghost use Rattle.gw_shift.specs.inner.Passes.{call, calls_of, made_after, told_by};
+    ghost use Rattle.gw_shift.specs.Passes.{held_from};
+    ghost use Rattle.gw_shift.specs.inner.Rooms.{IsRoomFor};
+    ghost use Rattle.gw_shift.specs.inner.Calling.{Entered, EnteredInRow, NotEntered, IsNotTold};
     ghost use Rattle.gw_shift.specs.inner.Glances.{all_known};
     ghost use Rattle.gw_node.specs.Glancing.{glimpses_of};
 
@@ -93,6 +96,76 @@ impl<R: Replica, D: Disk + Drop> Locked<R, D> {
         }
         let (answer, kept) = self.make(alloc, pass.place, step);
         Ok((answer, kept, had + 1))
+    }
+
+    /// Makes the first of these calls at the node, at most so many, with one write. Those that were
+    /// made are entered, all at once, so that what is locked is whole at each exit.
+    fn make_all(
+        &mut self,
+        alloc: Global,
+        place: u64,
+        steps: &[Arc<Step>],
+        most: usize,
+        room: Room,
+    ) -> Row
+        requires some { (0 < most) × (most ≤ length steps.now) }
+        requires left { vec_len self.old.history + most ≤ self.old.steps }
+        requires room { IsRoomFor (map arc_value steps.now) room }
+        ensures some { (0 < length result.answers.items) × (length result.answers.items ≤ most) }
+        ensures history { self.new.history.items ≡ self.old.history.items
+            ++ calls_of place (map arc_value steps.now) (map said result.answers.items) }
+        ensures held { result.held.items ≡ held_from (vec_len self.old.history + 1)
+            (map arc_value steps.now) (map said result.answers.items) }
+        ensures many { vec_len result.held ≡ vec_len result.answers }
+        ensures first { self.new.first.value ≡ self.old.first.value }
+        ensures opening { arc_value self.new.opening ≡ arc_value self.old.opening }
+        ensures steps { self.new.steps ≡ self.old.steps }
+    {
+        let Room {
+            shares,
+            replies,
+            row,
+        } = room;
+        let number = self.history.len() as u64 + 1;
+        let replies = self.node.step_all(alloc, &steps[..most], replies);
+        let mut made = row_of(place, number, row, shares, replies);
+        move_behind(&mut self.history, &mut made.entries);
+        made
+    }
+
+    /// Calls of a pass in a row, as many as the history has left at most. What the pass and the
+    /// caller have of those that were made comes back, with the number of the first.
+    pub(crate) fn call_all(
+        &mut self,
+        alloc: Global,
+        pass: &Pass,
+        steps: &[Arc<Step>],
+        room: Room,
+    ) -> Result<(Row, u64), CallFault>
+        requires some { 0 < length steps.now }
+        requires room { IsRoomFor (map arc_value steps.now) room }
+        ensures ok { IfOk result (λ r. EnteredInRow self.old.history.items pass.now
+            (map arc_value steps.now) (map said r.0.answers.items) r.1 self.new.history.items) }
+        ensures held { IfOk result (λ r. r.0.held.items
+            ≡ held_from r.1 (map arc_value steps.now) (map said r.0.answers.items)) }
+        ensures many { IfOk result (λ r. vec_len r.0.held ≡ vec_len r.0.answers) }
+        ensures few { IfOk result (λ r. r.1 + vec_len r.0.answers ≤ MAX_STEPS + 1) }
+        ensures err { IfErr result (λ fault. NotEntered self.old.steps self.old.history.items
+            pass.now fault self.new.history.items) }
+        ensures first { self.new.first.value ≡ self.old.first.value }
+        ensures opening { arc_value self.new.opening ≡ arc_value self.old.opening }
+        ensures steps { self.new.steps ≡ self.old.steps }
+    {
+        let had = self.history.len() as u64;
+        if self.steps <= had {
+            return Err(CallFault::ShiftFull);
+        }
+        if had < pass.seen() {
+            return Err(CallFault::Behind { held: had });
+        }
+        let most = steps.len().min((self.steps - had) as usize);
+        let row = self.make_all(alloc, pass.place, steps, most, room);
+        Ok((row, had + 1))
     }
 
     /// Shares of what was answered to the calls above a number that made a delta, with the numbers

@@ -1,14 +1,15 @@
 //! A gateway that threads share.
 
-ghost use Rattle.std.specs.Prelude.{◌≡◌, ◌≤◌, ◌<◌, ℕ, IfOk, IfErr, Ok, length, vec_capacity, List, []};
+ghost use Rattle.std.specs.Prelude.{◌≡◌, ◌≤◌, ◌<◌, ◌+◌, ℕ, IfOk, IfErr, Ok, length, map, vec_capacity, List, []};
 ghost use Rattle.std.specs.Arc.{arc_value};
 ghost use Rattle.rep_op.specs.declared.op.Op.{Op};
 ghost use Rattle.rep_model.specs.Held.{IsHeld};
+ghost use Rattle.gw_answer.specs.Answers.{said};
 ghost use Rattle.gw_node.specs.Parts.{state_of};
 ghost use Rattle.gw_shift.specs.declared.shift.TheConstants.{MAX_STEPS, MOST_GLANCED};
 ghost use Rattle.gw_shift.specs.Legal.{IsLegal};
 ghost use Rattle.gw_shift.specs.Passes.{Climb, fresh};
-ghost use Rattle.gw_shift.specs.Calling.{Made, NotMade, MayNotTell};
+ghost use Rattle.gw_shift.specs.Calling.{Made, MadeInRow, NotMade, NoneMade, MayNotTell};
 ghost use Rattle.gw_shift.specs.declared.fault.ShiftFault.TheVariants as refusals;
 
 use super::ended::Ended;
@@ -18,7 +19,8 @@ use super::first::First;
 use super::gathering::copies;
 use super::locked::Locked;
 use super::pass::{Pass, passes_of};
-use gw_node::{Node, Out, Step};
+use super::row::{Row, move_behind, room_for};
+use gw_node::{Answer, Node, Out, Step};
 use gw_report::Glimpse;
 use jr_journal::Disk;
 use octets::NoMemory;
@@ -137,6 +139,54 @@ impl<R: Replica, D: Disk + Drop> Shift<R, D> {
                     Ok(out) => Ok((pass, out, number)),
                     Err(fault) => Err((pass, CallFault::Node { number, fault })),
                 }
+            }
+        }
+    }
+
+    /// Makes calls at the gateway, one after the other, under the lock and with one sync for all
+    /// that they make and take (`Node::step_all`). The first ones are made, and the first at least:
+    /// as many as there are answers. The others are for another row. The pass comes back and holds
+    /// the calls that were made, their answers and their numbers, which follow each other; that of
+    /// the first comes back.
+    ///
+    /// A refusal of the gateway is an answer. The faults, in the order in which they are looked for:
+    /// `ShiftFull`, the history has as many calls as the shift was opened for; `Behind`, the pass
+    /// has seen more calls than this history has. With both nothing was done, nor after `Memory`,
+    /// which may stand in their place. If the history has room for some of the calls alone, the
+    /// others are not made.
+    pub fn call_all(
+        &self,
+        rt: &impl Wait,
+        alloc: Global,
+        pass: Pass,
+        steps: &[Arc<Step>],
+    ) -> Result<(Pass, Vec<Answer>, u64), (Pass, CallFault)>
+        requires { 0 < length steps.now }
+        ensures ok { IfOk result (λ r. MadeInRow pass (map arc_value steps.now)
+            (map said r.1.items) r.2 r.0) }
+        ensures numbers { IfOk result (λ r. r.2 + length r.1.items ≤ MAX_STEPS + 1) }
+        ensures err { IfErr result (λ refused. NoneMade pass refused.1 refused.0) }
+    {
+        let mut pass = pass;
+        let Ok(room) = room_for(alloc, steps) else {
+            return Err((pass, CallFault::Memory));
+        };
+        if pass.calls.reserve(steps.len()).is_err() {
+            drop(room);
+            return Err((pass, CallFault::Memory));
+        }
+        let entered = self.locked.lock(rt).call_all(alloc, &pass, steps, room);
+        match entered {
+            Err(fault) => Err((pass, fault)),
+            Ok((row, number)) => {
+                let Row {
+                    entries: _,
+                    mut held,
+                    answers,
+                } = row;
+                move_behind(&mut pass.calls, &mut held);
+                pass.last = number + (answers.len() as u64 - 1);
+                Ok((pass, answers, number))
             }
         }
     }

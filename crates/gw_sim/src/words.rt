@@ -1,9 +1,19 @@
 //! The words of the command line.
 
 use crate::stop::Stop;
+use clap::builder::ValueParser;
 use clap::error::ErrorKind;
 use clap::{Arg, ArgAction, ArgMatches, Command, Error};
 use std::alloc::Global;
+
+/// The largest seed: what a signed number can hold.
+const LARGEST_SEED: u64 = 9_223_372_036_854_775_807;
+
+/// The most events that can be asked for.
+const MOST_EVENTS: u64 = 1_000_000_000;
+
+/// The most gateways that can be asked for.
+const MOST_GATEWAYS: u64 = 8;
 
 /// What was asked for.
 #[derive(Clone, Copy)]
@@ -109,17 +119,17 @@ fn add_rows<'a>(alloc: Global, options: &mut Vec<Arg<'a>>) -> bool {
 
 /// Adds the option `--random`.
 fn add_random<'a>(alloc: Global, options: &mut Vec<Arg<'a>>) -> bool {
-    add(options, seed(valued(word(alloc, "random"))))
+    add(options, number(alloc, "random", 0, LARGEST_SEED))
 }
 
 /// Adds the option `--events`.
 fn add_events<'a>(alloc: Global, options: &mut Vec<Arg<'a>>) -> bool {
-    add_bound(options, events(valued(word(alloc, "events"))))
+    add_bound(options, number(alloc, "events", 1, MOST_EVENTS))
 }
 
 /// Adds the option `--gateways`.
 fn add_gateways<'a>(alloc: Global, options: &mut Vec<Arg<'a>>) -> bool {
-    add_bound(options, gateways(valued(word(alloc, "gateways"))))
+    add_bound(options, number(alloc, "gateways", 1, MOST_GATEWAYS))
 }
 
 /// Adds an option that says how much there is to be of scripts from a seed.
@@ -136,6 +146,11 @@ fn add<'a>(options: &mut Vec<Arg<'a>>, option: Arg<'a>) -> bool {
     let is_added = pushed.is_ok();
     drop(pushed);
     is_added
+}
+
+/// An option whose value is a number from this to that one.
+fn number<'a>(alloc: Global, name: &'a str, least: u64, most: u64) -> Arg<'a> {
+    between(valued(word(alloc, name)), least, most)
 }
 
 /// A word with two hyphens in front.
@@ -186,19 +201,9 @@ fn beside_random<'a>(arg: Arg<'a>) -> Option<Arg<'a>> {
     arg.requires_arg("random").ok()
 }
 
-/// What scripts are made from.
-fn seed<'a>(arg: Arg<'a>) -> Arg<'a> {
-    arg.value_parser(clap::value_parser!(u64).range(0..=i64::MAX))
-}
-
-/// A number of events.
-fn events<'a>(arg: Arg<'a>) -> Arg<'a> {
-    arg.value_parser(clap::value_parser!(u64).range(1..=1_000_000_000))
-}
-
-/// A number of gateways.
-fn gateways<'a>(arg: Arg<'a>) -> Arg<'a> {
-    arg.value_parser(clap::value_parser!(u8).range(1..=8))
+/// A word whose value is a number from this to that one.
+fn between<'a>(arg: Arg<'a>, least: u64, most: u64) -> Arg<'a> {
+    arg.value_parser(ValueParser::Unsigned(least, most))
 }
 
 /// What the words ask for.

@@ -101,19 +101,20 @@ impl Socket {
     {
         let mut socket = UdpSocket::bind(net, address(addr))?;
         ask_for_room(&socket);
-        let poll = Poll::new(net)?;
-        let events = Events::with_capacity(alloc, 4)?;
-        poll.registry()
-            .register(&mut socket, Token(0), Interest::READABLE)?;
-        let local = socket.local_addr()?;
-        Ok(Socket {
-            socket,
-            poll,
-            events,
-            choked: AtomicBool::new(false),
-            local,
-            failures: Failures::none(),
-        })
+        match watched(net, alloc, &mut socket) {
+            Ok((poll, events, local)) => Ok(Socket {
+                socket,
+                poll,
+                events,
+                choked: AtomicBool::new(false),
+                local,
+                failures: Failures::none(),
+            }),
+            Err(error) => {
+                drop(socket);
+                Err(error)
+            }
+        }
     }
 
     /// The two sides, of which one gives each datagram the moment of this clock. Those who read
@@ -140,6 +141,40 @@ impl Socket {
             drops: Tally::none(),
         };
         (ears, Mouth { socket, choked })
+    }
+}
+
+/// A poll that tells when there is something to read of a socket, room for what it tells, and where
+/// the socket is bound.
+fn watched<N: Net>(
+    net: &N,
+    alloc: Global,
+    socket: &mut UdpSocket,
+) -> io::Result<(Poll, Events, SocketAddr)> {
+    let poll = Poll::new(net)?;
+    match watch(alloc, &poll, socket) {
+        Ok((events, local)) => Ok((poll, events, local)),
+        Err(error) => {
+            drop(poll);
+            Err(error)
+        }
+    }
+}
+
+/// Has the poll tell when there is something to read of a socket: room for what it tells, and where
+/// the socket is bound.
+fn watch(alloc: Global, poll: &Poll, socket: &mut UdpSocket) -> io::Result<(Events, SocketAddr)> {
+    let local = socket.local_addr()?;
+    let events = Events::with_capacity(alloc, 4)?;
+    match poll
+        .registry()
+        .register(socket, Token(0), Interest::READABLE)
+    {
+        Ok(()) => Ok((events, local)),
+        Err(error) => {
+            drop(events);
+            Err(error)
+        }
     }
 }
 

@@ -14,19 +14,28 @@ use Rattle.rep_model.specs.Keep.{keep}
 use Rattle.rep_model.specs.Taking.{AllAgree}
 use Rattle.rep_model.proofs.Joins.{all-moved}
 use Rattle.sn_local.specs.declared.config.Config.{Config}
-use Rattle.sn_plan.proofs.Lists.{all-weaken}
+use Rattle.sn_plan.proofs.Lists.{all-weaken, all-append}
 use Rattle.gw_world.specs.declared.event.Event.{Event}
-use Rattle.gw_world.specs.declared.event.Event.TheVariants.{Frame, Tick, Take, Answer as Asks, WriteFails, Compact, Restart, Show}
+use Rattle.gw_world.specs.declared.event.Event.TheVariants.{Frame, Tick, Take, Together as AtOnce, Answer as Asks, WriteFails, Compact, Restart, Show}
+use Rattle.gw_world.specs.declared.event.Call.{Call}
+use Rattle.gw_world.specs.declared.event.Call.TheVariants as calls
 use Rattle.gw_world.specs.declared.event.Answer.{Answer}
-use Rattle.gw_world.specs.declared.event.Answer.TheVariants.{Node, Views, Records, Nothing}
+use Rattle.gw_world.specs.declared.event.Answer.TheVariants.{Node, Row, Views, Records, Nothing}
 use Rattle.gw_answer.specs.declared.out.Out.{Out}
 use Rattle.gw_answer.specs.declared.refusal.Refusal.{Refusal}
 use Rattle.gw_answer.specs.Answers.{said}
 use Rattle.gw_answer.specs.declared.refusal.Refusal.TheVariants as refusals
+use Rattle.gw_answer.specs.declared.fault.NodeFault.{NodeFault}
 use Rattle.gw_answer.specs.declared.fault.NodeFault.TheVariants as faults
+use Rattle.std.specs.declared.alloc.Global.{Global}
+use Rattle.std.specs.declared.sync.Arc.{Arc}
 use Rattle.gw_event.specs.Occasions.{Occasion, Datagram, Clock}
-use Rattle.gw_event.specs.Gateways.{Gateway, new_gateway}
-use Rattle.gw_world.specs.Field.{Field, new_field, IsAt, IsDeltaAt, changed, failing, After, Run}
+use Rattle.gw_event.specs.Gateways.{Gateway, new_gateway, with_refused}
+use Rattle.gw_event.specs.Drives.{left_by, more_records}
+use Rattle.gw_event.specs.Together.{halted_all, AreTorn}
+use Rattle.gw_answer.specs.declared.step.Step.{Step}
+use Rattle.gw_world.specs.Field.{Field, new_field, IsAt, IsDeltaAt, changed, failing, AreStepsOf, TogetherAt, After, Run}
+use Rattle.gw_world.proofs.InRows.{Answers, CallAt, InCalls, CutShort, changed-twice, at-changed, row-moves, row-keeps, torn-row-still}
 use Rattle.gw_world.specs.Steps.{AnswerStep, restarted}
 use Rattle.gw_event.specs.Event.{HaveName, IsConflict, OwnStep, TakeStep, CompactStep, IsWritable}
 use Rattle.gw_world.specs.Steady.{IsKnown, IsSteady}
@@ -36,9 +45,9 @@ use Rattle.gw_world.proofs.Answering.{answered, all-answered}
 use Rattle.gw_world.proofs.Each.{all-at, all-places, each-all}
 use Rattle.gw_node.proofs.Held.{agrees_with_kept}
 use Rattle.gw_world.proofs.Numbers.{First, place_of-first, first-number, first-place_of}
-use Rattle.gw_world.proofs.Steadiness.{Still, Stepped, Fed, still, own-moves, own-writable, take-moves, compact-still, restart-moves, restart-still, AreAllFlush, flush-moved, flush-fed, flush-back, start-flush, no-conflict}
+use Rattle.gw_world.proofs.Steadiness.{Still, Stepped, Fed, still, own-moves, own-writable, take-moves, compact-still, AreAllFlush, flush-moved, flush-fed, flush-back, start-flush, no-conflict}
 use Rattle.gw_world.proofs.Whole.{IsHeld, Whole, held-alike, held-known, whole-silent, whole-still, whole-stepped, whole-back, whole-joined}
-use Rattle.gw_world.proofs.Failures.{OwnDue, DueAs, DueField, after-due, start-due, due-joined}
+use Rattle.gw_world.proofs.Failures.{OwnDue, OwnOrListed, DueInTurn, turn-as-more, DueAs, DueField, after-due, start-due, due-joined}
 
 abbrev pub FlushField : Field → Type 0
 FlushField field = AreAllFlush field.gateways
@@ -60,6 +69,7 @@ IsAtPeace answer = Unit {0}
 
 abbrev pub IsPeaceful : Answer → Type 0
 IsPeaceful (Node answer) = IsAtPeace (said answer)
+IsPeaceful (Row answers) = AllByRecursion IsAtPeace (map said answers)
 IsPeaceful (Views views topics) = Unit {0}
 IsPeaceful (Records count) = Unit {0}
 IsPeaceful Nothing = Unit {0}
@@ -93,26 +103,23 @@ module _ (field : Field) (s : FlushField field) (w : WholeField field) (n i : �
       flush-fed field.gateways s n i old at-first at.1 next made delta (held-known field.gateways n i old at-first at.1 delta (listed k delta there)) u
 
   -- it took what it had refused of its own, or nothing
-  back : (next : Gateway) (d : OwnDue old) → Fed old old.refused next [] → Stepped old next (old.refused ∷ [])
-  back next d u = record { plan = d.plan; drafted = d.drafted; delta = old.refused; proper = d.proper; same = d.same; config = u.config; taken = u.taken; one = refl }
+  back : (next : Gateway) (delta : List Op) (d : OwnDue old.config.gateway old.taken delta) → Fed old delta next [] → Stepped old next (delta ∷ [])
+  back next delta d u = record { plan = d.plan; drafted = d.drafted; delta = delta; proper = d.proper; same = d.same; config = u.config; taken = u.taken; one = refl }
 
-  whole-own : (next : Gateway) (d : OwnDue old) → Still old next [] ⊎ Fed old old.refused next [] → WholeField (changed field i next [])
-  whole-own next d (inl u) = whole-still field.gateways i old next field.deltas [] at.1 u w
-  whole-own next d (inr u) = whole-back field.gateways i old next (old.refused ∷ []) at.1 own-first (s old.config.gateway i old own-first at.1) (back next d u) field.deltas w
+  whole-own : (next : Gateway) (delta : List Op) (d : OwnDue old.config.gateway old.taken delta) → Still old next [] ⊎ Fed old delta next [] → WholeField (changed field i next [])
+  whole-own next delta d (inl u) = whole-still field.gateways i old next field.deltas [] at.1 u w
+  whole-own next delta d (inr u) = whole-back field.gateways i old next (delta ∷ []) at.1 own-first (s old.config.gateway i old own-first at.1) (back next delta d u) field.deltas w
 
-  flush-again-own : (next : Gateway) (d : OwnDue old) → Still old next [] ⊎ Fed old old.refused next [] → FlushField (changed field i next [])
-  flush-again-own next d (inl u) = flush-own next [] (inl u)
-  flush-again-own next d (inr u) = flush-back field.gateways s n i old at-first at.1 next d.plan old.refused d.drafted d.same u
+  flush-again-own : (next : Gateway) (delta : List Op) (d : OwnDue old.config.gateway old.taken delta) → Still old next [] ⊎ Fed old delta next [] → FlushField (changed field i next [])
+  flush-again-own next delta d (inl u) = flush-own next [] (inl u)
+  flush-again-own next delta d (inr u) = flush-back field.gateways s n i old at-first at.1 next d.plan delta d.drafted d.same u
 
-  whole-again : (kept : ℕ) → DueAs field.deltas old → WholeField (changed field i (restarted kept old) [])
-  whole-again kept (inl none) = whole-still field.gateways i old (restarted kept old) field.deltas [] at.1 (restart-still kept old none) w
-  whole-again kept (inr (inl d)) = whole-own (restarted kept old) d (restart-moves kept old)
-  whole-again kept (inr (inr (k, there))) = whole-taken (restarted kept old) [] k old.refused there (restart-moves kept old)
+  one-back : (delta : List Op) → OwnOrListed field.deltas old.config.gateway old.taken delta → (next : Gateway) → Fed old delta next [] → FlushField (changed field i next []) × WholeField (changed field i next [])
+  one-back delta (inl d) next u = (flush-again-own next delta d (inr u), whole-own next delta d (inr u))
+  one-back delta (inr (k, there)) next u = (flush-taken next [] k delta there (inr u), whole-taken next [] k delta there (inr u))
 
-  flush-again : (kept : ℕ) → DueAs field.deltas old → FlushField (changed field i (restarted kept old) [])
-  flush-again kept (inl none) = flush-own (restarted kept old) [] (inl (restart-still kept old none))
-  flush-again kept (inr (inl d)) = flush-again-own (restarted kept old) d (restart-moves kept old)
-  flush-again kept (inr (inr (k, there))) = flush-taken (restarted kept old) [] k old.refused there (restart-moves kept old)
+  pub none-back : (next : Gateway) → Still old next [] → FlushField (changed field i next []) × WholeField (changed field i next [])
+  none-back next u = (flush-own next [] (inl u), whole-still field.gateways i old next field.deltas [] at.1 u w)
 
   -- its next write is to fail
   same-set : (bytes : ℕ) (sync : Bool) → Still old (failing bytes sync old) []
@@ -147,6 +154,89 @@ module _ (field : Field) (s : FlushField field) (w : WholeField field) (n i : �
   take-peaceful k delta (Err (refusals.Disk excuse)) next made there h = tt
   take-peaceful k delta (Err (refusals.Journal fault)) next made there h = tt
   take-peaceful k delta (Err refusals.Memory) next made there h = tt
+
+-- it took so many first ones of what it had refused
+some-back : (m : ℕ) (refused : List (List Op)) (field : Field) (s : FlushField field) (w : WholeField field) (n i : ℕ) (old : Gateway) (at : IsAt field n i old) → DueInTurn field.deltas old.config.gateway old.taken refused
+    → (next : Gateway) → next.config ≡ old.config → next.taken ≡ with_refused m old.taken refused → FlushField (changed field i next []) × WholeField (changed field i next [])
+some-back zero refused field s w n i old at d next config taken = none-back field s w n i old at next (record { config = config; taken = taken; none = refl })
+some-back (suc m) [] field s w n i old at d next config taken = none-back field s w n i old at next (record { config = config; taken = taken; none = refl })
+some-back (suc m) (delta ∷ refused) field s w n i old at d next config taken =
+    let mid : Gateway = record old { taken = old.taken ++ delta } in
+    let one = one-back field s w n i old at delta d.0 mid (record { config = refl; taken = refl; none = refl }) in
+    let more = turn-as-more field.deltas [] old.config.gateway (old.taken ++ delta) refused d.1 in
+    let rest = some-back m refused (changed field i mid []) one.0 one.1 n i mid (at-changed field n i old mid [] at refl) more next config taken in
+    let same : changed (changed field i mid []) i next [] ≡ changed field i next [] = changed-twice field i mid next [] [] in
+    (subst FlushField same rest.0, subst WholeField same rest.1)
+
+again : (field : Field) (s : FlushField field) (w : WholeField field) (n i : ℕ) (old : Gateway) (at : IsAt field n i old) (kept : ℕ) → DueAs field.deltas old → FlushField (changed field i (restarted kept old) []) × WholeField (changed field i (restarted kept old) [])
+again field s w n i old at kept d = some-back (more_records old.config.gateway old.drive (left_by kept old.drive)) old.refused field s w n i old at d (restarted kept old) refl refl
+
+-- ---- calls
+
+pub record SoundCalls (new : Field) (answers : Answers) : Type 0 where
+  pub flush : FlushField new
+  pub whole : WholeField new
+  pub peace : AllByRecursion IsAtPeace answers
+
+pub call-sound : (old new : Field) (number : ℕ) (call : Call) (answer : Result Out Refusal) → CallAt old number call answer new → FlushField old → WholeField old → SoundCalls new (answer ∷ [])
+call-sound old new number (calls.Frame from bytes now) answer h s w =
+    let u = own-moves h.1 (Datagram from bytes) now answer h.2 h.3 h.5 in record {
+      flush = subst FlushField (sym h.6) (flush-own old s w number h.0 h.1 h.4 h.2 h.3 u);
+      whole = subst WholeField (sym h.6) (whole-moved old s w number h.0 h.1 h.4 h.2 h.3 (own-writable h.1 (Datagram from bytes) now answer h.2 h.3 h.5) u);
+      peace = (own-peaceful old s w number h.0 h.1 h.4 (Datagram from bytes) now answer h.2 h.3 h.5, tt);
+    }
+call-sound old new number (calls.Tick now) answer h s w =
+    let u = own-moves h.1 Clock now answer h.2 h.3 h.5 in record {
+      flush = subst FlushField (sym h.6) (flush-own old s w number h.0 h.1 h.4 h.2 h.3 u);
+      whole = subst WholeField (sym h.6) (whole-moved old s w number h.0 h.1 h.4 h.2 h.3 (own-writable h.1 Clock now answer h.2 h.3 h.5) u);
+      peace = (own-peaceful old s w number h.0 h.1 h.4 Clock now answer h.2 h.3 h.5, tt);
+    }
+call-sound old new number (calls.Take delta) answer h s w = record {
+  flush = subst FlushField (sym h.8) (flush-taken old s w number h.0 h.1 h.5 h.2 h.3 (delta - 1) h.4 h.6.1 (take-moves h.1 h.4 answer h.2 h.3 h.7));
+  whole = subst WholeField (sym h.8) (whole-taken old s w number h.0 h.1 h.5 h.2 h.3 (delta - 1) h.4 h.6.1 (take-moves h.1 h.4 answer h.2 h.3 h.7));
+  peace = (take-peaceful old s w number h.0 h.1 h.5 (delta - 1) h.4 answer h.2 h.3 h.6.1 h.7, tt);
+}
+
+calls-sound : (old new : Field) (number : ℕ) (called : List Call) (answers : Answers) → InCalls old number called answers new → FlushField old → WholeField old → SoundCalls new answers
+calls-sound old new number [] [] h s w = record { flush = subst FlushField (sym h) s; whole = subst WholeField (sym h) w; peace = tt }
+calls-sound old new number (call ∷ called) (answer ∷ answers) h s w =
+    let one = call-sound old h.0 number call answer h.1 s w in
+    let rest = calls-sound h.0 new number called answers h.2 one.flush one.whole in
+    record { flush = rest.flush; whole = rest.whole; peace = (one.peace.0, rest.peace) }
+calls-sound old new number [] (answer ∷ answers) h s w = absurd h
+calls-sound old new number (call ∷ called) [] h s w = absurd h
+
+halted-peaceful : (behind : List Step) → AllByRecursion IsAtPeace (halted_all behind)
+halted-peaceful [] = tt
+halted-peaceful (step ∷ behind) = (tt, halted-peaceful behind)
+
+short-sound : (old new : Field) (number : ℕ) (called : List Call) (answers : Answers) → CutShort old number called answers new → FlushField old → WholeField old → SoundCalls new answers
+short-sound old new number called answers c s w =
+    let first = calls-sound old c.mid number c.calm c.said c.led s w in
+    let u = torn-row-still c.gateway c.next c.step c.answer c.steps_behind c.torn in
+    let last = none-back c.mid first.flush first.whole number c.i c.gateway c.at c.next u in
+    let told : IsAtPeace c.answer = subst IsAtPeace (sym c.torn.told) tt in
+    let all = all-append IsAtPeace c.said (c.answer ∷ halted_all c.steps_behind) first.peace (told, halted-peaceful c.steps_behind) in
+    record { flush = subst FlushField (sym c.new_is) last.0; whole = subst WholeField (sym c.new_is) last.1; peace = subst (λ (xs : Answers). AllByRecursion IsAtPeace xs) (sym c.answers_are) all }
+
+pub row-sound : (old new : Field) (number : ℕ) (called : List Call) (answers : Answers) → TogetherAt old number called answers new → FlushField old → WholeField old → SoundCalls new answers
+row-sound old new number called answers h s w =
+    elim (row-moves old new number called answers h) [
+      | inl c ↦ calls-sound old new number called answers c s w
+      | inr c ↦ short-sound old new number called answers c s w
+    ]
+
+-- what each call keeps in a field that is flush and whole, and a failed write keeps, calls with one write keep
+pub row-keeps-sound : (P : Field → Type 0) (number : ℕ) → ((old new : Field) (call : Call) (answer : Result Out Refusal) → CallAt old number call answer new → FlushField old → WholeField old → P old → P new)
+    → ((field : Field) (i : ℕ) (gateway next : Gateway) (behind : List Call) (step : Step) (answer : Result Out Refusal) (more : List Step) → IsAt field number i gateway → AreStepsOf field behind (step ∷ more) → AreTorn gateway step answer more next → FlushField field → WholeField field → P field → P (changed field i next []))
+    → (old new : Field) (called : List Call) (answers : Answers) → TogetherAt old number called answers new → FlushField old → WholeField old → P old → P new
+row-keeps-sound P number f g old new called answers h s w p =
+    let all = row-keeps (λ (x : Field). FlushField x × WholeField x × P x) number
+    (λ before after call answer one q. let sound = call-sound before after number call answer one q.0 q.1 in (sound.flush, sound.whole, f before after call answer one q.0 q.1 q.2))
+    (λ field i gateway next behind step answer more at is t q. let still = none-back field q.0 q.1 number i gateway at next (torn-row-still gateway next step answer more t) in
+    (still.0, still.1, g field i gateway next behind step answer more at is t q.0 q.1 q.2))
+    old new called answers h (s, w, p) in
+    all.2
 
 -- deltas that answer a digest join the list
 pub whole-asked : (field : Field) (w : WholeField field) (j : ℕ) (asker peer : Gateway) (answer : Result Out Refusal) (made : List (List Op)) → slice_get field.gateways j ≡ Some peer → AnswerStep asker peer answer made → Whole field.gateways (field.deltas ++ made)
@@ -183,22 +273,17 @@ pub record Sound (new : Field) (answer : Answer) : Type 0 where
 
 pub after-sound : (old : Field) (event : Event) (answer : Answer) (new : Field) → After old event answer new → FlushField old → WholeField old → DueField old → Sound new answer
 after-sound old (Frame number from bytes now) (Node answer) new h s w d =
-    let u = own-moves h.1 (Datagram from bytes) now (said answer) h.2 h.3 h.5 in record {
-      flush = subst FlushField (sym h.6) (flush-own old s w number h.0 h.1 h.4 h.2 h.3 u);
-      whole = subst WholeField (sym h.6) (whole-moved old s w number h.0 h.1 h.4 h.2 h.3 (own-writable h.1 (Datagram from bytes) now (said answer) h.2 h.3 h.5) u);
-      peaceful = own-peaceful old s w number h.0 h.1 h.4 (Datagram from bytes) now (said answer) h.2 h.3 h.5;
-    }
+    let one = call-sound old new number (calls.Frame from bytes now) (said answer) h s w in
+    record { flush = one.flush; whole = one.whole; peaceful = one.peace.0 }
 after-sound old (Tick number now) (Node answer) new h s w d =
-    let u = own-moves h.1 Clock now (said answer) h.2 h.3 h.5 in record {
-      flush = subst FlushField (sym h.6) (flush-own old s w number h.0 h.1 h.4 h.2 h.3 u);
-      whole = subst WholeField (sym h.6) (whole-moved old s w number h.0 h.1 h.4 h.2 h.3 (own-writable h.1 Clock now (said answer) h.2 h.3 h.5) u);
-      peaceful = own-peaceful old s w number h.0 h.1 h.4 Clock now (said answer) h.2 h.3 h.5;
-    }
-after-sound old (Take number delta) (Node answer) new h s w d = record {
-  flush = subst FlushField (sym h.8) (flush-taken old s w number h.0 h.1 h.5 h.2 h.3 (delta - 1) h.4 h.6.1 (take-moves h.1 h.4 (said answer) h.2 h.3 h.7));
-  whole = subst WholeField (sym h.8) (whole-taken old s w number h.0 h.1 h.5 h.2 h.3 (delta - 1) h.4 h.6.1 (take-moves h.1 h.4 (said answer) h.2 h.3 h.7));
-  peaceful = take-peaceful old s w number h.0 h.1 h.5 (delta - 1) h.4 (said answer) h.2 h.3 h.6.1 h.7;
-}
+    let one = call-sound old new number (calls.Tick now) (said answer) h s w in
+    record { flush = one.flush; whole = one.whole; peaceful = one.peace.0 }
+after-sound old (Take number delta) (Node answer) new h s w d =
+    let one = call-sound old new number (calls.Take delta) (said answer) h s w in
+    record { flush = one.flush; whole = one.whole; peaceful = one.peace.0 }
+after-sound old (AtOnce number calls) (Row answers) new h s w d =
+    let all = row-sound old new number calls (map said answers) h s w in
+    record { flush = all.flush; whole = all.whole; peaceful = all.peace }
 after-sound old (Asks number peer) (Node answer) new h s w d = record {
   flush = subst FlushField (sym h.8) s;
   whole = subst WholeField (sym h.8) (whole-asked old w h.1 h.2 h.3 (said answer) h.4 h.6.1 h.7);
@@ -218,11 +303,8 @@ after-sound old (Compact number) (Node answer) new h s w d =
       peaceful = compact-peaceful h.1 h.2 (said answer) h.4;
     }
 after-sound old (Restart number kept) (Records count) new h s w d =
-    let due = (d h.0 h.1 h.2.1).due in record {
-      flush = subst FlushField (sym h.4) (flush-again old s w number h.0 h.1 h.2 kept due);
-      whole = subst WholeField (sym h.4) (whole-again old s w number h.0 h.1 h.2 kept due);
-      peaceful = tt;
-    }
+    let back = again old s w number h.0 h.1 h.2 kept (d h.0 h.1 h.2.1).due in
+    record { flush = subst FlushField (sym h.4) back.0; whole = subst WholeField (sym h.4) back.1; peaceful = tt }
 after-sound old (Show number) (Views views topics) new h s w d = record { flush = subst FlushField (sym h.4) s; whole = subst WholeField (sym h.4) w; peaceful = tt }
 after-sound old (Frame number from bytes now) (Views views topics) new h s w d = absurd h
 after-sound old (Tick number now) (Views views topics) new h s w d = absurd h
@@ -248,6 +330,18 @@ after-sound old (Asks number peer) Nothing new h s w d = absurd h
 after-sound old (Compact number) Nothing new h s w d = absurd h
 after-sound old (Restart number kept) Nothing new h s w d = absurd h
 after-sound old (Show number) Nothing new h s w d = absurd h
+after-sound old (AtOnce number calls) (Node answer) new h s w d = absurd h
+after-sound old (AtOnce number calls) (Views views topics) new h s w d = absurd h
+after-sound old (AtOnce number calls) (Records count) new h s w d = absurd h
+after-sound old (AtOnce number calls) Nothing new h s w d = absurd h
+after-sound old (Frame number from bytes now) (Row answers) new h s w d = absurd h
+after-sound old (Tick number now) (Row answers) new h s w d = absurd h
+after-sound old (Take number delta) (Row answers) new h s w d = absurd h
+after-sound old (Asks number peer) (Row answers) new h s w d = absurd h
+after-sound old (WriteFails number bytes sync) (Row answers) new h s w d = absurd h
+after-sound old (Compact number) (Row answers) new h s w d = absurd h
+after-sound old (Restart number kept) (Row answers) new h s w d = absurd h
+after-sound old (Show number) (Row answers) new h s w d = absurd h
 
 -- ---- what a run does
 
@@ -285,6 +379,9 @@ start-whole configs = record {
 pub field-sound : (configs : List Config) (events : List Event) (answers : List Answer) (field : Field) → Run (new_field configs) events answers field → Ran field answers
 field-sound configs events answers field h = run-sound (new_field configs) events answers field h (start-flush configs) (start-whole configs) (start-due configs)
 
+pub field-due : (configs : List Config) (events : List Event) (answers : List Answer) (field : Field) → Run (new_field configs) events answers field → DueField field
+field-due configs events answers field h = (field-sound configs events answers field h).due
+
 pub field-whole : (configs : List Config) (events : List Event) (answers : List Answer) (field : Field) → Run (new_field configs) events answers field → WholeField field
 field-whole configs events answers field h = (field-sound configs events answers field h).whole
 
@@ -311,7 +408,7 @@ module _ (field : Field) (w : WholeField field) where
   delta-held delta there = All-contains (λ (D : List Op). AllByRecursion (IsHeld field.gateways) D) field.deltas delta
       (All-from_recursion (λ (D : List Op). AllByRecursion (IsHeld field.gateways) D) field.deltas w.each.lists) there
 
-  delta-agrees : (gateway : Gateway) (delta : List Op) → Contains field.gateways gateway → Contains field.deltas delta → AllAgree gateway.taken delta
+  pub delta-agrees : (gateway : Gateway) (delta : List Op) → Contains field.gateways gateway → Contains field.deltas delta → AllAgree gateway.taken delta
   delta-agrees gateway delta in_field in_list = all-moved (Agrees gateway.taken) delta (λ op h. agrees-alone gateway.taken op (λ other there named.
       held-alike field.gateways other op
       (All-contains (IsHeld field.gateways) gateway.taken other (All-from_recursion (IsHeld field.gateways) gateway.taken (taken-held gateway in_field)) there)
@@ -347,6 +444,13 @@ field-no_conflict configs events answers field number i k gateway delta client n
 pub field-never : (configs : List Config) (events : List Event) (answers : List Answer) (field : Field) (client : Subject) → Run (new_field configs) events answers field → Contains answers (Node (Err (faults.Conflict client))) → ⊥
 field-never configs events answers field client h there =
     All-contains IsPeaceful answers (Node (Err (faults.Conflict client))) (All-from_recursion IsPeaceful answers (field-sound configs events answers field h).peaceful) there
+
+-- nor is a call that came together with others
+pub field-never_together : (configs : List Config) (events : List Event) (answers : List Answer) (field : Field) (replies : List (Result (Arc Out Global) NodeFault)) (client : Subject) → Run (new_field configs) events answers field
+    → Contains answers (Row replies) → Contains (map said replies) (Err (refusals.Conflict client)) → ⊥
+field-never_together configs events answers field replies client h there inside =
+    All-contains IsAtPeace (map said replies) (Err (refusals.Conflict client))
+    (All-from_recursion IsAtPeace (map said replies) (All-contains IsPeaceful answers (Row replies) (All-from_recursion IsPeaceful answers (field-sound configs events answers field h).peaceful) there)) inside
 
 pub field-home : (configs : List Config) (events : List Event) (answers : List Answer) (field : Field) (op : Op) → Run (new_field configs) events answers field → Contains (everything field) op → IsHome field op
 field-home configs events answers field op h there = let w = field-whole configs events answers field h in at-home field w op (held field w op there)

@@ -23,23 +23,25 @@ use Rattle.gw_node.specs.Parts.{State}
 use Rattle.gw_answer.specs.Answers.{said}
 use Rattle.gw_node.specs.Standing.{OwnAgrees}
 use Rattle.gw_world.specs.declared.event.Event.{Event}
-use Rattle.gw_world.specs.declared.event.Event.TheVariants.{Frame, Tick, Take, Answer as Asks, WriteFails, Compact, Restart, Show}
+use Rattle.gw_world.specs.declared.event.Event.TheVariants.{Frame, Tick, Take, Together as AtOnce, Answer as Asks, WriteFails, Compact, Restart, Show}
 use Rattle.gw_world.specs.declared.event.Answer.{Answer}
-use Rattle.gw_world.specs.declared.event.Answer.TheVariants.{Node, Views, Records, Nothing}
+use Rattle.gw_world.specs.declared.event.Answer.TheVariants.{Node, Row, Views, Records, Nothing}
 use Rattle.gw_world.specs.declared.world.WorldFault.{WorldFault}
 use Rattle.gw_world.specs.declared.world.WorldFault.TheVariants as stops
 use Rattle.gw_world.specs.Events.{made_of, answered_of}
-use Rattle.gw_world.specs.Field.{Field, new_field, IsAt, Steps, After, Run, shown, gateway_of, failing}
+use Rattle.gw_world.specs.Whole.{made_of_all}
+use Rattle.gw_world.specs.Field.{Field, new_field, IsAt, Steps, AreStepsOf, TogetherAt, After, Run, shown, gateway_of, failing}
 use Rattle.gw_world.specs.Keeping.{IsShown, AreShown}
 use Rattle.gw_world.specs.Places.{place_of}
 use Rattle.gw_world.specs.Steps.{restarted}
 use Rattle.gw_world.specs.Worlds.{IsWorld, IsStop}
 use Rattle.gw_world.specs.inner.Events.{Moves, Join, EventPlayed, place_in, IsReached, IsLed, IsStood, RunOn, StopsRun, IsStopped}
-use Rattle.gw_world.proofs.Consistency.{field-steady, field-agrees}
+use Rattle.gw_world.proofs.Agreeing.{agrees-along, steps-listed}
+use Rattle.gw_world.proofs.Consistency.{field-sound, field-steady, field-agrees}
 use Rattle.gw_world.proofs.Going.{ask_taken}
 use Rattle.gw_world.proofs.Moving.{place_shown}
 use Rattle.gw_world.proofs.Steadiness.{plan-agrees, own-told}
-use Rattle.gw_world.proofs.Telling.{take-told}
+use Rattle.gw_world.proofs.Telling.{take-told, row-brought}
 
 -- ---- what a run reached
 
@@ -143,6 +145,20 @@ module _ {D : Type 0} {G : Ghosts D} (field : Field) (r : IsReached field) (ks :
           shown = moved i _ news m went.0 went.3;
           listed = ap (λ ds. field.deltas ++ ds) (take-told at.gateway went.0 ops (said answer) went.1 went.2).0 ∙ unlisted next is_next;
         }
+    event_reaches (AtOnce n called) news next (Row answers) (i, place, (more, are, m, (writable, is_next))) =
+        let at = shown_at field.gateways ks i m.old s m.place in
+        let here : IsAt field n i at.gateway = (place_there n i place, at.place) in
+        let given : AreStepsOf field called more = steps-listed field deltas listed called more are in
+        let sound = field-sound r.0 r.1 r.2 field r.3 in
+        let went = m.goes at.gateway at.shown (agrees-along field sound.flush sound.whole n i at.gateway here called more given) in
+        let field_after : Field = record { gateways = set field.gateways i went.0; deltas = field.deltas ++ went.1 } in
+        let done : TogetherAt field n called (map said answers) field_after = (i, at.gateway, went.0, went.1, more, here, given, went.2, went.3, refl) in
+        record {
+          new = field_after;
+          after = done;
+          shown = moved i _ news m went.0 went.4;
+          listed = row-brought field field_after n called (map said answers) done ∙ ap (λ ds. ds ++ made_of_all (map said answers)) listed ∙ sym is_next;
+        }
     event_reaches (Asks n m) news next (Node answer) (i, place, ((j, other, ((asker, peer, at, to, kept), (writable, is_next))), same)) =
         let one = shown_at field.gateways ks i asker s at in
         let two = shown_at field.gateways ks j peer s to in
@@ -223,8 +239,20 @@ module _ {D : Type 0} {G : Ghosts D} (field : Field) (r : IsReached field) (ks :
     event_reaches (Compact n) news next Nothing (i, place, (h, is_next)) = absurd h
     event_reaches (Restart n left) news next Nothing (i, place, (h, is_next)) = absurd h
     event_reaches (Show n) news next Nothing (i, place, (h, same, is_next)) = absurd h
+    event_reaches (AtOnce n called) news next (Node answer) (i, place, h) = absurd h
+    event_reaches (AtOnce n called) news next (Views views topics) (i, place, h) = absurd h
+    event_reaches (AtOnce n called) news next (Records count) (i, place, h) = absurd h
+    event_reaches (AtOnce n called) news next Nothing (i, place, h) = absurd h
+    event_reaches (Frame n from bytes now) news next (Row answers) (i, place, h) = absurd h
+    event_reaches (Tick n now) news next (Row answers) (i, place, h) = absurd h
+    event_reaches (Take n delta) news next (Row answers) (i, place, (ops, there, h, is_next)) = absurd h
+    event_reaches (Asks n m) news next (Row answers) (i, place, ((j, other, h), same)) = absurd h
+    event_reaches (WriteFails n bytes sync) news next (Row answers) (i, place, (h, is_next)) = absurd h
+    event_reaches (Compact n) news next (Row answers) (i, place, (h, is_next)) = absurd h
+    event_reaches (Restart n left) news next (Row answers) (i, place, (h, is_next)) = absurd h
+    event_reaches (Show n) news next (Row answers) (i, place, (h, same, is_next)) = absurd h
 
-map_push : {A B : Type 0} (f : A → B) (xs : List A) (x : A) → map f (xs ++ x ∷ []) ≡ map f xs ++ f x ∷ []
+pub map_push : {A B : Type 0} (f : A → B) (xs : List A) (x : A) → map f (xs ++ x ∷ []) ≡ map f xs ++ f x ∷ []
 map_push f [] x = refl
 map_push f (y ∷ xs) x = ap (λ zs. f y ∷ zs) (map_push f xs x)
 

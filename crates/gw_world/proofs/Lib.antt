@@ -5,11 +5,14 @@ pub mod Moving
 pub mod Fields
 pub mod Numbers
 pub mod Steadiness
+pub mod InRows
 pub mod Each
 pub mod Alone
 pub mod Whole
 pub mod Answering
 pub mod Failures
 pub mod Consistency
+pub mod Agreeing
+pub mod Rowing
 pub mod Telling
 pub mod Showing

@@ -11,7 +11,7 @@ use Rattle.gw_answer.specs.declared.refusal.Refusal.{Refusal}
 use Rattle.gw_event.specs.Gateways.{Gateway}
 use Rattle.gw_node.specs.Parts.{State}
 use Rattle.gw_world.specs.declared.event.Event.{Event}
-use Rattle.gw_world.specs.declared.event.Event.TheVariants.{Frame, Tick, Take, Answer as Asks, WriteFails, Compact, Restart, Show}
+use Rattle.gw_world.specs.declared.event.Event.TheVariants.{Frame, Tick, Take, Together as AtOnce, Answer as Asks, WriteFails, Compact, Restart, Show}
 use Rattle.gw_world.specs.declared.world.WorldFault.{WorldFault}
 use Rattle.gw_world.specs.declared.world.WorldFault.TheVariants as stops
 use Rattle.gw_world.specs.Field.{gateway_of}
@@ -68,6 +68,11 @@ module _ {D : Type 0} {G : Ghosts D} where
     number,
     λ field s listed. ((i, place_shown g 0 field.gateways olds s ∙ place), λ ops there. none ops (there.0, ap (λ ds. slice_get ds (delta - 1)) (sym listed) ∙ there.1)),
   )
+  missing_stops olds deltas (AtOnce g calls) n (stops.NoGateway m) i place h = absurd h
+  missing_stops olds deltas (AtOnce g calls) n (stops.NoDelta m) i place (number, none) = (
+    number,
+    λ field s listed. ((i, place_shown g 0 field.gateways olds s ∙ place), (none.0, none.1, λ ops there. none.2 ops (there.0, ap (λ ds. slice_get ds (none.0 - 1)) (sym listed) ∙ there.1))),
+  )
   missing_stops olds deltas (Frame g from bytes now) n (stops.NoGateway m) i place h = absurd (cc)
   missing_stops olds deltas (Frame g from bytes now) n (stops.NoDelta m) i place h = absurd (cc)
   missing_stops olds deltas (Tick g now) n (stops.NoGateway m) i place h = absurd (cc)
@@ -88,6 +93,7 @@ module _ {D : Type 0} {G : Ghosts D} where
   absent_stops olds deltas (Frame g from bytes now) n none = (refl, λ field s. place_shown g 0 field.gateways olds s ∙ none)
   absent_stops olds deltas (Tick g now) n none = (refl, λ field s. place_shown g 0 field.gateways olds s ∙ none)
   absent_stops olds deltas (Take g delta) n none = (refl, λ field s. place_shown g 0 field.gateways olds s ∙ none)
+  absent_stops olds deltas (AtOnce g calls) n none = (refl, λ field s. place_shown g 0 field.gateways olds s ∙ none)
   absent_stops olds deltas (WriteFails g bytes sync) n none = (refl, λ field s. place_shown g 0 field.gateways olds s ∙ none)
   absent_stops olds deltas (Compact g) n none = (refl, λ field s. place_shown g 0 field.gateways olds s ∙ none)
   absent_stops olds deltas (Restart g kept) n none = (refl, λ field s. place_shown g 0 field.gateways olds s ∙ none)

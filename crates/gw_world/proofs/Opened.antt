@@ -1,5 +1,5 @@
 -- A node that is opened on the disk of a gateway that stopped, or on an empty one.
-use Rattle.std.proofs.Common.{◌≡◌, ℕ, zero, suc, Bool, false, append-nil, take, length, inl, List, [], Option, Some, None, refl, sym, ap, ◌∙◌, subst}
+use Rattle.std.proofs.Common.{◌≡◌, ℕ, zero, suc, Bool, false, append-nil, take, length, List, [], Option, Some, None, refl, sym, ap, ◌∙◌, subst}
 use Rattle.std.specs.Prelude.{IsTrue}
 use Rattle.rep_op.specs.declared.op.Op.{Op}
 use Rattle.rep_op.specs.Sets.{Within, IsConsistent}
@@ -57,7 +57,7 @@ stands_empty gateway i empty =
     record {
       sound = ap (λ (j : Image). fault_of gateway j) empty ∙ no_fault gateway;
       between = subst (λ (ds : List (List Op)). IsBetween [] [] (all_of ds)) none (record { lower = nothing_within; upper = nothing_within });
-      whole = subst (λ (ds : List (List Op)). IsWhole [] [] (all_of ds)) none (inl (counts-refl []));
+      whole = subst (λ (ds : List (List Op)). IsWhole [] [] (all_of ds)) none (zero, counts-refl []);
       roomy = subst (λ (ds : List (List Op)). (k : ℕ) → first_passed (all_of (take k ds)) ≡ None) none none_roomy;
       proper = subst (λ (ds : List (List Op)). IsConsistent (all_of ds)) none tt;
     }

@@ -1,5 +1,5 @@
 -- The gateways of a field stay flush.
-use Rattle.std.proofs.Common.{◌≡◌, Bool, false, append-nil, ℕ, ◌⊎◌, List, [], ◌∷◌, ◌++◌, map, set, slice_get, Option, Some, None, is_some, option_map, true, Contains, true≢false, Result, Ok, Err, refl, sym, ap, ◌∙◌, subst, inl, inr}
+use Rattle.std.proofs.Common.{◌≡◌, false, ℕ, zero, suc, take, ◌⊎◌, List, [], ◌∷◌, ◌++◌, map, set, slice_get, Option, Some, None, is_some, option_map, true, Contains, true≢false, Result, Ok, Err, refl, sym, ap, ◌∙◌, subst, inl, inr}
 use Rattle.std.specs.List.{AllByRecursion}
 use Rattle.std.specs.Option.{option_to_list}
 use Rattle.std.proofs.lemmas.Option.{none-some, same_Some, slice_get-map}
@@ -10,6 +10,7 @@ use Rattle.rep_op.specs.Orders.{clock_of}
 use Rattle.rep_op.specs.Sets.{operation_at, put_at, Same, retain_at}
 use Rattle.rep_ops.specs.Deltas.{IsDelta}
 use Rattle.rep_ops.specs.Making.{IsDeltaOf}
+use Rattle.rep_ops.specs.Splitting.{all_of}
 use Rattle.rep_model.specs.Taking.{AllAgree}
 use Rattle.sn_local.specs.declared.config.Config.{Config}
 use Rattle.sn_plan.specs.declared.plan.Plan.{Plan}
@@ -25,13 +26,14 @@ use Rattle.gw_answer.specs.declared.refusal.Refusal.TheVariants as refusals
 use Rattle.gw_event.specs.Occasions.{Occasion, Datagram, Clock}
 use Rattle.gw_event.specs.Gateways.{Gateway, new_gateway, with_refused}
 use Rattle.gw_world.specs.Field.{Field, IsAt}
-use Rattle.gw_event.specs.Drives.{left_by, has_more}
+use Rattle.gw_event.specs.Drives.{left_by, more_records}
 use Rattle.gw_world.specs.Steps.{restarted}
 use Rattle.gw_event.specs.Event.{HaveName, NothingHappens, IsTorn, IsMade, IsPlan, OwnStep, TakeStep, CompactStep, IsWritable}
 use Rattle.gw_world.specs.Events.{made_of}
 use Rattle.gw_world.specs.Steady.{IsKnown, IsSteady}
 use Rattle.gw_world.proofs.Numbers.{First, place_of-first, first-number, first-set}
 use Rattle.gw_node.proofs.Occurring.{is_there}
+use Rattle.gw_node.proofs.Refused.{without, one_refused, refused_is}
 
 -- a gateway that took nothing and made nothing
 pub record Still (old new : Gateway) (made : List (List Op)) : Type 0 where
@@ -75,21 +77,34 @@ compact-still old new (Err refusals.Full) h = absurd h
 compact-still old new (Err refusals.Exhausted) h = absurd h
 compact-still old new (Err refusals.Memory) h = absurd h
 
--- a restart leaves it, or brings back what was refused
-pub restart-moves : (kept : ℕ) (old : Gateway) → Still old (restarted kept old) [] ⊎ Fed old old.refused (restarted kept old) []
-restart-moves kept old =
-    elim (has_more old.config.gateway old.drive (left_by kept old.drive)) as (λ b. has_more old.config.gateway old.drive (left_by kept old.drive) ≡ b → Still old (restarted kept old) [] ⊎ Fed old old.refused (restarted kept old) []) [
-      | true ↦ λ e. inr (record { config = refl; taken = ap (λ (b : Bool). with_refused b old.taken old.refused) e; none = refl })
-      | false ↦ λ e. inl (record { config = refl; taken = ap (λ (b : Bool). with_refused b old.taken old.refused) e; none = refl })
-    ] refl
+-- what a restart brings back of what was refused
+abbrev pub came-back : ℕ → Gateway → List Op
+came-back kept old = all_of (take (more_records old.config.gateway old.drive (left_by kept old.drive)) old.refused)
 
-nothing-back : (b : Bool) (S refused : List Op) → refused ≡ [] → with_refused b S refused ≡ S
-nothing-back true S refused none = ap (λ (R : List Op). S ++ R) none ∙ append-nil S
-nothing-back false S refused none = refl
+pub restart-feeds : (kept : ℕ) (old : Gateway) → Fed old (came-back kept old) (restarted kept old) []
+restart-feeds kept old = record { config = refl; taken = refused_is (more_records old.config.gateway old.drive (left_by kept old.drive)) old.taken old.refused; none = refl }
+
+none-of-none : (n : ℕ) (deltas : List (List Op)) → deltas ≡ [] → all_of (take n deltas) ≡ []
+none-of-none zero deltas none = refl
+none-of-none (suc n) [] none = refl
+none-of-none (suc n) (delta ∷ deltas) none = absurd cc
+
+pub nothing-came : (kept : ℕ) (old : Gateway) → old.refused ≡ [] → came-back kept old ≡ []
+nothing-came kept old none = none-of-none (more_records old.config.gateway old.drive (left_by kept old.drive)) old.refused none
+
+-- of one delta it brings back nothing, or the whole of it
+pub restart-moves : (kept : ℕ) (old : Gateway) (delta : List Op) → old.refused ≡ delta ∷ [] → Still old (restarted kept old) [] ⊎ Fed old delta (restarted kept old) []
+restart-moves kept old delta one =
+    let n : ℕ = more_records old.config.gateway old.drive (left_by kept old.drive) in
+    let taken : (restarted kept old).taken ≡ with_refused n old.taken (delta ∷ []) = ap (λ (R : List (List Op)). with_refused n old.taken R) one in
+    elim (one_refused n old.taken delta) [
+      | inl none ↦ inl (record { config = refl; taken = taken ∙ none; none = refl })
+      | inr whole ↦ inr (record { config = refl; taken = taken ∙ whole; none = refl })
+    ]
 
 -- where nothing was refused it leaves it
 pub restart-still : (kept : ℕ) (old : Gateway) → old.refused ≡ [] → Still old (restarted kept old) []
-restart-still kept old none = record { config = refl; taken = nothing-back (has_more old.config.gateway old.drive (left_by kept old.drive)) old.taken old.refused none; none = refl }
+restart-still kept old none = record { config = refl; taken = without (more_records old.config.gateway old.drive (left_by kept old.drive)) old.taken old.refused none; none = refl }
 
 made-moves : (old : Gateway) (plan : Plan) (ops : List Op) (delta : Option (List Op)) (new : Gateway) (made : List (List Op)) → IsOfDraft old.config.gateway (seen_of old.taken) plan → plan.ops ≡ ops → IsMade ops old plan delta new made → Still old new made ⊎ Stepped old new made
 made-moves old plan [] None new made p e h = inl (record { config = ap (λ (x : Gateway). x.config) h.1; taken = ap (λ (x : Gateway). x.taken) h.1; none = h.0 })

@@ -1,23 +1,30 @@
 -- A field of gateways, and what a list of events may do to it.
-use Rattle.std.specs.Prelude.{Bool, ◌≡◌, ◌⊎◌, ℕ, ◌-◌, ◌≤◌, List, [], ◌∷◌, ◌++◌, map, Option, Some, None, Result, slice_get, slice_set}
+use Rattle.std.specs.Prelude.{Bool, ◌≡◌, ◌≢◌, ◌⊎◌, ℕ, ◌-◌, ◌≤◌, List, [], ◌∷◌, ◌++◌, map, Option, Some, None, Result, Err, slice_get, slice_set, Contains}
+use Rattle.std.specs.List.{AllByRecursion}
 use Rattle.rep_op.specs.declared.op.Op.{Op}
 use Rattle.rep_model.specs.declared.view.ClientView.{ClientView}
 use Rattle.rep_model.specs.Topics.{all_retained}
 use Rattle.rep_model.specs.Views.{view, clients}
 use Rattle.sn_local.specs.declared.config.Config.{Config}
 use Rattle.gw_world.specs.declared.event.Event.{Event}
-use Rattle.gw_world.specs.declared.event.Event.TheVariants.{Frame, Tick, Take, Answer as Asks, WriteFails, Compact, Restart, Show}
+use Rattle.gw_world.specs.declared.event.Event.TheVariants.{Frame, Tick, Take, Together as AtOnce, Answer as Asks, WriteFails, Compact, Restart, Show}
+use Rattle.gw_world.specs.declared.event.Call.{Call}
+use Rattle.gw_world.specs.declared.event.Call.TheVariants as calls
 use Rattle.gw_world.specs.declared.event.Answer.{Answer}
 use Rattle.gw_answer.specs.declared.out.Out.{Out}
 use Rattle.gw_answer.specs.declared.refusal.Refusal.{Refusal}
+use Rattle.gw_answer.specs.declared.refusal.Refusal.TheVariants as refusals
+use Rattle.gw_answer.specs.declared.step.Step.{Step}
+use Rattle.gw_answer.specs.declared.step.Step.TheVariants as steps
 use Rattle.gw_answer.specs.Answers.{said}
-use Rattle.gw_world.specs.declared.event.Answer.TheVariants.{Node, Views, Records, Nothing}
+use Rattle.gw_world.specs.declared.event.Answer.TheVariants.{Node, Row, Views, Records, Nothing}
 use Rattle.gw_event.specs.Occasions.{Occasion, Datagram, Clock}
 use Rattle.gw_event.specs.Drives.{arranged}
 use Rattle.gw_world.specs.Places.{place_of}
 use Rattle.gw_event.specs.Gateways.{Gateway, new_gateway}
 use Rattle.gw_world.specs.Steps.{AnswerStep, records_left, restarted}
 use Rattle.gw_event.specs.Event.{OwnStep, TakeStep, CompactStep}
+use Rattle.gw_event.specs.Together.{Together, AreAlike}
 
 -- the gateways, and the deltas made or answered, in the order of making
 pub record Field : Type 0 where
@@ -65,6 +72,31 @@ Asked old number other answer new =
 abbrev pub failing : ℕ → Bool → Gateway → Gateway
 failing bytes sync old = record old { drive = arranged bytes sync old.drive }
 
+-- what a call is for the node: a datagram, a tick, or a delta of the field's list
+abbrev pub IsStepOf : Field → Call → Step → Type 0
+IsStepOf field (calls.Frame from bytes now) step = step ≡ steps.Frame from bytes now
+IsStepOf field (calls.Tick now) step = step ≡ steps.Tick now
+IsStepOf field (calls.Take delta) step =
+    (ops : List Op) × IsDeltaAt field delta ops × (step ≡ steps.Take ops)
+
+-- what calls are for the node, each of them; the list is as it is before the first
+abbrev pub AreStepsOf : Field → List Call → List Step → Type 0
+AreStepsOf field [] [] = Unit {0}
+AreStepsOf field (call ∷ rest) (step ∷ more) = IsStepOf field call step × AreStepsOf field rest more
+AreStepsOf field [] (step ∷ more) = ⊥
+AreStepsOf field (call ∷ rest) [] = ⊥
+
+-- memory ran out at none of the calls
+abbrev pub AreFed : List (Result Out Refusal) → Type 0
+AreFed answers = AllByRecursion (λ answer. answer ≢ Err refusals.Memory) answers
+
+-- What calls with one write may do at a gateway. Each call has its own answer, in their order.
+abbrev pub TogetherAt : Field → ℕ → List Call → List (Result Out Refusal) → Field → Type 0
+TogetherAt old number calls answers new =
+    (i : ℕ) × (gateway : Gateway) × (next : Gateway) × (made : List (List Op)) × (called : List Step)
+    × IsAt old number i gateway × AreStepsOf old calls called
+    × Together gateway called answers next made × AreFed answers × (new ≡ changed old i next made)
+
 -- what one event may do: its answer, and the field after it
 abbrev pub After : Field → Event → Answer → Field → Type 0
 After old (Frame number from bytes now) (Node answer) new =
@@ -74,6 +106,7 @@ After old (Take number delta) (Node answer) new =
     (i : ℕ) × (gateway : Gateway) × (next : Gateway) × (made : List (List Op)) × (ops : List Op)
     × IsAt old number i gateway × IsDeltaAt old delta ops
     × TakeStep gateway ops (said answer) next made × (new ≡ changed old i next made)
+After old (AtOnce number calls) (Row answers) new = TogetherAt old number calls (map said answers) new
 After old (Asks number peer) (Node answer) new = Asked old number peer (said answer) new
 After old (WriteFails number bytes sync) Nothing new =
     (i : ℕ) × (gateway : Gateway) × IsAt old number i gateway
@@ -87,30 +120,7 @@ After old (Restart number kept) (Records count) new =
 After old (Show number) (Views views topics) new =
     (i : ℕ) × (gateway : Gateway) × IsAt old number i gateway × (views ≡ shown gateway.taken)
     × (new ≡ old) × (topics ≡ all_retained gateway.taken)
-After old (Frame number from bytes now) (Views views topics) new = ⊥
-After old (Tick number now) (Views views topics) new = ⊥
-After old (Take number delta) (Views views topics) new = ⊥
-After old (Asks number peer) (Views views topics) new = ⊥
-After old (Compact number) (Views views topics) new = ⊥
-After old (Restart number kept) (Views views topics) new = ⊥
-After old (Restart number kept) (Node answer) new = ⊥
-After old (Show number) (Node answer) new = ⊥
-After old (Frame number from bytes now) (Records count) new = ⊥
-After old (Tick number now) (Records count) new = ⊥
-After old (Take number delta) (Records count) new = ⊥
-After old (Asks number peer) (Records count) new = ⊥
-After old (Compact number) (Records count) new = ⊥
-After old (Show number) (Records count) new = ⊥
-After old (WriteFails number bytes sync) (Node answer) new = ⊥
-After old (WriteFails number bytes sync) (Views views topics) new = ⊥
-After old (WriteFails number bytes sync) (Records count) new = ⊥
-After old (Frame number from bytes now) Nothing new = ⊥
-After old (Tick number now) Nothing new = ⊥
-After old (Take number delta) Nothing new = ⊥
-After old (Asks number peer) Nothing new = ⊥
-After old (Compact number) Nothing new = ⊥
-After old (Restart number kept) Nothing new = ⊥
-After old (Show number) Nothing new = ⊥
+After old event answer new = ⊥
 
 -- what a list of events may do, one after the other
 abbrev pub Run : Field → List Event → List Answer → Field → Type 0
@@ -129,6 +139,7 @@ abbrev pub gateway_of : Event → ℕ
 gateway_of (Frame number from bytes now) = number
 gateway_of (Tick number now) = number
 gateway_of (Take number delta) = number
+gateway_of (AtOnce number calls) = number
 gateway_of (Asks number peer) = number
 gateway_of (WriteFails number bytes sync) = number
 gateway_of (Compact number) = number
@@ -138,13 +149,7 @@ gateway_of (Show number) = number
 -- the other gateway that an event names, if it names one
 abbrev pub peer_of : Event → Option ℕ
 peer_of (Asks number peer) = Some peer
-peer_of (Frame number from bytes now) = None
-peer_of (Tick number now) = None
-peer_of (Take number delta) = None
-peer_of (WriteFails number bytes sync) = None
-peer_of (Compact number) = None
-peer_of (Restart number kept) = None
-peer_of (Show number) = None
+peer_of event = None
 
 -- the event names a gateway that is not there, as the one that it is at or as the other
 abbrev pub NamesNoGateway : Field → Event → Type 0
@@ -152,20 +157,33 @@ NamesNoGateway field (Asks number peer) = NoGateway field number ⊎ NoGateway f
 NamesNoGateway field (Frame number from bytes now) = NoGateway field number
 NamesNoGateway field (Tick number now) = NoGateway field number
 NamesNoGateway field (Take number delta) = NoGateway field number
+NamesNoGateway field (AtOnce number calls) = NoGateway field number
 NamesNoGateway field (WriteFails number bytes sync) = NoGateway field number
 NamesNoGateway field (Compact number) = NoGateway field number
 NamesNoGateway field (Restart number kept) = NoGateway field number
 NamesNoGateway field (Show number) = NoGateway field number
 
--- the event names a gateway that is there, and a delta that is not
+-- the event names a gateway that is there, and a delta that is not; calls with one write, as the
+-- delta of one of them
 abbrev pub NamesNoDelta : Field → Event → Type 0
 NamesNoDelta field (Take number delta) =
     ((i : ℕ) × (place_of number field.gateways ≡ Some i))
     × ((ops : List Op) → IsDeltaAt field delta ops → ⊥)
-NamesNoDelta field (Frame number from bytes now) = ⊥
-NamesNoDelta field (Tick number now) = ⊥
-NamesNoDelta field (Asks number peer) = ⊥
-NamesNoDelta field (WriteFails number bytes sync) = ⊥
-NamesNoDelta field (Compact number) = ⊥
-NamesNoDelta field (Restart number kept) = ⊥
-NamesNoDelta field (Show number) = ⊥
+NamesNoDelta field (AtOnce number called) =
+    ((i : ℕ) × (place_of number field.gateways ≡ Some i))
+    × ((delta : ℕ) × Contains called (calls.Take delta)
+    × ((ops : List Op) → IsDeltaAt field delta ops → ⊥))
+NamesNoDelta field event = ⊥
+
+-- a call of several as an event by itself
+abbrev pub by_itself : ℕ → Call → Event
+by_itself number (calls.Frame from bytes now) = Frame number from bytes now
+by_itself number (calls.Tick now) = Tick number now
+by_itself number (calls.Take delta) = Take number delta
+
+-- both fields have the same list, and each gateway of one has the settings, the set and the local
+-- state of that in its place of the other
+pub record AreFieldsAlike (one other : Field) : Type 0 where
+  pub deltas : one.deltas ≡ other.deltas
+  pub gateways : (i : ℕ) (gateway same : Gateway) → slice_get one.gateways i ≡ Some gateway
+      → slice_get other.gateways i ≡ Some same → AreAlike gateway same

@@ -1,14 +1,19 @@
 -- A whole field: the sets of all its gateways, all deltas of its list, and what answers report as
 -- made.
-use Rattle.std.specs.Prelude.{◌≡◌, ℕ, List, [], ◌++◌, flat_map, Option, Some, None, IfSome, slice_get, Contains}
+use Rattle.std.specs.Prelude.{◌≡◌, ℕ, List, [], ◌++◌, map, flat_map, Option, Some, None, IfSome, Result, slice_get, Contains}
+use Rattle.std.specs.List.{AllByRecursion}
 use Rattle.rep_op.specs.declared.op.Op.{Op}
 use Rattle.rep_op.specs.declared.op.Op.TheVariants.{Session as OfSession, Put as OfPut, Ack, Retain as OfRetain}
 use Rattle.rep_op.specs.Sets.{Stands, Within}
+use Rattle.gw_answer.specs.declared.out.Out.{Out}
+use Rattle.gw_answer.specs.declared.refusal.Refusal.{Refusal}
 use Rattle.gw_answer.specs.Answers.{said}
 use Rattle.gw_world.specs.declared.event.Event.{Event}
-use Rattle.gw_world.specs.declared.event.Event.TheVariants.{Frame, Tick, Take, Answer as Asks, WriteFails, Compact, Restart, Show}
+use Rattle.gw_world.specs.declared.event.Event.TheVariants.{Frame, Tick, Take, Together as AtOnce, Answer as Asks, WriteFails, Compact, Restart, Show}
+use Rattle.gw_world.specs.declared.event.Call.{Call}
+use Rattle.gw_world.specs.declared.event.Call.TheVariants as calls
 use Rattle.gw_world.specs.declared.event.Answer.{Answer}
-use Rattle.gw_world.specs.declared.event.Answer.TheVariants.{Node, Views, Records, Nothing}
+use Rattle.gw_world.specs.declared.event.Answer.TheVariants.{Node, Row, Views, Records, Nothing}
 use Rattle.gw_event.specs.Gateways.{Gateway}
 use Rattle.gw_world.specs.Field.{Field, IsAt}
 use Rattle.gw_event.specs.Event.{HaveName}
@@ -47,34 +52,33 @@ AreMadeOnce deltas =
     → slice_get deltas j ≡ Some other
     → slice_get one k ≡ Some a → slice_get other l ≡ Some b → HaveName a b → (i ≡ j) × (k ≡ l)
 
--- the delta that an answer reports as made
+-- the deltas that answers report as made, in their order
+abbrev pub made_of_all : List (Result Out Refusal) → List (List Op)
+made_of_all answers = flat_map made_of answers
+
+-- the delta that an answer reports as made; of calls with one write, those that the answers report
 abbrev pub made_by : Answer → List (List Op)
 made_by (Node answer) = made_of (said answer)
-made_by (Views views topics) = []
-made_by (Records count) = []
-made_by Nothing = []
+made_by (Row answers) = made_of_all (map said answers)
+made_by answer = []
 
--- an event that may make operations: a datagram comes, or time goes by
+-- a call that makes nothing: a delta is taken
+abbrev pub MakesNone : Call → Type 0
+MakesNone (calls.Take delta) = Unit {0}
+MakesNone (calls.Frame from bytes now) = ⊥
+MakesNone (calls.Tick now) = ⊥
+
+-- an event that may make operations: a datagram comes, or time goes by, be it among other calls
 abbrev pub MayMake : Event → Type 0
+MayMake (AtOnce number calls) = ¬ (AllByRecursion MakesNone calls)
 MayMake (Frame number from bytes now) = Unit {0}
 MayMake (Tick number now) = Unit {0}
-MayMake (Take number delta) = ⊥
-MayMake (Asks number peer) = ⊥
-MayMake (WriteFails number bytes sync) = ⊥
-MayMake (Compact number) = ⊥
-MayMake (Restart number kept) = ⊥
-MayMake (Show number) = ⊥
+MayMake event = ⊥
 
 -- an event that arranges a failure
 abbrev pub Arranges : Event → Type 0
 Arranges (WriteFails number bytes sync) = Unit {0}
-Arranges (Frame number from bytes now) = ⊥
-Arranges (Tick number now) = ⊥
-Arranges (Take number delta) = ⊥
-Arranges (Asks number peer) = ⊥
-Arranges (Compact number) = ⊥
-Arranges (Restart number kept) = ⊥
-Arranges (Show number) = ⊥
+Arranges event = ⊥
 
 -- no event of the list arranges a failure
 abbrev pub NoneFails : List Event → Type 0
@@ -88,9 +92,8 @@ told answers = flat_map made_by answers
 -- digest
 abbrev pub brought_by : Answer → List (List Op)
 brought_by (Node answer) = made_of (said answer) ++ answered_of (said answer)
-brought_by (Views views topics) = []
-brought_by (Records count) = []
-brought_by Nothing = []
+brought_by (Row answers) = made_of_all (map said answers)
+brought_by answer = []
 
 -- all deltas that the answers bring, in their order
 abbrev pub brought : List Answer → List (List Op)

@@ -8,8 +8,19 @@ use sn_local::Addr;
 use sn_topic::TopicName;
 use std::sync::Arc;
 
-/// What can happen in a field. Gateways go by their numbers.
+/// A call that comes to a gateway with others.
 #[derive(Drop, PartialEq, Eq)]
+pub enum Call {
+    /// A datagram comes, at a moment in seconds.
+    Frame { from: Addr, bytes: Octets, now: u64 },
+    /// Time goes by: a moment in seconds.
+    Tick { now: u64 },
+    /// The gateway takes a delta of the list, which is numbered from 1.
+    Take { delta: u64 },
+}
+
+/// What can happen in a field. Gateways go by their numbers.
+#[derive(Drop)]
 pub enum Event {
     /// A datagram comes to a gateway, at a moment in seconds.
     Frame {
@@ -27,6 +38,12 @@ pub enum Event {
     Take {
         gateway: u8,
         delta: u64,
+    },
+    /// Calls come to a gateway, one after the other, and what they make and take goes out in one
+    /// write. A delta that one of them takes stands in the list before the first.
+    Together {
+        gateway: u8,
+        calls: Sequence<Call>,
     },
     /// A gateway's digest goes to a peer, and what the peer answers joins the list.
     Answer {
@@ -69,6 +86,7 @@ impl Event {
             Event::Frame { gateway, .. } => *gateway,
             Event::Tick { gateway, .. } => *gateway,
             Event::Take { gateway, .. } => *gateway,
+            Event::Together { gateway, .. } => *gateway,
             Event::Answer { gateway, .. } => *gateway,
             Event::WriteFails { gateway, .. } => *gateway,
             Event::Compact { gateway } => *gateway,
@@ -84,6 +102,7 @@ impl Event {
         match self {
             Event::Answer { peer, .. } => Some(*peer),
             Event::Frame { .. } | Event::Tick { .. } | Event::Take { .. } => None,
+            Event::Together { .. } => None,
             Event::WriteFails { .. } | Event::Compact { .. } => None,
             Event::Restart { .. } | Event::Show { .. } => None,
         }
@@ -96,6 +115,8 @@ pub enum Answer {
     /// A gateway's answer to a frame, a tick, a delta or a compaction; a peer's answer to a digest,
     /// or why there is no digest.
     Node(Result<Arc<Out>, NodeFault>),
+    /// A gateway's answer to each of the calls that came together, in their order.
+    Row(Sequence<Result<Arc<Out>, NodeFault>>),
     /// The clients that a gateway knows, in ascending order, with their views; and the topics of
     /// which something was ever retained, in ascending order, with what is.
     Views(Sequence<(ClientId, ClientView)>, Sequence<(TopicName, Retained)>),

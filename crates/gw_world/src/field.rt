@@ -1,13 +1,14 @@
 //! One event in a field of gateways.
 
-ghost use Rattle.std.specs.Prelude.{◌≡◌, ◌<◌, true, false, Ok, IfOk, OnOk, IfSome, length, map, vec_len};
+ghost use Rattle.std.specs.Prelude.{◌≡◌, ◌<◌, List, MatchOption, true, false, Ok, IfOk, OnOk, IfSome, length, map, vec_len};
 ghost use Rattle.std.specs.List.{AllByRecursion};
 ghost use Rattle.rep_model.specs.Views as spec;
 ghost use Rattle.gw_answer.specs.declared.refusal.Refusal.TheVariants as refusals;
 ghost use Rattle.gw_node.specs.Parts.{state_of, disk_of, records_of};
 ghost use Rattle.gw_answer.specs.Answers.{told, said};
 ghost use Rattle.gw_answer.specs.declared.step.Step.TheVariants as steps;
-ghost use Rattle.gw_world.specs.inner.Events.{IsFed, GoesOn, StartsAgain, FailsNext, IsStood, IsAnswered, IsNoDigest, AskKept, place_in, Moves, StepsAt};
+ghost use Rattle.gw_world.specs.inner.Events.{IsFed, GoesOn, StartsAgain, FailsNext, IsStood, IsAnswered, IsNoDigest, AskKept, IsListed, place_in, Moves, StepsAt};
+ghost use Rattle.rep_op.specs.declared.op.Op.{Op};
 ghost use Rattle.gw_world.specs.Field.{shown};
 
 use gw_node::{Node, NodeFault, Out};
@@ -33,6 +34,31 @@ pub fn place_of<R: Replica>(nodes: &[Node<R, MemoryDisk>], number: u8) -> Option
     None
 }
 
+/// The delta of this number; the first has number 1.
+pub fn delta_at(deltas: &[Delta], number: u64) -> Option<&Delta>
+    ensures { MatchOption result ((ops : List Op) → IsListed deltas.now number ops
+        → ⊥) (λ delta. IsListed deltas.now number delta.now) }
+{
+    if number == 0 {
+        return None;
+    }
+    deltas.get((number - 1) as usize)
+}
+
+/// An answer, unless memory ran out.
+pub fn unless_memory(
+    answer: Result<Arc<Out>, NodeFault>,
+) -> Result<Result<Arc<Out>, NodeFault>, NoMemory>
+    ensures same { IfOk result (λ given. said given ≡ said answer) }
+    ensures memory { OnOk result (IsFed (said answer)) }
+{
+    match answer {
+        Ok(out) => Ok(Ok(out)),
+        Err(NodeFault::Memory) => Err(NoMemory),
+        Err(fault) => Ok(Err(fault)),
+    }
+}
+
 /// The answer of a gateway, unless memory ran out, in it or in its disk.
 fn unless_starved<R: Replica>(
     node: &Node<R, MemoryDisk>,
@@ -45,11 +71,7 @@ fn unless_starved<R: Replica>(
     if node.starved() {
         return Err(NoMemory);
     }
-    match answer {
-        Ok(out) => Ok(Ok(out)),
-        Err(NodeFault::Memory) => Err(NoMemory),
-        Err(fault) => Ok(Err(fault)),
-    }
+    unless_memory(answer)
 }
 
 /// A datagram comes to a gateway.

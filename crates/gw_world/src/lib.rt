@@ -11,9 +11,10 @@
 //! gateway stops and is opened again, a digest goes to a peer), `Worlds` (the result), `Keeping`
 //! (nodes and the gateways that they stand for).
 //!
-//! - `event`: what can happen (`Event`), and what is answered (`Answer`).
+//! - `event`: what can happen (`Event`, `Call`), and what is answered (`Answer`).
 //! - `world`: the result of a run (`World`), or why there is none (`WorldFault`).
 //! - `field`: one event at one gateway, or between two.
+//! - `rows`: calls that come to a gateway together.
 //! - `running`: the run.
 //!
 //! What holds of every run is said in the crate `field_laws`.
@@ -21,10 +22,11 @@
 
 mod event;
 mod field;
+mod rows;
 mod running;
 mod world;
 
-pub use event::{Answer, Event};
+pub use event::{Answer, Call, Event};
 pub use gw_node::{NodeFault, Out};
 pub use running::run;
 pub use world::{World, WorldFault};

@@ -1,23 +1,25 @@
 //! The run.
 
-ghost use Rattle.std.specs.Prelude.{◌≡◌, ◌++◌, ◌∷◌, [], ◌<◌, List, MatchOption, Ok, IfOk, IfErr, OnOk, length, map, vec_len};
+ghost use Rattle.std.specs.Prelude.{◌≡◌, ◌++◌, ◌∷◌, [], ◌<◌, List, Ok, IfOk, IfErr, OnOk, length, map, vec_len};
 ghost use Rattle.std.specs.List.{AllByRecursion};
 ghost use Rattle.gw_answer.specs.declared.step.Step.TheVariants as steps;
 ghost use Rattle.gw_node.specs.Parts.{state_of};
 ghost use Rattle.gw_answer.specs.Answers.{said};
 ghost use Rattle.gw_world.specs.Events.{made_of, answered_of};
-ghost use Rattle.gw_world.specs.inner.Events.{Join, OwnAnswered, StepAnswered, RestartAnswered, FailAnswered, AskAnswered, PeerAnswered, ShowAnswered, IsListed, EventAt, EventPlayed, NoPeer, IsMissing, IsStopped, IsStood, IsLed, Played, StopsRun};
+ghost use Rattle.gw_world.specs.Whole.{made_of_all};
+ghost use Rattle.gw_world.specs.inner.Events.{Join, OwnAnswered, StepAnswered, RowAnswered, RestartAnswered, FailAnswered, AskAnswered, PeerAnswered, ShowAnswered, EventAt, EventPlayed, NoPeer, CallsMissing, IsMissing, IsStopped, IsStood, IsLed, Played, StopsRun};
 ghost use Rattle.gw_event.specs.Gateways.{new_gateway};
 ghost use Rattle.gw_event.specs.Event.{IsWritable};
 ghost use Rattle.gw_world.specs.Keeping.{IsShown, AreShown};
 ghost use Rattle.gw_world.specs.Worlds.{IsWorld, IsStop};
 ghost use Rattle.rep_op.specs.declared.op.Op.{Op};
 
-use super::event::{Answer, Event};
+use super::event::{Answer, Call, Event};
 use super::field::{
-    ask, compact_at, fail_at, frame_at, place_of, restart_at, show_at, take_at, tick_at,
+    ask, compact_at, delta_at, fail_at, frame_at, place_of, restart_at, show_at, take_at, tick_at,
     want_of_memory,
 };
+use super::rows::{row_at, steps_of};
 use super::world::{World, WorldFault};
 use gw_node::{Node, NodeFault, Out};
 use jr_journal::MemoryDisk;
@@ -132,6 +134,45 @@ fn play_take<R: Replica>(
     Ok(Answer::Node(take_at(alloc, nodes, place, delta)?))
 }
 
+/// Puts the deltas on the list that the answers to calls tell of, in their order.
+fn record_row(
+    alloc: Global,
+    deltas: &mut Vec<Delta>,
+    answers: &[Result<Arc<Out>, NodeFault>],
+) -> Result<(), NoMemory>
+    ensures { OnOk result (Join deltas.old.items (made_of_all (map said answers.now))
+        deltas.new.items) }
+{
+    for answer in answers {
+        record_made(alloc, deltas, answer)?;
+    }
+    Ok(())
+}
+
+/// Calls come together to the gateway in this place. Events are numbered.
+fn play_row<R: Replica>(
+    alloc: Global,
+    nodes: &mut Vec<Node<R, MemoryDisk>>,
+    deltas: &mut Vec<Delta>,
+    place: usize,
+    calls: &[Call],
+    number: u64,
+) -> Result<Answer, WorldFault>
+    requires { place < vec_len nodes.old }
+    ensures ok { IfOk result (RowAnswered (map (λ node. state_of R.kept node) nodes.old.items)
+        deltas.old.items place calls.now (map (λ node. state_of R.kept node) nodes.new.items)
+        deltas.new.items) }
+    ensures err { IfErr result (CallsMissing deltas.old.items calls.now number) }
+{
+    let steps = match steps_of(alloc, deltas.as_slice(), calls, number) {
+        Ok(steps) => steps,
+        Err(fault) => return Err(fault),
+    };
+    let answers = row_at(alloc, nodes, place, steps.as_slice())?;
+    record_row(alloc, deltas, answers.as_slice())?;
+    Ok(Answer::Row(Sequence::new(answers)))
+}
+
 /// The journal of the gateway in this place is written anew.
 fn play_compact<R: Replica>(
     alloc: Global,
@@ -233,17 +274,6 @@ fn play_show<R: Replica>(
     Ok(Answer::Views(views, Sequence::new(topics)))
 }
 
-/// The delta of this number; the first has number 1.
-fn delta_at(deltas: &[Delta], number: u64) -> Option<&Delta>
-    ensures { MatchOption result ((ops : List Op) → IsListed deltas.now number ops
-        → ⊥) (λ delta. IsListed deltas.now number delta.now) }
-{
-    if number == 0 {
-        return None;
-    }
-    deltas.get((number - 1) as usize)
-}
-
 /// The answer to an event that nothing but want of memory can refuse.
 fn or_memory(played: Result<Answer, NoMemory>) -> Result<Answer, WorldFault>
     ensures ok { IfOk result (λ answer. played ≡ Ok answer) }
@@ -285,6 +315,9 @@ fn play_at<R: Replica>(
             Some(delta) => or_memory(play_take(alloc, nodes, place, delta)),
             None => Err(WorldFault::NoDelta { event: number }),
         },
+        Event::Together { calls, .. } => {
+            play_row(alloc, nodes, deltas, place, calls.as_slice(), number)
+        }
         Event::Answer { peer, .. } => {
             play_answer(alloc, nodes.as_slice(), deltas, place, *peer, number)
         }

@@ -14,7 +14,7 @@ use Rattle.jr_journal.specs.declared.piece.Piece.{Piece}
 use Rattle.jr_journal.specs.declared.piece.Piece.TheVariants.{Whole, Seal, Torn, Bad}
 use Rattle.jr_journal.specs.declared.piece.Found.{Found}
 use Rattle.jr_journal.specs.Records.{delta_bytes, written, body_at, record_at, piece_at, made, ended, joined, one_record, one_seal, found}
-use Rattle.jr_journal.specs.inner.Records.{IsReadable}
+use Rattle.jr_journal.specs.Readable.{IsReadable}
 use Rattle.jr_journal.proofs.Pieces.{IsRecord, record_shape, record_again, record_same, seal_same, found_record, found_seal, found_second_seal, found_torn, found_bad, found_nothing, found_passed, found_skip}
 
 -- ---- pieces after pieces

@@ -13,7 +13,7 @@ use Rattle.jr_disk.specs.declared.disk.Plan.TheVariants.{Stop, KeepBack, FailSyn
 use Rattle.jr_journal.specs.declared.piece.Found.{Found}
 use Rattle.jr_disk.specs.Disk.{SlotBytes, Slots, at, replaced, image, appended, all_synced, AppendsAs, SyncsAs}
 use Rattle.jr_journal.specs.Records.{written, slot_content, generation_in, records}
-use Rattle.jr_journal.specs.inner.Records.{IsReadable}
+use Rattle.jr_journal.specs.Readable.{IsReadable}
 use Rattle.jr_journal.specs.Crashes.{Leaves, LeavesOneMore}
 use Rattle.jr_journal.specs.Arranged.{after_append, IsStruck, AppendedAs}
 use Rattle.jr_journal.specs.inner.Journals.{is_in_use}
@@ -86,20 +86,20 @@ durable_after gateway slot generation halted old new delta kept runs readable is
 -- ---- the failure that came
 
 -- so much went out
-pub struck_short : (r : Result (Unit {0}) Short) (Honest : Type 0) (slot : Slot) (old new : Slots) (delta : List Op) (bytes : List ℕ) → true ≡ is_err r → bytes ≡ written delta
-    → (Honest → IfErr r (λ short. new ≡ replaced old slot (appended (at old slot) (take short.written bytes)))) → IsStruck Honest old slot (written delta) new
-struck_short (Ok done) Honest slot old new delta bytes e spelled is = absurd cc
-struck_short (Err short) Honest slot old new delta bytes e spelled is = (
+pub struck_short : (r : Result (Unit {0}) Short) (Honest : Type 0) (slot : Slot) (old new : Slots) (out bytes : List ℕ) → true ≡ is_err r → bytes ≡ out
+    → (Honest → IfErr r (λ short. new ≡ replaced old slot (appended (at old slot) (take short.written bytes)))) → IsStruck Honest old slot out new
+struck_short (Ok done) Honest slot old new out bytes e spelled is = absurd cc
+struck_short (Err short) Honest slot old new out bytes e spelled is = (
   Stop short.written,
   λ honest.
       is honest ∙ ap (λ xs. replaced old slot (appended (at old slot) (take short.written xs))) spelled
-      ∙ ap (λ xs. replaced old slot (appended (at old slot) xs)) (sym (take_min short.written (written delta))),
+      ∙ ap (λ xs. replaced old slot (appended (at old slot) xs)) (sym (take_min short.written out)),
 )
 
 -- all went out, and the sync after it failed
-pub struck_kept : (Honest : Type 0) (slot : Slot) (old middle new : Slots) (delta : List Op) (bytes : List ℕ) → bytes ≡ written delta
-    → (Honest → middle ≡ replaced old slot (appended (at old slot) bytes)) → (Honest → new ≡ middle) → IsStruck Honest old slot (written delta) new
-struck_kept Honest slot old middle new delta bytes spelled e f =
+pub struck_kept : (Honest : Type 0) (slot : Slot) (old middle new : Slots) (out bytes : List ℕ) → bytes ≡ out
+    → (Honest → middle ≡ replaced old slot (appended (at old slot) bytes)) → (Honest → new ≡ middle) → IsStruck Honest old slot out new
+struck_kept Honest slot old middle new out bytes spelled e f =
     (KeepBack, λ honest. f honest ∙ e honest ∙ ap (λ xs. replaced old slot (appended (at old slot) xs)) spelled)
 
 -- ---- where it is known what is arranged

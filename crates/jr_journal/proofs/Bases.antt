@@ -13,7 +13,7 @@ use Rattle.jr_journal.specs.declared.piece.Piece.TheVariants.{Seal}
 use Rattle.jr_journal.specs.declared.piece.Found.{Found}
 use Rattle.jr_journal.specs.declared.content.SlotContent.TheVariants.{Unsealed, Sealed, Broken}
 use Rattle.jr_journal.specs.Records.{delta_bytes, written, made, ended, joined, one_record, one_seal, found, piece_at, slot_content, magic, base_bytes, begins, after_header}
-use Rattle.jr_journal.specs.inner.Records.{IsReadable}
+use Rattle.jr_journal.specs.Readable.{IsReadable}
 use Rattle.jr_journal.proofs.Append.{made_same, found_append, found_written, found_front, length_written}
 use Rattle.jr_journal.proofs.Pieces.{found_seal, found_nothing}
 use Rattle.jr_journal.proofs.Contents.{IsSealed, content_cut, content_whole}
@@ -25,18 +25,18 @@ begins_itself xs = (bytes_eq-Decides xs xs).1 refl
 abbrev pub base_of : List (List Op) → List ℕ
 base_of base = flat_map written base
 
-abbrev many : List (List Op) → Found
-many base = made base false (length (base_of base)) false
+abbrev pub many : Bool → List (List Op) → Found
+many sealed base = made base sealed (length (base_of base)) false
 
-found_many : (base : List (List Op)) → AllByRecursion IsReadable base → found 0 false (base_of base) ≡ many base
-found_many [] h = found_nothing 0 false
-found_many (delta ∷ base) h =
-    let one = one_record delta (length (delta_bytes delta)) false in
+pub found_many : (s : Bool) (base : List (List Op)) → AllByRecursion IsReadable base → found 0 s (base_of base) ≡ many s base
+found_many s [] h = found_nothing 0 s
+found_many s (delta ∷ base) h =
+    let one = one_record delta (length (delta_bytes delta)) s in
     let size = length_written delta in
-    let more : found 0 false (written delta ++ base_of base) ≡ joined one (found 0 false (base_of base)) =
-    found_append 0 false (written delta) (base_of base) one (found_written false delta h.0) refl (omega (arith, size)) in
-    more ∙ (ap (λ q. joined one q) (found_many base h.1)
-    ∙ made_same (delta ∷ base) (delta ∷ base) false (5 + length (delta_bytes delta) + length (base_of base)) (length (written delta ++ base_of base)) false refl (omega (arith, size, length-append (written delta) (base_of base))))
+    let more : found 0 s (written delta ++ base_of base) ≡ joined one (found 0 s (base_of base)) =
+    found_append 0 s (written delta) (base_of base) one (found_written s delta h.0) refl (omega (arith, size)) in
+    more ∙ (ap (λ q. joined one q) (found_many s base h.1)
+    ∙ made_same (delta ∷ base) (delta ∷ base) s (5 + length (delta_bytes delta) + length (base_of base)) (length (written delta ++ base_of base)) false refl (omega (arith, size, length-append (written delta) (base_of base))))
 
 seal_piece : piece_at 83 [] ≡ Seal
 unfolding piece_at
@@ -50,8 +50,8 @@ whole_of base = made (base ++ []) true (length (base_of base) + 1) false
 
 pub found_body : (base : List (List Op)) → AllByRecursion IsReadable base → found 0 false (body_of base) ≡ whole_of base
 found_body base h =
-    found_append 0 false (base_of base) (83 ∷ []) (many base) (found_many base h) refl (omega arith)
-    ∙ ap (λ q. joined (many base) q) (found_seal 83 [] seal_piece ∙ ap (λ q. joined one_seal q) (found_nothing 0 true))
+    found_append 0 false (base_of base) (83 ∷ []) (many false base) (found_many false base h) refl (omega arith)
+    ∙ ap (λ q. joined (many false base) q) (found_seal 83 [] seal_piece ∙ ap (λ q. joined one_seal q) (found_nothing 0 true))
 
 -- cut before the seal, no seal is found and nothing bad
 pub record IsOpen (bytes : List ℕ) : Type 0 where
@@ -62,6 +62,12 @@ pub record IsOpen (bytes : List ℕ) : Type 0 where
 
 open_at : (xs ys : List ℕ) → ys ≡ xs → IsOpen xs → IsOpen ys
 open_at xs ys e h = subst IsOpen (sym e) h
+
+-- a cut behind a front part
+pub take_behind : (n : ℕ) (xs ys : List ℕ) → length xs ≤ n → take n (xs ++ ys) ≡ xs ++ take (n - length xs) ys
+take_behind n [] ys le = ap (λ k. take k ys) (let e : n ≡ n - 0 = omega arith in e)
+take_behind zero (x ∷ xs) ys le = absurd (omega arith)
+take_behind (suc n) (x ∷ xs) ys le = ap (λ zs. x ∷ zs) (take_behind n xs ys (omega arith) ∙ ap (λ k. xs ++ take k ys) (let e : n - length xs ≡ suc n - suc (length xs) = omega arith in e))
 
 open_front : (base : List (List Op)) (n : ℕ) → AllByRecursion IsReadable base → IsOpen (take n (base_of base))
 open_front [] n h = open_at [] (take n []) (take_all n [] (omega arith)) (record { pieces = ended false false; is = found_nothing 0 false; unsealed = refl; good = refl })
@@ -81,11 +87,6 @@ open_front (delta ∷ base) n h =
             good = rest.good;
           })
     ]
-  where
-    take_behind : (n : ℕ) (xs ys : List ℕ) → length xs ≤ n → take n (xs ++ ys) ≡ xs ++ take (n - length xs) ys
-    take_behind n [] ys le = ap (λ k. take k ys) (let e : n ≡ n - 0 = omega arith in e)
-    take_behind zero (x ∷ xs) ys le = absurd (omega arith)
-    take_behind (suc n) (x ∷ xs) ys le = ap (λ zs. x ∷ zs) (take_behind n xs ys (omega arith) ∙ ap (λ k. xs ++ take k ys) (let e : n - length xs ≡ suc n - suc (length xs) = omega arith in e))
 
 -- ---- with the header
 

@@ -10,7 +10,7 @@ use Rattle.jr_journal.specs.declared.piece.Found.{Found}
 use Rattle.jr_disk.specs.Disk.{SlotBytes, Slots, at, bytes_of, all_synced, image, after_crash}
 use Rattle.jr_journal.specs.inner.Disk.{synced_part}
 use Rattle.jr_journal.specs.Records.{base_bytes, slot_content, records}
-use Rattle.jr_journal.specs.inner.Records.{IsReadable}
+use Rattle.jr_journal.specs.Readable.{IsReadable}
 use Rattle.jr_journal.specs.Crashes.{Opens, Leaves, LeavesEither}
 use Rattle.jr_journal.specs.Arranged.{after_append}
 use Rattle.jr_journal.specs.Journals.{other, emptied}

@@ -8,6 +8,7 @@ pub mod Bases
 pub mod Readable
 pub mod Calm
 pub mod Appending
+pub mod Several
 pub mod Compacted
 pub mod Begun
 pub mod Opened

@@ -6,7 +6,7 @@ use Rattle.rep_ops.specs.Spelling.{spelling, IsWithinLimit}
 use Rattle.rep_op.specs.Values.{AreValues}
 use Rattle.rep_ops.proofs.Format.{read_again}
 use Rattle.jr_journal.specs.Records.{delta_bytes}
-use Rattle.jr_journal.specs.inner.Records.{IsReadable}
+use Rattle.jr_journal.specs.Readable.{IsReadable}
 
 pub readable : (delta : List Op) → IsDelta delta → AreValues delta → IsWithinLimit delta → IsReadable delta
 unfolding delta_bytes

@@ -12,7 +12,7 @@ use Rattle.jr_journal.specs.declared.content.SlotContent.TheVariants.{Alien, Uns
 use Rattle.jr_disk.specs.Disk.{SlotBytes, Slots, Image, at, replaced, bytes_of, image, appended, all_synced, left_of, after_crash}
 use Rattle.jr_journal.specs.inner.Disk.{synced_part}
 use Rattle.jr_journal.specs.Records.{delta_bytes, written, joined, ended, one_record, slot_content, generation_in, chosen, records}
-use Rattle.jr_journal.specs.inner.Records.{IsReadable}
+use Rattle.jr_journal.specs.Readable.{IsReadable}
 use Rattle.jr_journal.specs.Crashes.{Leaves, LeavesOneMore}
 use Rattle.jr_journal.specs.Journals.{other}
 use Rattle.jr_journal.specs.inner.Journals.{is_below, leads, is_settled, is_in_use}

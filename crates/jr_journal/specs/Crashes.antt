@@ -23,6 +23,11 @@ abbrev pub LeavesOneMore : ℕ → Slots → List (List Op) → List Op → Type
 LeavesOneMore gateway d deltas delta =
     EachCrash (λ i. Opens gateway deltas i ⊎ Opens gateway (deltas ++ delta ∷ []) i) d
 
+-- a crash now leaves a journal of these records and of some first ones of others, each whole
+abbrev pub LeavesSome : ℕ → Slots → List (List Op) → List (List Op) → Type 0
+LeavesSome gateway d deltas more =
+    EachCrash (λ i. (n : ℕ) × Opens gateway (deltas ++ take n more) i) d
+
 -- a crash now leaves a journal of these records, or of the base instead
 abbrev pub LeavesEither : ℕ → Slots → List (List Op) → List (List Op) → Type 0
 LeavesEither gateway d deltas base =

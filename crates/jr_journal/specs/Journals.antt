@@ -32,6 +32,14 @@ IsAppendFault Halted = Unit {0}
 IsAppendFault Foreign = ⊥
 IsAppendFault (BadRecord place from) = ⊥
 
+-- a fault that an append of several records may report: Disk or Halted
+abbrev pub IsWriteFault : JournalFault → Type 0
+IsWriteFault Disk = Unit {0}
+IsWriteFault Halted = Unit {0}
+IsWriteFault Memory = ⊥
+IsWriteFault Foreign = ⊥
+IsWriteFault (BadRecord place from) = ⊥
+
 -- a fault that a compaction may report: those of an append, and Foreign
 abbrev pub IsCompactFault : JournalFault → Type 0
 IsCompactFault Disk = Unit {0}

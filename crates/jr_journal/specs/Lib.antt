@@ -1,4 +1,5 @@
 pub mod Records
+pub mod Readable
 pub mod Faults
 pub mod Crashes
 pub mod Journals

@@ -24,6 +24,10 @@ delta_bytes delta = spelling delta
 abbrev pub written : List Op → List ℕ
 written delta = 68 ∷ big_bytes 4 (length (delta_bytes delta)) ++ delta_bytes delta
 
+-- records one behind the other
+abbrev pub written_all : List (List Op) → List ℕ
+written_all deltas = flat_map written deltas
+
 -- the first five bytes of a header, which say whose it is
 abbrev pub magic : ℕ → List ℕ
 magic gateway = 83 ∷ 78 ∷ 74 ∷ 49 ∷ gateway ∷ []

@@ -5,7 +5,7 @@ ghost use Rattle.std.specs.Prelude.{ℕ, ◌≡◌, ◌≤◌, ◌<◌, ◌⊎�
 ghost use Rattle.std.specs.List.{AllByRecursion};
 ghost use Rattle.jr_disk.specs.Disk.{at, replaced, appended};
 ghost use Rattle.jr_journal.specs.Records.{header, written, base_bytes};
-ghost use Rattle.jr_journal.specs.inner.Records.{IsReadable};
+ghost use Rattle.jr_journal.specs.Readable.{IsReadable};
 ghost use Rattle.jr_journal.specs.Arranged.{after_append, AppendedAs};
 ghost use Rattle.jr_journal.specs.Journals.{emptied};
 ghost use Rattle.jr_journal.specs.Journals as spec;

@@ -7,6 +7,8 @@ use crate::compacting::{base_of, other, write_anew};
 use crate::fault::JournalFault;
 use crate::opening::{Recovered, recover};
 use crate::record::record_of;
+use crate::records::Records;
+use crate::syncing::append_synced;
 use jr_disk::{Disk, MemoryDisk, Slot};
 use rep_ops::Delta;
 use std::alloc::Global;
@@ -26,11 +28,11 @@ pub struct Journal<D: Disk> {
 impl<D: Disk + Drop> Journal<D> {
     ghost use Rattle.std.specs.Prelude.{◌≡◌, ◌≢◌, ◌≤◌, ◌<◌, ◌+◌, ◌↔◌, true, false, None, [], ◌∷◌, ◌++◌, IfOk, IfErr, OnOk, OnErr, IsErrOf, IsTrue, MatchResult};
     ghost use Rattle.jr_disk.specs.Disk.{at, image};
-    ghost use Rattle.jr_journal.specs.Records.{written, base_bytes, slot_content, generation_in, records};
+    ghost use Rattle.jr_journal.specs.Records.{written, written_all, base_bytes, slot_content, generation_in, records};
     ghost use Rattle.jr_journal.specs.Faults.{is_fresh, IsFault, fault_of};
-    ghost use Rattle.jr_journal.specs.Crashes.{Leaves, LeavesOneMore, LeavesEither, recovered, LeavesNoMore};
+    ghost use Rattle.jr_journal.specs.Crashes.{Leaves, LeavesOneMore, LeavesSome, LeavesEither, recovered, LeavesNoMore};
     ghost use Rattle.jr_journal.specs.Arranged.{after_append, IsStruck, AppendedAs, is_quiet, IsUnhurt};
-    ghost use Rattle.jr_journal.specs.Journals.{IsAppendFault, emptied, last_generation, IsCompactFault, IsBeforeWriting, IsTried};
+    ghost use Rattle.jr_journal.specs.Journals.{IsAppendFault, IsWriteFault, emptied, last_generation, IsCompactFault, IsBeforeWriting, IsTried};
     ghost use Rattle.jr_journal.specs.Opening.{synced_slots, slot_read, generation_read};
     ghost use Rattle.jr_journal.specs.Journals as spec;
     ghost use Rattle.jr_journal.specs.Parts.{disk_of, gateway_of, slot_of, generation_of};
@@ -165,6 +167,57 @@ impl<D: Disk + Drop> Journal<D> {
         if self.disk.sync(self.slot).is_err() {
             return Err(JournalFault::Disk);
         }
+        self.halted = false;
+        Ok(())
+    }
+
+    /// Adds records, all of them in one append of the disk and one sync. At `Ok` they are synced.
+    /// After `Disk` the journal is halted, and a crash leaves the records from before and some
+    /// first ones of these, each whole.
+    ///
+    /// `Halted` where the journal is halted; else `Disk`. It takes no memory.
+    pub fn append_all(&mut self, more: &Records) -> Result<(), JournalFault>
+        ensures halted { IsErrOf result JournalFault.Halted ↔ (parts.is_halted self.old ≡ true) }
+        ensures same { (gateway_of self.new ≡ gateway_of self.old)
+            × (slot_of self.new ≡ slot_of self.old) }
+        ensures generation { generation_of self.new ≡ generation_of self.old }
+        ensures faults { IfErr result IsWriteFault }
+        ensures goes_on { OnOk result (parts.is_halted self.new ≡ false) }
+        ensures halts { IsErrOf result JournalFault.Disk → parts.is_halted self.new ≡ true }
+        ensures counts { D.failures (disk_of self.old) ≤ D.failures (disk_of self.new) }
+        ensures cause { IsErrOf result JournalFault.Disk
+            → D.failures (disk_of self.old) < D.failures (disk_of self.new) }
+        ensures stays { IsErrOf result JournalFault.Halted
+            → ((disk_of self.new) ≡ (disk_of self.old)) × (parts.is_halted self.new ≡ true) }
+        ensures starved { D.starved (disk_of self.old) ≡ true
+            → D.starved (disk_of self.new) ≡ true }
+        ensures exact { D.honest → OnOk result (D.slots (disk_of self.new) ≡ after_append None
+            (D.slots (disk_of self.old)) (slot_of self.old) (written_all more.now)) }
+        // After it every crash leaves the records from before and all of these.
+        ensures durable { D.honest → OnOk result
+            (Leaves (gateway_of self.old) (D.slots (disk_of self.new))
+            (records (gateway_of self.old) (image (D.slots (disk_of self.old))) ++ more.now)) }
+        // Where it failed, some last ones of these may be missing.
+        ensures torn { D.honest → IsErrOf result JournalFault.Disk
+            → LeavesSome (gateway_of self.old) (D.slots (disk_of self.new))
+            (records (gateway_of self.old) (image (D.slots (disk_of self.old)))) more.now }
+        // The slots are as one of the failures leaves them.
+        ensures struck { IsErrOf result JournalFault.Disk
+            → IsStruck D.honest (D.slots (disk_of self.old)) (slot_of self.old)
+            (written_all more.now) (D.slots (disk_of self.new)) }
+        // Where it is known which failure is arranged, so are the outcome and the slots.
+        ensures known { D.honest → D.starved (disk_of self.new) ≡ false
+            → AppendedAs (D.outlook (disk_of self.old)) (D.slots (disk_of self.old))
+            (slot_of self.old) (written_all more.now) result (D.slots (disk_of self.new))
+            (D.outlook (disk_of self.new)) }
+    {
+        let halted = self.halted;
+        if halted {
+            return Err(JournalFault::Halted);
+        }
+        let bytes = more.as_slice();
+        self.halted = true;
+        append_synced(&mut self.disk, self.slot, bytes)?;
         self.halted = false;
         Ok(())
     }

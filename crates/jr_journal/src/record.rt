@@ -4,7 +4,7 @@ ghost use Rattle.std.specs.Prelude.{◌≡◌, ◌≤◌, ◌++◌, length, take
 ghost use Rattle.byteorder.specs.Endian.{big_bytes};
 ghost use Rattle.rep_ops.specs.Spelling.{max_octets};
 ghost use Rattle.jr_journal.specs.Records.{delta_bytes, written};
-ghost use Rattle.jr_journal.specs.inner.Records.{IsReadable};
+ghost use Rattle.jr_journal.specs.Readable.{IsReadable};
 
 use crate::piece::RECORD;
 use byteorder::{BigEndian, ByteOrder};

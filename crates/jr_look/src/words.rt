@@ -1,5 +1,6 @@
 //! The words of the command line.
 
+use clap::builder::ValueParser;
 use clap::{Arg, ArgAction, ArgMatches, Command};
 use std::alloc::Global;
 
@@ -50,7 +51,7 @@ fn gateway<'a>(alloc: Global) -> Arg<'a> {
     Arg::new(alloc, "gateway")
         .long("gateway")
         .action(ArgAction::Set)
-        .value_parser(clap::value_parser!(u8).range(0..=255))
+        .value_parser(ValueParser::Unsigned(0, 255))
 }
 
 /// Whether a JSON object is asked for.

@@ -88,7 +88,10 @@
 //! - `often PLACE COUNT CALL`: the pass makes the call so many times.
 //! - `together PLACE COUNT CALL`: the passes from this place on make the call so many times each,
 //!   each pass in a thread of its own and all at once.
-//! - `plan CALL`: one more call for the next `beside`, which takes the latest three.
+//! - `plan CALL`: one more call for the next `beside`, which takes the latest three, or for the next
+//!   `row`, which takes the first of all.
+//! - `row PLACE COUNT`: the pass makes these calls in a row, of which so many are made; the others
+//!   are planned still. How many were made, and then each call as with `pass`.
 //! - `beside FIRST SECOND`: the pass at the first place makes the first two calls, and the pass at
 //!   the second place the third, each in a thread of its own: the least and the greatest number of
 //!   these calls, the second answer and the third.

@@ -3,7 +3,7 @@
 use crate::page::Page;
 use crate::printing::{print_length, print_out, print_refusal};
 use crate::seats::{Called, Turn};
-use gw_node::{NodeFault, Out};
+use gw_node::{Answer, NodeFault, Out};
 use gw_shift::CallFault;
 use rep_ops::Delta;
 
@@ -28,8 +28,33 @@ pub(crate) fn print_called(page: &mut Page, called: &Called) {
     }
 }
 
+/// What calls in a row were answered, of which the first has this number.
+pub(crate) fn print_row(page: &mut Page, answers: &[Answer], first: u64) {
+    page.length("row of ", answers.len());
+    page.end();
+    let mut number = first;
+    for answer in answers {
+        page.number("call ", number);
+        page.text(": ");
+        print_one(page, answer);
+        number = number.saturating_add(1);
+    }
+}
+
+/// What one of them was answered.
+fn print_one(page: &mut Page, answer: &Answer) {
+    match answer {
+        Ok(out) => print_answered(page, out),
+        Err(fault) => {
+            page.stop_if_short(matches!(fault, NodeFault::Memory));
+            print_refusal(page, fault);
+            page.end();
+        }
+    }
+}
+
 /// Why a call has no answer.
-fn print_uncalled(page: &mut Page, fault: &CallFault) {
+pub(crate) fn print_uncalled(page: &mut Page, fault: &CallFault) {
     page.stop_if_short(is_memory(fault));
     match fault {
         CallFault::Node { number, fault } => {

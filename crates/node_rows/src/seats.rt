@@ -2,7 +2,7 @@
 
 use crate::page::Page;
 use crate::passing::is_memory;
-use gw_node::{Out, Step};
+use gw_node::{Answer, Out, Step};
 use gw_shift::{CallFault, Pass, Shift};
 use jr_journal::Disk;
 use rep_model::Replica;
@@ -20,6 +20,9 @@ pub(crate) type Seat = Option<Pass>;
 
 /// What a call of a pass was answered, with its number, or why it has no answer.
 pub(crate) type Called = Result<(Arc<Out>, u64), CallFault>;
+
+/// What calls in a row were answered, with the number of the first, or why none was made.
+pub(crate) type RowCalled = Result<(Vec<Answer>, u64), CallFault>;
 
 /// Threads that begin at once, and what they note.
 #[derive(Drop)]
@@ -202,6 +205,41 @@ fn returned(seat: &mut Seat, made: Result<(Pass, Arc<Out>, u64), (Pass, CallFaul
         Ok((pass, out, number)) => {
             sit(seat, Some(pass));
             Ok((out, number))
+        }
+        Err((pass, fault)) => {
+            sit(seat, Some(pass));
+            Err(fault)
+        }
+    }
+}
+
+/// The pass in a seat makes calls in a row, and sits down again. Nothing if nobody sits there, or if
+/// there is no call.
+pub(crate) fn call_row<W: Wait, R: Replica, D: Disk + Drop>(
+    rt: &W,
+    alloc: Global,
+    shift: &Shift<R, D>,
+    seat: &mut Seat,
+    steps: &[Arc<Step>],
+) -> Option<RowCalled> {
+    if steps.is_empty() {
+        return None;
+    }
+    match get_up(seat) {
+        Some(pass) => Some(row_returned(seat, shift.call_all(rt, alloc, pass, steps))),
+        None => None,
+    }
+}
+
+/// A pass that made calls in a row sits down again: what the calls brought.
+fn row_returned(
+    seat: &mut Seat,
+    made: Result<(Pass, Vec<Answer>, u64), (Pass, CallFault)>,
+) -> RowCalled {
+    match made {
+        Ok((pass, answers, number)) => {
+            sit(seat, Some(pass));
+            Ok((answers, number))
         }
         Err((pass, fault)) => {
             sit(seat, Some(pass));

@@ -5,12 +5,12 @@ ghost use Rattle.std.specs.Prelude.{◌<◌, ◌≤◌};
 use crate::calls::{after, close_by, over, shared_step};
 use crate::gateways::Store;
 use crate::page::Page;
-use crate::passing::{print_beside, print_called, print_made};
+use crate::passing::{print_beside, print_called, print_made, print_row, print_uncalled};
 use crate::printing::print_length;
 use crate::row::{self, Row};
 use crate::seats::{
-    Called, Seat, Turn, add_seated, call, call_all, call_often, rise, seat_all, side_by_side,
-    sit_down, sits,
+    Called, Seat, Turn, add_seated, call, call_all, call_often, call_row, rise, seat_all,
+    side_by_side, sit_down, sits,
 };
 use crate::steps::step;
 use crate::stop::Stop;
@@ -66,7 +66,7 @@ pub(crate) struct Shifts<R: Replica> {
     over: Option<Ended<R, MemoryDisk>>,
     /// The passes, in the order in which they sat down.
     seats: Vec<Seat>,
-    /// The calls of the next `beside`.
+    /// The calls of the next `beside`, or of the next `row`.
     planned: Vec<Arc<Step>>,
 }
 
@@ -123,7 +123,7 @@ where
 /// Whether a line with this first word is about calls of passes.
 fn is_of_calls(first: &str) -> bool {
     match first {
-        "pass" | "often" | "together" | "beside" | "after" => true,
+        "pass" | "often" | "together" | "beside" | "row" | "after" => true,
         _ => false,
     }
 }
@@ -145,6 +145,7 @@ where
 {
     match first {
         "beside" => call_beside(rt, page, shifts, words),
+        "row" => call_in_row(rt, page, shifts, words),
         "after" => ask_after(rt, page, shifts, words),
         first => make_call(rt, page, shifts, first, words),
     }
@@ -400,7 +401,7 @@ where
     }
 }
 
-/// `plan CALL`: one more call for the next `beside`.
+/// `plan CALL`: one more call for the next `beside` or `row`.
 fn plan(page: &mut Page, planned: &mut Vec<Arc<Step>>, words: &mut Words) {
     let step = shared(words);
     if words.end(page) {
@@ -437,6 +438,74 @@ where
     if words.end(page) {
         call_two(rt, page, shifts, first, second);
         forget_three(&mut shifts.planned);
+    }
+}
+
+/// `row PLACE COUNT`: the pass at this place makes the calls that are planned in a row. So many are
+/// made, and planned no more; the others are for another row. Fewer are made if memory ran out.
+fn call_in_row<T: Wait + AllocGlobal, R: Replica>(
+    rt: &T,
+    page: &mut Page,
+    shifts: &mut Shifts<R>,
+    words: &mut Words,
+) {
+    let place = words.count();
+    let count = words.count();
+    words.require(shifts.is_open() && sits(shifts.seats.as_slice(), place));
+    words.require(count <= shifts.planned.len());
+    if words.end(page) {
+        let made = call_planned(rt, page, shifts, place);
+        page.stop_if_short(made < count);
+        forget_first(&mut shifts.planned, made);
+    }
+}
+
+/// The pass at a place makes the calls that are planned, in one row. Says how many were made.
+fn call_planned<T: Wait + AllocGlobal, R: Replica>(
+    rt: &T,
+    page: &mut Page,
+    shifts: &mut Shifts<R>,
+    place: usize,
+) -> usize {
+    if let Some(shift) = &shifts.open {
+        if let Some(seat) = shifts.seats.get_mut(place) {
+            return play_one_row(rt, page, shift, seat, shifts.planned.as_slice());
+        }
+    }
+    0
+}
+
+/// So many of the first calls are planned no more.
+fn forget_first(planned: &mut Vec<Arc<Step>>, count: usize) {
+    for _ in 0..count {
+        if planned.is_empty() {
+            return;
+        }
+        drop(planned.remove(0));
+    }
+}
+
+/// The pass in a seat makes the first of these calls in a row. Says how many were made.
+fn play_one_row<T: Wait + AllocGlobal, R: Replica>(
+    rt: &T,
+    page: &mut Page,
+    shift: &Shift<R, MemoryDisk>,
+    seat: &mut Seat,
+    steps: &[Arc<Step>],
+) -> usize {
+    match call_row(rt, rt.alloc(), shift, seat, steps) {
+        Some(Ok((answers, first))) => {
+            print_row(page, answers.as_slice(), first);
+            let count = answers.len();
+            drop(answers);
+            count
+        }
+        Some(Err(fault)) => {
+            print_uncalled(page, &fault);
+            drop(fault);
+            0
+        }
+        None => 0,
     }
 }
 

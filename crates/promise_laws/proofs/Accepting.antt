@@ -1,5 +1,5 @@
 -- What a gateway accepts it serves.
-use Rattle.std.proofs.Common.{◌≡◌, ℕ, ◌⊎◌, List, [], slice_get, Option, Some, Contains, Result, Ok, refl, sym, ap, ◌∙◌, subst, inl, inr}
+use Rattle.std.proofs.Common.{false, ◌≡◌, ℕ, ◌⊎◌, List, [], slice_get, Option, Some, Contains, Result, Ok, refl, sym, ap, ◌∙◌, subst, inl, inr}
 use Rattle.std.specs.Option.{option_to_list}
 use Rattle.std.proofs.lemmas.Option.{same_Some}
 use Rattle.std.proofs.lemmas.List.Elements.{Contains-push}
@@ -29,16 +29,19 @@ use Rattle.put_laws.proofs.Putting.{step-messages, tick-messages}
 use Rattle.put_laws.proofs.Recipients.{for-recipients}
 use Rattle.put_laws.proofs.Saying.{puback-put, pubrec-put}
 use Rattle.gw_answer.specs.declared.out.Out.{Out}
+use Rattle.std.specs.declared.sync.Arc.{Arc}
+use Rattle.std.specs.declared.alloc.Global.{Global}
+use Rattle.gw_answer.specs.declared.fault.NodeFault.{NodeFault}
 use Rattle.gw_answer.specs.declared.refusal.Refusal.{Refusal}
 use Rattle.gw_answer.specs.Answers.{said}
 use Rattle.gw_event.specs.Occasions.{Occasion, Datagram, Clock}
 use Rattle.gw_event.specs.Gateways.{Gateway}
 use Rattle.gw_event.specs.Event.{IsMade, OwnStep}
 use Rattle.gw_world.specs.declared.event.Event.{Event}
-use Rattle.gw_world.specs.declared.event.Event.TheVariants.{Frame, Tick, Take, Answer as Asks, WriteFails, Compact, Restart, Show}
+use Rattle.gw_world.specs.declared.event.Event.TheVariants.{Frame, Tick, Take, Together as AtOnce, Answer as Asks, WriteFails, Compact, Restart, Show}
 use Rattle.gw_world.specs.declared.event.Answer.TheVariants.{Node}
 use Rattle.gw_world.specs.Events.{made_of}
-use Rattle.gw_world.specs.Field.{Field, IsAt, Steps}
+use Rattle.gw_world.specs.Field.{Field, IsAt, Steps, After}
 use Rattle.gw_world.specs.Whole.{MayMake}
 use Rattle.gw_world.proofs.Consistency.{field-steady}
 use Rattle.gw_world.proofs.Numbers.{place_of-first, first-number, set-there}
@@ -210,19 +213,40 @@ made-put configs (Frame number a octets now) out old new i gateway delta c m h m
 made-put configs (Tick number now) out old new i gateway delta c m h may told there =
     stepped-put configs (Tick number now) out old new number i gateway Clock now delta c m h h.at (has-stepped old new number i gateway Clock now (said h.answer) out h.at h.says h.after) told there
 made-put configs (Take number k) out old new i gateway delta c m h may told there = absurd may
+made-put configs (AtOnce number called) out old new i gateway delta c m h may told there = absurd h.after
 made-put configs (Asks number peer) out old new i gateway delta c m h may told there = absurd may
 made-put configs (WriteFails number bytes sync) out old new i gateway delta c m h may told there = absurd may
 made-put configs (Compact number) out old new i gateway delta c m h may told there = absurd may
 made-put configs (Restart number kept) out old new i gateway delta c m h may told there = absurd may
 made-put configs (Show number) out old new i gateway delta c m h may told there = absurd may
 
+-- the answer to one event reports a delta: the event makes one
+told-makes : (old new : Field) (event : Event) (answer : Result (Arc Out Global) NodeFault) (out : Out) (delta : List Op) → After old event (Node answer) new → said answer ≡ Ok out → out.made ≡ Some delta → MayMake event
+told-makes old new event answer out delta after says told =
+    let made : Contains (made_of (said answer)) delta =
+    subst (λ (r : Result Out Refusal). Contains (made_of r) delta) (sym says)
+    (subst (λ (o : Option (List Op)). Contains (option_to_list o) delta) (sym told) (Contains-push [] delta)) in
+    after-makes old new event (Node answer) delta after made
+
+-- and the gateway goes on
+makes-runs : (configs : List Config) (event : Event) (out : Out) (old new : Field) (i : ℕ) (gateway : Gateway) → HasAnswered configs event out old new i gateway → MayMake event → gateway.drive.halted ≡ false
+makes-runs configs (Frame number a octets now) out old new i gateway h may = (has-stepped old new number i gateway (Datagram a octets) now (said h.answer) out h.at h.says h.after).step.3
+makes-runs configs (Tick number now) out old new i gateway h may = (has-stepped old new number i gateway Clock now (said h.answer) out h.at h.says h.after).step.3
+makes-runs configs (Take number k) out old new i gateway h may = absurd may
+makes-runs configs (AtOnce number called) out old new i gateway h may = absurd h.after
+makes-runs configs (Asks number peer) out old new i gateway h may = absurd may
+makes-runs configs (WriteFails number bytes sync) out old new i gateway h may = absurd may
+makes-runs configs (Compact number) out old new i gateway h may = absurd may
+makes-runs configs (Restart number kept) out old new i gateway h may = absurd may
+makes-runs configs (Show number) out old new i gateway h may = absurd may
+
+pub told-runs : (configs : List Config) (event : Event) (out : Out) (old new : Field) (i : ℕ) (gateway : Gateway) (delta : List Op) → HasAnswered configs event out old new i gateway → out.made ≡ Some delta → gateway.drive.halted ≡ false
+told-runs configs event out old new i gateway delta h told = makes-runs configs event out old new i gateway h (told-makes old new event h.answer out delta h.after h.says told)
+
 pub told-put : (configs : List Config) (event : Event) (out : Out) (old new : Field) (i : ℕ) (gateway : Gateway) (delta : List Op) (c : List ℕ) (m : Put)
     → HasAnswered configs event out old new i gateway → out.made ≡ Some delta → Contains delta (OfPut c m) → IsPutAt new i gateway delta c m
 told-put configs event out old new i gateway delta c m h told there =
-    let made : Contains (made_of (said h.answer)) delta =
-    subst (λ (r : Result Out Refusal). Contains (made_of r) delta) (sym h.says)
-    (subst (λ (o : Option (List Op)). Contains (option_to_list o) delta) (sym told) (Contains-push [] delta)) in
-    made-put configs event out old new i gateway delta c m h (after-makes old new event (Node h.answer) delta h.after made) told there
+    made-put configs event out old new i gateway delta c m h (told-makes old new event h.answer out delta h.after h.says told) told there
 
 -- ---- and it is kept
 

@@ -2,6 +2,8 @@ mod Serving
 mod Staying
 mod Accepting
 mod Asking
+mod Leading
+mod Coming
 mod Acking
 mod Had
 mod Promising

@@ -1,5 +1,5 @@
 -- A message that stands in a set waits in each set that has all of it that counts, or is acknowledged there.
-use Rattle.std.proofs.Common.{◌≡◌, ℕ, Bool, true, false, cond, not, List, ◌++◌, slice_get, Option, Some, None, Contains, refl, sym, ap, ◌∙◌, subst, inl, inr}
+use Rattle.std.proofs.Common.{◌≡◌, ℕ, true, false, cond, not, List, ◌++◌, take, slice_get, Option, Some, None, Contains, refl, sym, ap, ◌∙◌, subst, inl, inr}
 use Rattle.std.proofs.lemmas.Option.{same_Some}
 use Rattle.rep_op.specs.declared.op.Op.{Op}
 use Rattle.rep_op.specs.declared.op.Put.{Put}
@@ -14,6 +14,7 @@ use Rattle.rep_model.proofs.Readers.{put_at_both, is_acknowledged_keep}
 use Rattle.rep_model.proofs.Thin.{pending_at-reads}
 use Rattle.jr_journal.specs.Records.{records}
 use Rattle.gw_event.specs.Gateways.{Gateway, with_refused}
+use Rattle.gw_node.proofs.Refused.{refused_is}
 use Rattle.gw_node.proofs.Taken.{as_taken}
 use Rattle.gw_world.specs.declared.event.Event.{Event}
 use Rattle.gw_world.specs.declared.event.Answer.{Answer}
@@ -22,10 +23,9 @@ use Rattle.field_laws.proofs.Catching.{run-later, later-now}
 use Rattle.promise_laws.specs.Accepted.{WaitsOrAcknowledged, IsWithGateway, IsKeptFrom}
 use Rattle.promise_laws.proofs.Serving.{IsPut}
 
--- a set stands in itself, and in itself with what was refused
-within-back : (b : Bool) (S refused : List Op) → Within S (with_refused b S refused)
-within-back true S refused = within-left S refused
-within-back false S refused = record { operations_in = λ c n x e. e; puts_in = λ c n x e. e; acknowledgements_in = λ c n e. e; retains_in = λ t n k e. e }
+-- a set stands in itself with some first ones of what was refused
+within-back : (n : ℕ) (S : List Op) (refused : List (List Op)) → Within S (with_refused n S refused)
+within-back n S refused = subst (λ (T : List Op). Within S T) (sym (refused_is n S refused)) (within-left S (all_of (take n refused)))
 
 module _ (c : List ℕ) (m : Put) where
   abbrev name : ℕ × ℕ

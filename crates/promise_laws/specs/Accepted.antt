@@ -1,5 +1,5 @@
 -- What it is worth that a gateway accepted a message, from then on.
-use Rattle.std.specs.Prelude.{◌≡◌, ◌⊎◌, ℕ, Bool, true, List, [], ◌++◌, Some, None, Contains, Result, Ok, slice_get}
+use Rattle.std.specs.Prelude.{◌≡◌, ◌⊎◌, ℕ, true, List, [], ◌++◌, Some, None, Contains, Result, Ok, slice_get}
 use Rattle.std.specs.declared.sync.Arc.{Arc}
 use Rattle.std.specs.declared.alloc.Global.{Global}
 use Rattle.rep_op.specs.declared.op.Op.{Op}
@@ -35,11 +35,11 @@ WaitsOrAcknowledged c put S =
     Contains (view c S).pending put ⊎ (is_acknowledged c S (put.seq, put.origin) ≡ true)
 
 -- These bytes are what a crash may leave of the gateway's disk: a journal that stands for its set,
--- or for its set with the delta that it refused when the disk failed.
+-- or for its set with some first ones of the deltas that it refused when the disk failed.
 abbrev pub IsLeftOf : Gateway → Image → Type 0
 IsLeftOf gateway image =
-    (b : Bool)
-    × StandsFor gateway.config.gateway (with_refused b gateway.taken gateway.refused) [] image
+    (n : ℕ)
+    × StandsFor gateway.config.gateway (with_refused n gateway.taken gateway.refused) [] image
 
 -- The message waits for its client at the gateway, or is acknowledged there; and so it is in the
 -- records of whatever a crash leaves of the gateway's disk.

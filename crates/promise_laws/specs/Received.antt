@@ -18,10 +18,9 @@ use Rattle.gw_event.specs.Occasions.{Datagram}
 use Rattle.gw_event.specs.Gateways.{Gateway}
 use Rattle.gw_event.specs.Event.{IsPlan}
 use Rattle.gw_world.specs.declared.event.Event.{Event}
-use Rattle.gw_world.specs.declared.event.Event.TheVariants.{Frame}
 use Rattle.gw_world.specs.declared.event.Answer.{Answer}
-use Rattle.gw_world.specs.Field.{Field, IsAt, Run}
-use Rattle.promise_laws.specs.Acknowledged.{IsAnsweredWith}
+use Rattle.gw_world.specs.Field.{Field, Run}
+use Rattle.promise_laws.specs.Stepping.{IsStep}
 
 -- The datagram from the address is a PUBLISH of the client at quality of service 2, with this
 -- message id, which its session has not received. The plan accepts it: it makes a message for each
@@ -45,18 +44,14 @@ pub record AcceptsPublish (gateway : Gateway) (a : Addr) (octets c : List ℕ) (
 -- read back later.
 pub record Accepts (field : Field) (event : Event) (answer : Answer) (c : List ℕ)
     (id : ℕ) : Type 0 where
-  pub number : ℕ
-  pub i : ℕ
   pub gateway : Gateway
-  pub at : IsAt field number i gateway
   pub a : Addr
   pub octets : List ℕ
   pub moment : ℕ
-  pub comes : event ≡ Frame number a octets moment
   pub plan : Plan
+  pub comes : IsStep field event answer gateway (Datagram a octets) moment plan.sends
   pub planned : IsPlan gateway (Datagram a octets) moment (Some plan)
   pub accepts : AcceptsPublish gateway a octets c id plan
-  pub ends : IsAnsweredWith answer (Datagram a octets) plan.sends
 
 -- In a run from the field `start` the event after the first k accepts a PUBLISH of the client with
 -- this message id.

@@ -32,7 +32,8 @@ ghost use Rattle.promise_laws.specs.Promised.{WaitsUntilAnswered};
 /// message waits until a step after this answer acknowledges it, for a cause that `put_laws`
 /// names. So it is on the disks of these gateways too. The same is so of each message of a delta
 /// that an answer reports, at any quality of service (`made`). No acknowledgement of it is
-/// anywhere in the field without such a step (`only`).
+/// anywhere in the field without such a step (`only`). A call that came with others, with one write
+/// that went well, is such an event too: `field_laws::together_field`.
 pub fn nothing_accepted_vanishes()
     ensures puback { (configs : List Config) (old new : Field) (number i : ℕ) (gateway : Gateway)
         (a : Addr) (octets : List ℕ) (now : ℕ) (out : Out) (flags : Flags)

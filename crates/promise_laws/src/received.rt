@@ -20,7 +20,7 @@ ghost use Rattle.promise_laws.specs.Received.{IsAcceptedBy};
 /// client has received a message id, an event of the run accepted a PUBLISH of that client with the
 /// id, at quality of service 2, there or at another gateway. That step made a message for each
 /// recipient. It was answered with PUBREC; or the disk failed in it, and what it had refused was
-/// read back. So if PUBREC goes out because the id was received before, an earlier event of the run
+/// read back. It may be one of several calls with one write. So if PUBREC goes out because the id was received before, an earlier event of the run
 /// made the messages of a PUBLISH with this id (`repeated`).
 pub fn received_in_a_run()
     ensures received { (configs : List Config) (events : List Event) (answers : List Answer)

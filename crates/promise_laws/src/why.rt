@@ -11,7 +11,8 @@ ghost use Rattle.promise_laws.specs.Acknowledged.{IsAcknowledgedIn, IsWrittenBy}
 
 /// Each acknowledgement has a cause, in a run too. Each that is anywhere in a field was written
 /// by an event of the run: a datagram or a tick at a gateway at which the message waited, for a
-/// cause. That event was answered with the datagrams of its step. Or the disk failed in it, and
+/// cause. It may be one of several calls with one write; the gateway is then as the calls before it
+/// leave it. That event was answered with the datagrams of its step. Or the disk failed in it, and
 /// an excuse went out instead; when the gateway was opened again, it read back the delta that it
 /// had refused. So a message can leave although its client was not sent it, and although a
 /// CONNECT was refused.

@@ -1,6 +1,6 @@
 //! The answer to a digest.
 
-ghost use Rattle.std.specs.Prelude.{◌≡◌, ◌≤◌, ℕ, List, ◌||◌, ◌++◌, ◌∷◌, [], Some, map, IsTrue, IfOk, IfErr, OnOk};
+ghost use Rattle.std.specs.Prelude.{◌≡◌, ◌≤◌, ℕ, List, ◌||◌, ◌++◌, ◌∷◌, [], Some, map, if◌then◌else◌, IsTrue, IfOk, IfErr, OnOk};
 ghost use Rattle.std.specs.List.{flat_map};
 ghost use Rattle.rep_ops.specs.Making.{AreWellMade};
 ghost use Rattle.rep_ops.specs.Splitting.{all_of};
@@ -126,15 +126,9 @@ fn add_left_by(
 {
     match op {
         Op::Session { stamp, counter, .. } => {
-            if !sees(entry, *stamp, *counter) {
-                add_copy(alloc, left, op)?;
-            }
+            add_unless(alloc, left, sees(entry, *stamp, *counter), op)
         }
-        Op::Put { put, .. } => {
-            if !covers(entry, put.origin, put.seq) {
-                add_copy(alloc, left, op)?;
-            }
-        }
+        Op::Put { put, .. } => add_unless(alloc, left, covers(entry, put.origin, put.seq), op),
         Op::Ack {
             client,
             origin,
@@ -144,10 +138,21 @@ fn add_left_by(
             let ranges = beginning_by(*last, acknowledged_in(entry, *origin));
             let ranges = ending_from(*first, ranges);
             add_outside(alloc, left, client, *origin, (*first, *last), ranges)?;
+            Ok(())
         }
-        Op::Retain { .. } => add_copy(alloc, left, op)?,
+        Op::Retain { .. } => add_copy(alloc, left, op),
     }
-    Ok(())
+}
+
+/// Copies an operation after the others, unless it is there.
+fn add_unless(alloc: Global, left: &mut Vec<Op>, is_there: bool, op: &Op) -> Result<(), NoMemory>
+    ensures { OnOk result (left.new.items
+        ≡ left.old.items ++ (if is_there then [] else op.now ∷ [])) }
+{
+    if is_there {
+        return Ok(());
+    }
+    add_copy(alloc, left, op)
 }
 
 /// Copies an operation after the others.

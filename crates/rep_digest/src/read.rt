@@ -33,6 +33,7 @@ fn read_entries(
     for _ in 0..count {
         let (entry, after) = read_entry(alloc, rest)?;
         if !may_follow(entries.as_slice(), &entry) {
+            drop(entry);
             return Err(OpsFault::Order);
         }
         entries.push(entry)?;
@@ -64,6 +65,7 @@ fn read_topic_entries(
     for _ in 0..count {
         let (entry, after) = read_retained(alloc, rest)?;
         if !topic_may_follow(entries.as_slice(), &entry) {
+            drop(entry);
             return Err(OpsFault::Order);
         }
         entries.push(entry)?;

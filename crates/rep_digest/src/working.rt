@@ -69,11 +69,20 @@ fn clients_of<R: Replica>(alloc: Global, replica: &R) -> Result<Vec<ClientEntry>
         return Err(NoMemory);
     };
     let Ok(held) = replica.held(alloc) else {
+        drop(clients);
         return Err(NoMemory);
     };
     are_values(held.as_slice());
-    let groups = acknowledgements(alloc, clients.as_slice(), held.as_slice())?;
-    entries_of(alloc, replica, clients.as_slice(), groups.as_slice())
+    let Ok(groups) = acknowledgements(alloc, clients.as_slice(), held.as_slice()) else {
+        drop(held);
+        drop(clients);
+        return Err(NoMemory);
+    };
+    let entries = entries_of(alloc, replica, clients.as_slice(), groups.as_slice());
+    drop(groups);
+    drop(held);
+    drop(clients);
+    entries
 }
 
 /// What the types of deltas promise of their operations.

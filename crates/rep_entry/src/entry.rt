@@ -1,8 +1,9 @@
 //! What the replica keeps of one client.
 
-ghost use Rattle.std.specs.Prelude.{◌≡◌, ◌||◌, ◌==◌, not, length, ℕ, List, [], None};
+ghost use Rattle.std.specs.Prelude.{◌≡◌, ◌||◌, ◌==◌, not, length, ℕ, List, [], None, IfOk};
 ghost use Rattle.rep_shared.specs.Rows.{has_any};
 
+use octets::NoMemory;
 use rep_log::{Acks, Known, NamedOp};
 use rep_model::{ClientView, Puts};
 use rep_ops::Put;
@@ -48,6 +49,22 @@ impl Entry {
             parked: 0,
             exceptions: 0,
         }
+    }
+
+    /// An equal entry.
+    pub fn copied(&self, alloc: Global) -> Result<Entry, NoMemory>
+        ensures { IfOk result (λ made. made ≡ self.now) }
+    {
+        let seen = self.seen.copied(alloc)?;
+        let known = self.known.copied(alloc)?;
+        let acks = self.acks.copied(alloc)?;
+        Ok(Entry {
+            seen,
+            known,
+            acks,
+            parked: self.parked,
+            exceptions: self.exceptions,
+        })
     }
 
     /// Whether something is kept of the client.

@@ -80,6 +80,14 @@ impl Known {
         Ok(())
     }
 
+    /// Equal operations.
+    pub fn copied(&self, alloc: Global) -> Result<Known, NoMemory>
+        ensures { IfOk result (λ made. made ≡ self.now) }
+    {
+        let ops = copy_ops(alloc, self.ops.as_slice())?;
+        Ok(Known { ops })
+    }
+
     /// Forgets what is below the stamp.
     pub fn forget_below(&mut self, stamp: Stamp)
         ensures { self.new ≡ filter (λ e. not (spec.is_below e.0.0 (Some stamp))) self.old }

@@ -7,35 +7,44 @@ ghost use Rattle.rep_op.specs.Faults.{fault_of_topic, number_of};
 use octets::NoMemory;
 use sn_topic::TopicFault;
 use std::alloc::{AllocError, AllocFailed};
+use std::fmt;
 use thiserror::Error;
 
 /// Why operations, or the bytes of a delta, are refused.
 #[derive(Clone, Copy, Debug, PartialEq, Eq, Error)]
 pub enum OpsFault {
     /// Fault 1: two operations have one name.
-    #[error("two operations have the same name")]
     Twice,
     /// Fault 2: the bytes of the delta would pass 8,388,608.
-    #[error("the delta is longer than 8388608 bytes")]
     Limit,
     /// Fault 3: memory ran out.
-    #[error("out of memory")]
     Memory,
     /// Fault 4: the bytes end before the delta does.
-    #[error("the bytes end before the delta does")]
     Truncated,
     /// Fault 5: the version is not known.
-    #[error("the version of the delta is not known")]
     Version,
     /// Fault 6: a value is out of range or over its limit.
-    #[error("a value is out of range or over its limit")]
     Kind,
     /// Fault 7: the operations are not in the order of their names.
-    #[error("the operations are not in the order of their names")]
     Order,
     /// Fault 8: bytes stand after the delta.
-    #[error("bytes stand behind the delta")]
     Trailing,
+}
+
+impl fmt::Display for OpsFault {
+    /// Says why the operations or the bytes are refused.
+    fn fmt<W: fmt::Write>(&self, f: &mut fmt::Formatter<W>) -> fmt::Result {
+        f.write_str(match self {
+            OpsFault::Twice => "two operations have the same name",
+            OpsFault::Limit => "the delta is longer than 8388608 bytes",
+            OpsFault::Memory => "out of memory",
+            OpsFault::Truncated => "the bytes end before the delta does",
+            OpsFault::Version => "the version of the delta is not known",
+            OpsFault::Kind => "a value is out of range or over its limit",
+            OpsFault::Order => "the operations are not in the order of their names",
+            OpsFault::Trailing => "bytes stand behind the delta",
+        })
+    }
 }
 
 impl OpsFault {

@@ -3,6 +3,7 @@
 ghost use Rattle.std.specs.Prelude.{◌≡◌, true, IfOk};
 ghost use Rattle.rep_op.specs.Orders.{client_of};
 ghost use Rattle.rep_op.specs.Orders as spec;
+ghost use Rattle.rep_op.specs.declared.op.Op.TheVariants.{Session as OfSession, Put as OfPut, Ack, Retain as OfRetain};
 
 use super::client_id::ClientId;
 use octets::NoMemory;
@@ -166,9 +167,9 @@ impl Op {
         ensures { IfOk result (λ made. made ≡ spec.subject_of self.now) }
     {
         match self {
-            Op::Session { client, .. } => Ok(Subject::Client(client.copied(alloc)?)),
-            Op::Put { client, .. } => Ok(Subject::Client(client.copied(alloc)?)),
-            Op::Ack { client, .. } => Ok(Subject::Client(client.copied(alloc)?)),
+            Op::Session { client, .. } | Op::Put { client, .. } | Op::Ack { client, .. } => {
+                Ok(Subject::Client(client.copied(alloc)?))
+            }
             Op::Retain { topic, .. } => Ok(Subject::Topic(topic.copied(alloc)?)),
         }
     }
@@ -183,31 +184,71 @@ impl Op {
                 stamp,
                 counter,
                 change,
-            } => Ok(Op::Session {
-                client: client.copied(alloc)?,
-                stamp: *stamp,
-                counter: *counter,
-                change: change.copied(alloc)?,
-            }),
-            Op::Put { client, put } => Ok(Op::Put {
-                client: client.copied(alloc)?,
-                put: put.copied(alloc)?,
-            }),
+            } => copied_change(alloc, client, *stamp, *counter, change),
+            Op::Put { client, put } => copied_put(alloc, client, put),
             Op::Ack {
                 client,
                 origin,
                 first,
                 last,
-            } => Ok(Op::Ack {
-                client: client.copied(alloc)?,
-                origin: *origin,
-                first: *first,
-                last: *last,
-            }),
-            Op::Retain { topic, retained } => Ok(Op::Retain {
-                topic: topic.copied(alloc)?,
-                retained: retained.copied(alloc)?,
-            }),
+            } => copied_range(alloc, client, *origin, *first, *last),
+            Op::Retain { topic, retained } => copied_retain(alloc, topic, retained),
         }
     }
+}
+
+/// A change of a session, of equal parts.
+fn copied_change(
+    alloc: Global,
+    client: &ClientId,
+    stamp: Stamp,
+    counter: u8,
+    change: &SessionOp,
+) -> Result<Op, NoMemory>
+    ensures { IfOk result (λ made. made ≡ OfSession client.now stamp counter change.now) }
+{
+    Ok(Op::Session {
+        client: client.copied(alloc)?,
+        stamp,
+        counter,
+        change: change.copied(alloc)?,
+    })
+}
+
+/// A message of a client, of equal parts.
+fn copied_put(alloc: Global, client: &ClientId, put: &Put) -> Result<Op, NoMemory>
+    ensures { IfOk result (λ made. made ≡ OfPut client.now put.now) }
+{
+    Ok(Op::Put {
+        client: client.copied(alloc)?,
+        put: put.copied(alloc)?,
+    })
+}
+
+/// The acknowledgements of this range, of an equal client.
+fn copied_range(
+    alloc: Global,
+    client: &ClientId,
+    origin: u8,
+    first: u64,
+    last: u64,
+) -> Result<Op, NoMemory>
+    ensures { IfOk result (λ made. made ≡ Ack client.now origin first last) }
+{
+    Ok(Op::Ack {
+        client: client.copied(alloc)?,
+        origin,
+        first,
+        last,
+    })
+}
+
+/// What is retained of a topic, of equal parts.
+fn copied_retain(alloc: Global, topic: &TopicName, retained: &Retained) -> Result<Op, NoMemory>
+    ensures { IfOk result (λ made. made ≡ OfRetain topic.now retained.now) }
+{
+    Ok(Op::Retain {
+        topic: topic.copied(alloc)?,
+        retained: retained.copied(alloc)?,
+    })
 }

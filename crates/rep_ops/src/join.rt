@@ -68,26 +68,57 @@ fn joins(a: &Op, b: &Op) -> bool
     }
 }
 
-/// The first of two operations that join; of ranges, as far as both go.
-fn united(a: Op, b: Op) -> Op
-    ensures { result ≡ spec.united a b }
+/// Makes the first of two operations that join go, if they are ranges, as far as both of them.
+fn unite(a: &mut Op, b: &Op)
+    ensures { a.new ≡ spec.united a.old b.now }
 {
-    match (a, b) {
-        (
-            Op::Ack {
-                client,
-                origin,
-                first,
-                last,
-            },
-            Op::Ack { last: end, .. },
-        ) => Op::Ack {
-            client,
-            origin,
-            first,
-            last: last.max(end),
-        },
-        (a, _) => a,
+    if let Op::Ack { last: end, .. } = b {
+        if let Op::Ack { last, .. } = a {
+            *last = (*last).max(*end);
+        }
+    }
+}
+
+/// Puts an operation after others.
+pub fn push(out: &mut Vec<Op>, op: Op) -> Result<(), NoMemory>
+    ensures { OnOk result (out.new.items ≡ out.old.items ++ op ∷ []) }
+{
+    out.push(op)?;
+    Ok(())
+}
+
+/// Puts an operation after others, made to go as far as one that joins it.
+fn put_united(out: &mut Vec<Op>, last: Op, op: Op) -> Result<(), NoMemory>
+    ensures { OnOk result (out.new.items ≡ out.old.items ++ spec.united last op ∷ []) }
+{
+    let mut last = last;
+    unite(&mut last, &op);
+    drop(op);
+    push(out, last)
+}
+
+/// Puts two operations after others.
+fn put_two(out: &mut Vec<Op>, last: Op, op: Op) -> Result<(), NoMemory>
+    ensures { OnOk result (out.new.items ≡ (out.old.items ++ last ∷ []) ++ op ∷ []) }
+{
+    match push(out, last) {
+        Ok(()) => push(out, op),
+        Err(fault) => {
+            drop(op);
+            Err(fault)
+        }
+    }
+}
+
+/// Puts the last of those that are joined back, and an operation after it or joined with it.
+fn put_both(out: &mut Vec<Op>, last: Op, op: Op) -> Result<(), NoMemory>
+    ensures { (S : List Op) → out.old.items ++ last ∷ [] ≡ spec.joined S
+        → OnOk result (out.new.items ≡ spec.joined (S ++ op ∷ [])) }
+{
+    if joins(&last, &op) {
+        put_united(out, last, op)
+    } else {
+        put_two(out, last, op)
     }
 }
 
@@ -97,17 +128,9 @@ fn put_behind(out: &mut Vec<Op>, op: Op) -> Result<(), NoMemory>
         → OnOk result (out.new.items ≡ spec.joined (S ++ op ∷ [])) }
 {
     match out.pop() {
-        None => out.push(op)?,
-        Some(last) => {
-            if joins(&last, &op) {
-                out.push(united(last, op))?;
-            } else {
-                out.push(last)?;
-                out.push(op)?;
-            }
-        }
+        None => push(out, op),
+        Some(last) => put_both(out, last, op),
     }
-    Ok(())
 }
 
 /// Joins operations that are in the order of their names: of one name the first stays, and ranges

@@ -1,12 +1,14 @@
 //! A set as deltas: as few as can be where each is at most 8,388,608 octets.
 
-ghost use Rattle.std.specs.Prelude.{◌≡◌, IfOk};
+ghost use Rattle.std.specs.Prelude.{◌≡◌, [], ◌∷◌, ◌++◌, IfOk, OnOk};
+ghost use Rattle.rep_op.specs.Values.{AreValues};
 ghost use Rattle.rep_ops.specs.Deltas.{IsDelta};
 ghost use Rattle.rep_ops.specs.Making.{AreWellMade, IsDeltaOf};
+ghost use Rattle.rep_ops.specs.Spelling.{IsWithinLimit};
 ghost use Rattle.rep_ops.specs.Splitting.{IsSplit, AreDeltasOf};
 
 use super::delta::Delta;
-use super::join::{join_names, sort_stably};
+use super::join::{join_names, push, sort_stably};
 use super::measure::Measure;
 use super::size::MAX_OCTETS;
 use rep_op::{Op, is_value};
@@ -38,6 +40,19 @@ fn whole(alloc: Global, ops: Vec<Op>) -> Result<Vec<Op>, NoMemory>
     join_names(alloc, sorted)
 }
 
+/// Makes a part a delta, after those that are there, and begins another part.
+fn close(alloc: Global, deltas: &mut Vec<Delta>, part: &mut Vec<Op>) -> Result<(), NoMemory>
+    requires delta { IsDelta part.now.items }
+    requires limit { IsWithinLimit part.now.items }
+    requires values { AreValues part.now.items }
+    ensures deltas { OnOk result (deltas.new.items ≡ deltas.old.items ++ part.old.items ∷ []) }
+    ensures part { OnOk result (part.new.items ≡ []) }
+{
+    let ops = mem::replace(part, Vec::new(alloc));
+    deltas.push(Delta { ops })?;
+    Ok(())
+}
+
 /// The operations of a delta, in parts that fit.
 fn split(alloc: Global, ops: Vec<Op>) -> Result<Vec<Delta>, NoMemory>
     requires { IsDelta ops.items }
@@ -51,15 +66,17 @@ fn split(alloc: Global, ops: Vec<Op>) -> Result<Vec<Delta>, NoMemory>
         let mut longer = measure.with_op(&op);
         let size = longer.octets();
         if size > MAX_OCTETS {
-            let full = mem::replace(&mut part, Vec::new(alloc));
-            deltas.push(Delta { ops: full })?;
+            if let Err(fault) = close(alloc, &mut deltas, &mut part) {
+                drop(op);
+                return Err(fault);
+            }
             longer = Measure::of_one(&op);
         }
-        part.push(op)?;
+        push(&mut part, op)?;
         measure = longer;
     }
     if !part.is_empty() {
-        deltas.push(Delta { ops: part })?;
+        close(alloc, &mut deltas, &mut part)?;
     }
     Ok(deltas)
 }

@@ -6,5 +6,6 @@ pub mod Counting
 pub mod Found
 pub mod Growing
 pub mod Moves
+pub mod Backs
 pub mod Prepared
 pub mod Kept

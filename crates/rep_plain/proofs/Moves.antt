@@ -18,26 +18,31 @@ use Rattle.rep_model.proofs.Readers.{client_total, client_exact}
 use Rattle.rep_model.proofs.Joins.{all-both, all-weaker}
 use Rattle.rep_plain.specs.declared.entry.Entry.{Entry}
 use Rattle.rep_plain.specs.Entries.{IsWorkedOut}
-use Rattle.rep_shared.specs.Rows.{flat, own, or_nothing, moved, has_any, count_named, IsOwn}
+use Rattle.rep_shared.specs.Rows.{flat, own, or_nothing, moved, has_any, count_named, CanGoBack, IsOwn}
 use Rattle.rep_plain.specs.Tables.{rows_of, IsEntry, AreEntries, IsTable, HaveRoom}
 use Rattle.rep_plain.specs.inner.Tables.{IsRoomier, AreMovable}
 use Rattle.rep_shared.proofs.Maps.{insert_is_put, lookup_is_find}
 use Rattle.rep_shared.proofs.Single.{view_own}
 use Rattle.rep_shared.proofs.Flat.{all_put, of_flat, named_flat, count_put, moved_last, one_if}
+use Rattle.rep_shared.proofs.Undo.{place_back}
 use Rattle.rep_plain.proofs.Found.{find_rows, table_rows, own_found}
 use Rattle.rep_shared.proofs.Found.{map_put}
 
 pub roomier_itself : (es : List (List ℕ × Entry)) → IsRoomier es es
-roomier_itself es = record { same = refl; table = λ count h. h; found = λ c h. h }
+roomier_itself es = record { same = refl; table = λ count h. h; found = λ c h. h; back = λ count t aside can. (can, refl) }
 
 pub roomier_then : {a b c : List (List ℕ × Entry)} → IsRoomier a b → IsRoomier b c → IsRoomier a c
 roomier_then h k = record {
   same = k.same ∙ h.same;
   table = λ count t. k.table count (h.table count t);
   found = λ q s. k.found q (h.found q s);
+  back = λ count t aside can.
+      let first = h.back count t aside can in
+      let second = k.back count (h.table count t) aside first.0 in
+      (second.0, second.1 ∙ first.1);
 }
 
-rows_put : (c : List ℕ) (e : Entry) (es : List (List ℕ × Entry)) → rows_of (put client_cmp c e es) ≡ put client_cmp c e.ops.items (rows_of es)
+pub rows_put : (c : List ℕ) (e : Entry) (es : List (List ℕ × Entry)) → rows_of (put client_cmp c e es) ≡ put client_cmp c e.ops.items (rows_of es)
 rows_put c e es = map_put client_cmp (λ (e : Entry). e.ops.items) c e es
 
 none_some : {A P : Type 0} (x : A) → Some x ≡ None → P
@@ -88,6 +93,7 @@ roomier_place es new c e is absent ops entry =
             few = t.few;
           };
       found = λ q h. subst (λ rows. IsSome (find client_cmp q rows)) (sym rows) (found_put q c [] (rows_of es) h);
+      back = λ count t aside can. subst (λ (rs : List (List ℕ × List Op)). CanGoBack rs aside × (flat (moved rs aside) ≡ flat (moved (rows_of es) aside))) (sym rows) (place_back (rows_of es) aside c (table_rows es count t).sorted none can);
     }
 
 pub place_there : (es new : List (List ℕ × Entry)) (c : List ℕ) (e : Entry) → new ≡ insert_entry client_cmp es c e → IsSome (find client_cmp c (rows_of new))
@@ -150,7 +156,7 @@ movable_left es new fs rest c e all is h =
 
 -- ---- answers
 
-entry_found : (c : List ℕ) (e : Entry) (es : List (List ℕ × Entry)) → AreEntries es → find client_cmp c es ≡ Some e → IsEntry c e
+pub entry_found : (c : List ℕ) (e : Entry) (es : List (List ℕ × Entry)) → AreEntries es → find client_cmp c es ≡ Some e → IsEntry c e
 entry_found c e [] h is = none_there_some e is
   where
     none_there_some : {A P : Type 0} (x : A) → None ≡ Some x → P

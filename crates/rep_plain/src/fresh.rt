@@ -115,7 +115,7 @@ fn take_group(
 }
 
 /// Equal operations.
-fn copy_ops(alloc: Global, ops: &[Op]) -> Result<Vec<Op>, NoMemory>
+pub(crate) fn copy_ops(alloc: Global, ops: &[Op]) -> Result<Vec<Op>, NoMemory>
     ensures { IfOk result (λ made. made.items ≡ ops.now) }
 {
     let mut made = Vec::with_capacity(alloc, ops.len())?;

@@ -9,6 +9,7 @@
 //! - `plain`: the replica of clients, and what it promises (`PlainClients`, `Staged`).
 //! - `table`, `room`: the table of clients, the limits, and the move of fresh entries.
 //! - `news`, `fresh`: what is new, and the entries that it makes.
+//! - `asides`: what lies aside, and the way back.
 //! - `held`: what must be kept.
 //! - `entry`: a client's operations and what they come to.
 //! - `reading`, `replay`, `waiting`, `ranges`: visible stamp, prefix and session, messages that
@@ -19,6 +20,7 @@
 //! table keeps).
 #![tactic(auto)]
 
+mod asides;
 mod entry;
 mod fresh;
 mod held;

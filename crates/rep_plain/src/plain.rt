@@ -2,6 +2,7 @@
 
 ghost use Rattle.std.specs.Prelude.{◌≡◌};
 
+use super::asides::{count_all, put_all_back, save_all};
 use super::entry::Entry;
 use super::fresh::{grown, worked_out};
 use super::held::kept_ops;
@@ -65,7 +66,7 @@ impl Model for Staged {
 
 impl ClientSet for PlainClients {
     ghost use Rattle.std.specs.Prelude.{◌≡◌};
-    ghost use Rattle.rep_shared.specs.Rows.{flat, moved, count_named};
+    ghost use Rattle.rep_shared.specs.Rows.{flat, moved, count_named, CanGoBack, AreSaved};
     ghost use Rattle.rep_plain.specs.Tables.{HaveRoom};
 
     type Staged = Staged;
@@ -76,6 +77,12 @@ impl ClientSet for PlainClients {
 
     ghost ready = { λ rows staged. HaveRoom rows staged.0
         × (staged.1 ≡ count_named (moved rows staged.0)) };
+
+    ghost back = { λ rows aside. flat (moved rows aside) };
+
+    ghost can_go_back = { λ rows aside. CanGoBack rows aside };
+
+    ghost is_saved = { λ aside staged. AreSaved aside staged.0 };
 
     fn empty(alloc: Global) -> Result<PlainClients, TakeFault> {
         Ok(PlainClients {
@@ -100,6 +107,37 @@ impl ClientSet for PlainClients {
         let Staged { fresh, named } = staged;
         move_in(&mut self.table, fresh);
         self.named = named;
+    }
+
+    fn aside(&self, alloc: Global) -> Result<PlainClients, TakeFault> {
+        let _ = &self.table;
+        let named = 0;
+        Ok(PlainClients {
+            table: BTreeMap::new(alloc),
+            named,
+        })
+    }
+
+    fn save(
+        &self,
+        alloc: Global,
+        aside: &mut PlainClients,
+        staged: &Staged,
+    ) -> Result<(), TakeFault> {
+        save_all(
+            alloc,
+            &self.table,
+            &mut aside.table,
+            &mut aside.named,
+            staged.fresh.as_slice(),
+        )?;
+        Ok(())
+    }
+
+    fn put_back(&mut self, aside: PlainClients) {
+        let PlainClients { table, .. } = aside;
+        put_all_back(&mut self.table, table);
+        self.named = count_all(&self.table);
     }
 
     fn view_of(&self, client: &ClientId) -> Option<&ClientView> {

@@ -54,7 +54,7 @@ pub(crate) fn move_in(table: &mut Table, mut fresh: Vec<(ClientId, Entry)>)
 }
 
 /// Puts the entry into the client's place.
-fn replace(table: &mut Table, client: ClientId, entry: Entry)
+pub(crate) fn replace(table: &mut Table, client: ClientId, entry: Entry)
     requires { IsSome (lookup (is_at (client_cmp client)) table.old.entries) }
     ensures { table.new.entries ≡ insert_entry client_cmp table.old.entries client entry }
 {

@@ -1,5 +1,5 @@
 -- What is staged of a table, and the table once that is in its place.
-use Rattle.std.specs.Prelude.{ℕ, ◌<◌, List, length, slice_set}
+use Rattle.std.specs.Prelude.{ℕ, ◌<◌, Bool, true, false, List, length, slice_set}
 use Rattle.rep_op.specs.declared.op.Retained.{Retained}
 use Rattle.rep_retain.specs.declared.staged.TopicsStaged.{TopicsStaged}
 use Rattle.rep_retain.specs.declared.staged.TopicsStaged.TheVariants.{Nothing, Entry, Table}
@@ -10,6 +10,12 @@ abbrev pub moved : List (List ℕ × Retained) → TopicsStaged → List (List �
 moved es Nothing = es
 moved es (Entry at e) = slice_set es at e
 moved es (Table next) = next
+
+-- whether nothing is staged
+abbrev pub is_nothing : TopicsStaged → Bool
+is_nothing Nothing = true
+is_nothing (Entry at e) = false
+is_nothing (Table next) = false
 
 -- it is staged of this table: an entry takes a place in it, and leaves a table
 abbrev pub IsReady : List (List ℕ × Retained) → TopicsStaged → Type 0

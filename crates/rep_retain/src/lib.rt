@@ -9,6 +9,7 @@
 //! - `staged`: what is staged of it (`TopicsStaged`).
 //! - `whole`: both together, and what is staged of them (`Whole`, `WholeStaged`).
 //! - `holding`: what must be kept of both.
+//! - `asides`: what lies aside of the topics, while several deltas wait for one write.
 //!
 //! The definitions are in `specs/`: `Tables` (a table), `Staging` (what is staged of it), `Refusals`
 //! (why it takes no more), and `inner` (what a table becomes with operations). `proofs/Rows` has
@@ -17,6 +18,7 @@
 //! for what is answered in `Telling`.
 #![tactic(auto)]
 
+mod asides;
 mod holding;
 mod staged;
 mod table;

@@ -25,6 +25,20 @@ pub enum TopicsStaged {
     Table(Topics),
 }
 
+impl TopicsStaged {
+    ghost use Rattle.rep_retain.specs.Staging as staging;
+
+    /// Whether nothing is staged.
+    pub fn is_nothing(&self) -> bool
+        ensures { result ≡ staging.is_nothing self.now }
+    {
+        match self {
+            TopicsStaged::Nothing => true,
+            TopicsStaged::Entry(_, _) | TopicsStaged::Table(_) => false,
+        }
+    }
+}
+
 /// What is retained of a topic, if operations are one alone, and that is of a topic.
 fn lone(ops: &[Op]) -> Option<(&TopicName, &Retained)>
     ensures { IfSome result (λ found. ops.now ≡ OfRetain found.0.now found.1.now ∷ []) }

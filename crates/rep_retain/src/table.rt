@@ -390,6 +390,14 @@ impl Topics {
         }
     }
 
+    /// An equal table.
+    pub fn copied(&self, alloc: Global) -> Result<Topics, NoMemory>
+        ensures { IfOk result (λ made. made ≡ self.now) }
+    {
+        let entries = copy_all(alloc, self.entries.as_slice())?;
+        Ok(Topics { entries })
+    }
+
     /// What is retained of a topic. The time is logarithmic.
     pub fn get(&self, topic: &TopicName) -> Option<&Retained>
         ensures { option_copied result ≡ topics.retained topic.now (ops_of self.now) }

@@ -3,6 +3,7 @@
 ghost use Rattle.std.proofs.Props.{props};
 ghost use Rattle.rep_op.specs.Orders.{AreOfClients};
 
+use super::asides::{put_topics_back, save_topics};
 use super::holding::both_to_keep;
 use super::staged::TopicsStaged;
 use super::table::Topics;
@@ -12,11 +13,13 @@ use rep_shared::ClientSet;
 use sn_tables::sn_topic::{Filter, TopicName};
 use std::alloc::Global;
 
-/// A replica of the operations of clients beside a table of topics: together a replica.
+/// A replica of the operations of clients beside a table of topics: together a replica. One that
+/// lies aside of another has that one's table of topics only where it says so.
 #[derive(Drop)]
 pub struct Whole<C: ClientSet> {
     clients: C,
     topics: Topics,
+    has_topics: bool,
     ghost own: { AreOfClients (C.kept clients) } by { Prim.hlevel props },
 }
 
@@ -32,6 +35,7 @@ impl<C: ClientSet> Replica for Whole<C> {
     ghost use Rattle.rep_op.specs.Orders.{AreOfClients};
     ghost use Rattle.rep_retain.specs.Tables.{ops_of};
     ghost use Rattle.rep_retain.specs.Staging.{moved, IsReady};
+    ghost use Rattle.rep_retain.specs.Asides.{topics_back, AreTopicsSaved};
 
     type Staged = WholeStaged<C::Staged>;
 
@@ -43,11 +47,20 @@ impl<C: ClientSet> Replica for Whole<C> {
         × AreOfClients (C.after w.clients s.clients)
         × IsReady w.topics s.topics };
 
+    ghost back = { λ w aside. C.back w.clients aside.clients
+        ++ ops_of (topics_back aside.has_topics aside.topics w.topics) };
+
+    ghost can_go_back = { λ w aside. C.can_go_back w.clients aside.clients };
+
+    ghost is_saved = { λ aside s. C.is_saved aside.clients s.clients
+        × AreTopicsSaved aside.has_topics s.topics };
+
     fn empty(alloc: Global) -> Result<Whole<C>, TakeFault> {
         let clients = C::empty(alloc)?;
         Ok(Whole {
             clients,
             topics: Topics::empty(alloc),
+            has_topics: false,
         })
     }
 
@@ -72,6 +85,43 @@ impl<C: ClientSet> Replica for Whole<C> {
         let WholeStaged { clients, topics } = staged;
         self.clients.commit(clients);
         self.topics.commit(topics);
+    }
+
+    fn aside(&self, alloc: Global) -> Result<Whole<C>, TakeFault> {
+        let clients = self.clients.aside(alloc)?;
+        Ok(Whole {
+            clients,
+            topics: Topics::empty(alloc),
+            has_topics: false,
+        })
+    }
+
+    fn save(
+        &self,
+        alloc: Global,
+        aside: &mut Whole<C>,
+        staged: &WholeStaged<C::Staged>,
+    ) -> Result<(), TakeFault> {
+        self.clients
+            .save(alloc, &mut aside.clients, &staged.clients)?;
+        save_topics(
+            alloc,
+            &self.topics,
+            &mut aside.topics,
+            &mut aside.has_topics,
+            &staged.topics,
+        )?;
+        Ok(())
+    }
+
+    fn put_back(&mut self, aside: Whole<C>) {
+        let Whole {
+            clients,
+            topics,
+            has_topics,
+        } = aside;
+        self.clients.put_back(clients);
+        put_topics_back(&mut self.topics, topics, has_topics);
     }
 
     fn view_of(&self, client: &ClientId) -> Option<&ClientView> {

@@ -224,7 +224,7 @@ moved_last rows (other ∷ fresh) row = ap (put client_cmp other.0 other.1) (mov
 abbrev pub one_if : Bool → ℕ
 one_if b = if b then 1 else 0
 
-head_count : (row : List ℕ × List Op) (rows : List (List ℕ × List Op)) → count_named (row ∷ rows) ≡ one_if (has_any row.1) + count_named rows
+pub head_count : (row : List ℕ × List Op) (rows : List (List ℕ × List Op)) → count_named (row ∷ rows) ≡ one_if (has_any row.1) + count_named rows
 head_count row rows = elim (has_any row.1) as (λ b. length (cond b (row ∷ filter (λ row. has_any row.1) rows) (filter (λ row. has_any row.1) rows)) ≡ one_if b + count_named rows) [ true ↦ omega arith | false ↦ omega arith ]
 
 pub count_put : (c : List ℕ) (ops : List Op) (rows : List (List ℕ × List Op)) → T (is_sorted client_cmp rows) → count_named (put client_cmp c ops rows) + one_if (has_any (own c rows)) ≡ count_named rows + one_if (has_any ops)

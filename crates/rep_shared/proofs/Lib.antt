@@ -6,6 +6,7 @@ pub mod Entering
 pub mod Workings
 pub mod Single
 pub mod Flat
+pub mod Undo
 pub mod Found
 pub mod Counting
 pub mod Kept

@@ -1,10 +1,11 @@
 -- Clients with their operations, in the order of the clients.
-use Rattle.std.specs.Prelude.{◌≡◌, ℕ, Bool, true, false, List, [], ◌∷◌, ◌++◌, Option, Some, None, length, filter, IsTrue}
+use Rattle.std.specs.Prelude.{◌≡◌, ◌≤◌, ℕ, Bool, true, false, List, [], ◌∷◌, ◌++◌, Option, Some, None, IsSome, length, filter, IsTrue}
 use Rattle.std.specs.List.{AllByRecursion}
 use Rattle.std.specs.FinMap.{find, put}
 use Rattle.rep_op.specs.declared.op.Op.{Op}
 use Rattle.rep_op.specs.Orders.{client_cmp}
 use Rattle.rep_op.specs.WellMade.{is_well_made}
+use Rattle.rep_model.specs.declared.fault.TheConstants.{MOST_CLIENTS}
 use Rattle.rep_model.specs.Views.{named}
 
 -- all operations, client by client: the set that is kept
@@ -34,6 +35,16 @@ has_any (op ∷ ops) = true
 -- how many of the clients have operations
 abbrev pub count_named : List (List ℕ × List Op) → ℕ
 count_named rows = length (filter (λ row. has_any row.1) rows)
+
+-- What lies aside can be put back: each of its clients has a place, and then not too many clients
+-- have operations.
+pub record CanGoBack (rows aside : List (List ℕ × List Op)) : Type 0 where
+  pub room : AllByRecursion (λ row. IsSome (find client_cmp row.0 rows)) aside
+  pub few : count_named (moved rows aside) ≤ MOST_CLIENTS
+
+-- what is held of each of these clients lies aside
+abbrev pub AreSaved : {X : Type 0} → List (List ℕ × List Op) → List (List ℕ × X) → Type 0
+AreSaved aside news = AllByRecursion (λ row. IsSome (find client_cmp row.0 aside)) news
 
 -- a well made operation that names the client
 abbrev pub IsOwnOp : List ℕ → Op → Type 0

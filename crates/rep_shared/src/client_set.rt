@@ -38,6 +38,15 @@ pub trait ClientSet: Drop {
     /// What is staged is that of the latest `prepare`, and nothing was committed since.
     ghost ready: { Self → Self.Staged → Type 0 };
 
+    /// What is kept once what lies aside is put back.
+    ghost back: { Self → Self → List Op };
+
+    /// What lies aside can be put back.
+    ghost can_go_back: { Self → Self → Type 0 };
+
+    /// What the staged operations replace lies aside.
+    ghost is_saved: { Self → Self.Staged → Type 0 };
+
     /// The replica of the empty set.
     fn empty(alloc: Global) -> Result<Self, TakeFault>
         ensures ok { IfOk result (λ made. kept made ≡ []) }
@@ -53,12 +62,41 @@ pub trait ClientSet: Drop {
         ensures clients { IfOk result (λ staged. AreOfClients (after self.new staged)) }
         ensures taken { IfOk result (λ staged. IsKeptOf (kept self.old ++ ops.now)
             (after self.new staged)) }
-        ensures fault { IfErr result (λ fault. IsFaultOf (kept self.old) ops.now fault) };
+        ensures fault { IfErr result (λ fault. IsFaultOf (kept self.old) ops.now fault) }
+        ensures aside { (aside : Self) → can_go_back self.old aside
+            → (can_go_back self.new aside) × (back self.new aside ≡ back self.old aside) };
 
     /// Takes the operations of the latest `prepare`.
     fn commit(&mut self, staged: Self::Staged)
         requires { ready self.old staged }
-        ensures { kept self.new ≡ after self.old staged };
+        ensures kept { kept self.new ≡ after self.old staged }
+        // What lies aside is put back as before.
+        ensures aside { (aside : Self) → is_saved aside staged → can_go_back self.old aside
+            → (can_go_back self.new aside) × (back self.new aside ≡ back self.old aside) };
+
+    /// A place for what changes replace, with nothing in it.
+    fn aside(&self, alloc: Global) -> Result<Self, TakeFault>
+        ensures can { IfOk result (λ made. can_go_back self.now made) }
+        ensures back { IfOk result (λ made. back self.now made ≡ kept self.now) }
+        ensures clients { IfOk result (λ made. AreOfClients (kept made)) }
+        ensures err { IfErr result (λ fault. fault ≡ Memory) };
+
+    /// Puts aside what the staged operations replace, unless it lies there already. If memory runs
+    /// out, some of it may lie there.
+    fn save(&self, alloc: Global, aside: &mut Self, staged: &Self::Staged) -> Result<(), TakeFault>
+        requires ready { ready self.now staged.now }
+        requires can { can_go_back self.now aside.old }
+        ensures can { can_go_back self.now aside.new }
+        ensures back { back self.now aside.new ≡ back self.now aside.old }
+        ensures clients { AreOfClients (kept aside.new) }
+        ensures saved { OnOk result (is_saved aside.new staged.now) }
+        ensures err { IfErr result (λ fault. fault ≡ Memory) };
+
+    /// Puts back what lies aside. It takes no memory.
+    fn put_back(&mut self, aside: Self)
+        requires { can_go_back self.old aside }
+        ensures kept { kept self.new ≡ back self.old aside }
+        ensures clients { AreOfClients (kept self.new) };
 
     /// The view of a client, where an operation names it.
     fn view_of(&self, client: &ClientId) -> Option<&ClientView>

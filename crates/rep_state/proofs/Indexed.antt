@@ -27,7 +27,7 @@ use Rattle.rep_state.specs.inner.Tables.{place_cmp}
 pub same_some : {A : Type 0} (x y : A) → Some x ≡ Some y → x ≡ y
 same_some x y e = ap (λ o. unwrap_or o x) e
 
-none_is_some : {A P : Type 0} (x : A) → None ≡ Some x → P
+pub none_is_some : {A P : Type 0} (x : A) → None ≡ Some x → P
 none_is_some x h = absurd (true≢false (sym (ap is_some h)))
 
 pub in_order : (es : List (Vec ℕ Global × Entry)) → T (is_sorted client_cmp (by_client es))

@@ -5,6 +5,7 @@ pub mod Passing
 pub mod Groups
 pub mod Fitting
 pub mod Placing
+pub mod Backs
 pub mod Staging
 pub mod Reading
 pub mod Working

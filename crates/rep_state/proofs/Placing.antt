@@ -9,9 +9,10 @@ use Rattle.rep_op.specs.declared.op.Op.{Op}
 use Rattle.rep_op.specs.Orders.{client_cmp}
 use Rattle.rep_model.specs.Limits.{parked, exceptions}
 use Rattle.rep_model.proofs.Readers.{client_total, client_exact}
-use Rattle.rep_shared.specs.Rows.{flat, own, or_nothing, moved, has_any, count_named}
+use Rattle.rep_shared.specs.Rows.{flat, own, or_nothing, moved, has_any, count_named, CanGoBack}
 use Rattle.rep_shared.specs.Steps.{capped}
 use Rattle.rep_shared.proofs.Flat.{all_put, count_put, moved_last, one_if}
+use Rattle.rep_shared.proofs.Undo.{place_back}
 use Rattle.rep_entry.specs.declared.entry.Entry.{Entry}
 use Rattle.rep_entry.specs.Entries.{row_of, IsEntry}
 use Rattle.rep_state.specs.Tables.{rows_of, IsKept, AreKept}
@@ -19,13 +20,17 @@ use Rattle.rep_state.specs.inner.Tables.{IsRoomier}
 use Rattle.rep_state.proofs.Rows.{find_rows, rows_put, table_rows}
 
 pub roomier_itself : (es : List (List ℕ × Entry)) → IsRoomier es es
-roomier_itself es = record { same = refl; table = λ count h. h; found = λ c h. h }
+roomier_itself es = record { same = refl; table = λ count h. h; found = λ c h. h; back = λ count t aside can. (can, refl) }
 
 pub roomier_then : {a b c : List (List ℕ × Entry)} → IsRoomier a b → IsRoomier b c → IsRoomier a c
 roomier_then h k = record {
   same = k.same ∙ h.same;
   table = λ count t. k.table count (h.table count t);
   found = λ q s. k.found q (h.found q s);
+  back = λ count t aside can.
+      let first = h.back count t aside can in
+      let second = k.back count (h.table count t) aside first.0 in
+      (second.0, second.1 ∙ first.1);
 }
 
 none_some : {A P : Type 0} (x : A) → Some x ≡ None → P
@@ -45,7 +50,7 @@ found_put : (q c : List ℕ) (ops : List Op) (rows : List (List ℕ × List Op))
 found_put q c ops rows h = subst (λ o. IsSome o) (sym (find-put client_cmp client_total q c ops rows))
     (elim (eq_by_cmp client_cmp q c) as (λ b. IsSome (cond b (Some ops) (find client_cmp q rows))) [ true ↦ refl | false ↦ h ])
 
-there_put : (c : List ℕ) (ops : List Op) (rows : List (List ℕ × List Op)) → find client_cmp c (put client_cmp c ops rows) ≡ Some ops
+pub there_put : (c : List ℕ) (ops : List Op) (rows : List (List ℕ × List Op)) → find client_cmp c (put client_cmp c ops rows) ≡ Some ops
 there_put c ops rows = find-put client_cmp client_total c c ops rows ∙ ap (λ r. cond (is_eq r) (Some ops) (find client_cmp c rows)) (tied_itself client_total c)
 
 pub empty_kept : (c : List ℕ) (e : Entry) → IsEntry c e → row_of c e ≡ [] → e.seen.pending ≡ [] → IsKept c e
@@ -79,6 +84,7 @@ roomier_place es new c e at absent row entry =
             few = t.few;
           };
       found = λ q h. subst (λ rows. IsSome (find client_cmp q rows)) (sym rows) (found_put q c [] (rows_of es) h);
+      back = λ count t aside can. subst (λ (rs : List (List ℕ × List Op)). CanGoBack rs aside × (flat (moved rs aside) ≡ flat (moved (rows_of es) aside))) (sym rows) (place_back (rows_of es) aside c (table_rows es count t).sorted none can);
     }
 
 pub place_there : (es new : List (List ℕ × Entry)) (c : List ℕ) (e : Entry) → new ≡ put client_cmp c e es → IsSome (find client_cmp c (rows_of new))

@@ -14,6 +14,7 @@
 //!
 //! - `replica`: the replica of clients and what it promises (`FoldedClients`, `Staged`).
 //! - `table`, `room`: the table of clients, the limits, room for fresh entries and their move.
+//! - `asides`: what lies aside, and the way back.
 //! - `places`: the clients in order, each with the marks of what it asks for; the next that a
 //!   publication may be for.
 //! - `agreeing`: whether a delta contradicts what is kept.
@@ -28,6 +29,7 @@
 #![tactic(auto)]
 
 mod agreeing;
+mod asides;
 mod grouping;
 mod held;
 mod numbers;

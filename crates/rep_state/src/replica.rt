@@ -3,6 +3,7 @@
 ghost use Rattle.std.specs.Prelude.{◌≡◌};
 
 use super::agreeing::check;
+use super::asides::{count_all, put_all_back, save_all};
 use super::grouping::{grown, worked_out};
 use super::held::{kept_ops, named_at, named_clients, next_asking};
 use super::numbers::{last_epoch, last_seq};
@@ -71,7 +72,7 @@ impl Model for Staged {
 
 impl ClientSet for FoldedClients {
     ghost use Rattle.std.specs.Prelude.{◌≡◌};
-    ghost use Rattle.rep_shared.specs.Rows.{flat, moved, count_named};
+    ghost use Rattle.rep_shared.specs.Rows.{flat, moved, count_named, CanGoBack, AreSaved};
     ghost use Rattle.rep_entry.specs.Staging.{planned, AreReady};
 
     type Staged = Staged;
@@ -82,6 +83,12 @@ impl ClientSet for FoldedClients {
 
     ghost ready = { λ rows staged. AreReady rows staged.0
         × (staged.1 ≡ count_named (moved rows (planned rows staged.0))) };
+
+    ghost back = { λ rows aside. flat (moved rows aside) };
+
+    ghost can_go_back = { λ rows aside. CanGoBack rows aside };
+
+    ghost is_saved = { λ aside staged. AreSaved aside staged.0 };
 
     fn empty(alloc: Global) -> Result<FoldedClients, TakeFault> {
         Ok(FoldedClients {
@@ -107,6 +114,39 @@ impl ClientSet for FoldedClients {
         let Staged { changes, named } = staged;
         move_in(&mut self.table, &mut self.places, changes);
         self.named = named;
+    }
+
+    fn aside(&self, alloc: Global) -> Result<FoldedClients, TakeFault> {
+        let _ = &self.table;
+        let named = 0;
+        Ok(FoldedClients {
+            table: IndexMap::new(alloc),
+            places: Vec::new(alloc),
+            named,
+        })
+    }
+
+    fn save(
+        &self,
+        alloc: Global,
+        aside: &mut FoldedClients,
+        staged: &Staged,
+    ) -> Result<(), TakeFault> {
+        save_all(
+            alloc,
+            &self.table,
+            &mut aside.table,
+            &mut aside.places,
+            &mut aside.named,
+            staged.changes.as_slice(),
+        )?;
+        Ok(())
+    }
+
+    fn put_back(&mut self, aside: FoldedClients) {
+        let FoldedClients { table, .. } = aside;
+        put_all_back(&mut self.table, &mut self.places, table);
+        self.named = count_all(&self.table, self.places.as_slice());
     }
 
     fn view_of(&self, client: &ClientId) -> Option<&ClientView> {

@@ -78,7 +78,7 @@ fn add_place(
 }
 
 /// The client of these octets. Some client has them, so nothing but memory can be wanting.
-fn named(alloc: Global, client: &[u8]) -> Result<ClientId, NoMemory>
+pub(crate) fn named(alloc: Global, client: &[u8]) -> Result<ClientId, NoMemory>
     ensures { IfOk result (λ name. name ≡ client.now) }
 {
     match ClientId::new(alloc, client) {

@@ -10,10 +10,11 @@ ghost use Rattle.rep_op.specs.Sessions.{text_octets, change_octets};
 ghost use Rattle.rep_op.specs.Spelling.{client_octets, later_octets, put_octets, retained_octets, op_octets};
 ghost use Rattle.rep_write.specs.Writing.{Writes};
 
-use super::write_session::{write_change, write_text};
+use super::write_session::{write_change, write_number, write_octet, write_text, write_two};
 use octets::{NoMemory, append_u64};
 use rep_op::{ClientId, Op, Put, Retained, Stamp, Version};
 use sn_session::SessionOp;
+use sn_topic::TopicName;
 
 /// Writes a client.
 pub fn write_client(out: &mut Vec<u8>, client: &ClientId) -> Result<(), NoMemory>
@@ -50,10 +51,9 @@ fn write_content(out: &mut Vec<u8>, version: Version, put: &Put) -> Result<(), N
     ensures { Writes (put.now.qos ∷ (later_octets version put.now.retain put.now.expires
         ++ text_octets put.now.body)) out.old.items out.new.items result }
 {
-    out.push(put.qos.number())?;
+    write_octet(out, put.qos.number())?;
     write_later(out, version, put.retain, put.expires)?;
-    write_text(out, put.body.as_slice())?;
-    Ok(())
+    write_text(out, put.body.as_slice())
 }
 
 /// Writes a message.
@@ -61,11 +61,9 @@ fn write_put(out: &mut Vec<u8>, version: Version, put: &Put) -> Result<(), NoMem
     requires { IsTrue (spec.is_put put.now) }
     ensures { Writes (put_octets version put.now) out.old.items out.new.items result }
 {
-    out.push(put.origin)?;
-    append_u64(out, put.seq)?;
+    write_number(out, put.origin, put.seq)?;
     write_text(out, put.topic.bytes())?;
-    write_content(out, version, put)?;
-    Ok(())
+    write_content(out, version, put)
 }
 
 /// Writes what is retained.
@@ -74,7 +72,7 @@ fn write_retained(out: &mut Vec<u8>, kept: &Retained) -> Result<(), NoMemory>
     ensures { Writes (retained_octets kept.now) out.old.items out.new.items result }
 {
     append_u64(out, kept.clock)?;
-    out.extend_from_slice(&[kept.gateway, kept.qos.number()])?;
+    write_two(out, kept.gateway, kept.qos.number())?;
     write_text(out, kept.body.as_slice())?;
     Ok(())
 }
@@ -83,9 +81,8 @@ fn write_retained(out: &mut Vec<u8>, kept: &Retained) -> Result<(), NoMemory>
 fn write_kind(out: &mut Vec<u8>, kind: u8, client: &ClientId) -> Result<(), NoMemory>
     ensures { Writes (kind ∷ client_octets client.now) out.old.items out.new.items result }
 {
-    out.push(kind)?;
-    write_client(out, client)?;
-    Ok(())
+    write_octet(out, kind)?;
+    write_client(out, client)
 }
 
 /// Writes a change of a session with its stamp and its counter.
@@ -101,7 +98,7 @@ fn write_stamped(
         out.old.items out.new.items result }
 {
     append_u64(out, stamp.epoch)?;
-    out.extend_from_slice(&[stamp.gateway, counter])?;
+    write_two(out, stamp.gateway, counter)?;
     write_change(out, change)?;
     Ok(())
 }
@@ -111,10 +108,17 @@ fn write_range(out: &mut Vec<u8>, origin: u8, first: u64, last: u64) -> Result<(
     ensures { Writes ((origin ∷ big_bytes 8 first) ++ big_bytes 8 last)
         out.old.items out.new.items result }
 {
-    out.push(origin)?;
-    append_u64(out, first)?;
+    write_number(out, origin, first)?;
     append_u64(out, last)?;
     Ok(())
+}
+
+/// Writes that something is retained, and its topic.
+fn write_topic(out: &mut Vec<u8>, topic: &TopicName) -> Result<(), NoMemory>
+    ensures { Writes (4 ∷ text_octets topic.now) out.old.items out.new.items result }
+{
+    write_octet(out, 4)?;
+    write_text(out, topic.bytes())
 }
 
 /// Writes an operation as this version spells it.
@@ -130,11 +134,11 @@ pub fn write_op(out: &mut Vec<u8>, version: Version, op: &Op) -> Result<(), NoMe
             change,
         } => {
             write_kind(out, 1, client)?;
-            write_stamped(out, stamp, *counter, change)?;
+            write_stamped(out, stamp, *counter, change)
         }
         Op::Put { client, put } => {
             write_kind(out, 2, client)?;
-            write_put(out, version, put)?;
+            write_put(out, version, put)
         }
         Op::Ack {
             client,
@@ -143,13 +147,11 @@ pub fn write_op(out: &mut Vec<u8>, version: Version, op: &Op) -> Result<(), NoMe
             last,
         } => {
             write_kind(out, 3, client)?;
-            write_range(out, *origin, *first, *last)?;
+            write_range(out, *origin, *first, *last)
         }
         Op::Retain { topic, retained } => {
-            out.push(4)?;
-            write_text(out, topic.bytes())?;
-            write_retained(out, retained)?;
+            write_topic(out, topic)?;
+            write_retained(out, retained)
         }
     }
-    Ok(())
 }

@@ -2,7 +2,7 @@
 
 #![tactic(auto, using(crate::proofs::Writing::keeps_itself, crate::proofs::Writing::keeps_more, crate::proofs::Writing::keeps_through))]
 
-ghost use Rattle.std.specs.Prelude.{◌≡◌, ◌<◌, ◌^◌, ◌++◌, ◌∷◌, [], length, IsTrue};
+ghost use Rattle.std.specs.Prelude.{◌≡◌, ◌<◌, ◌^◌, ◌++◌, ◌∷◌, [], length, drop, IsTrue};
 ghost use Rattle.std.specs.List.{flat_map};
 ghost use Rattle.byteorder.specs.Endian.{big_bytes};
 ghost use Rattle.rep_op.specs.Ranges.{is_will, is_session, is_change};
@@ -36,6 +36,31 @@ fn phase_code(phase: Phase) -> u8
         Phase::Published => 1,
         Phase::Released => 2,
     }
+}
+
+/// Writes an octet.
+pub fn write_octet(out: &mut Vec<u8>, octet: u8) -> Result<(), NoMemory>
+    ensures { Writes (octet ∷ []) out.old.items out.new.items result }
+{
+    out.push(octet)?;
+    Ok(())
+}
+
+/// Writes two octets.
+pub fn write_two(out: &mut Vec<u8>, first: u8, second: u8) -> Result<(), NoMemory>
+    ensures { Writes (first ∷ second ∷ []) out.old.items out.new.items result }
+{
+    out.extend_from_slice(&[first, second])?;
+    Ok(())
+}
+
+/// Writes an origin and a sequence number.
+pub fn write_number(out: &mut Vec<u8>, origin: u8, seq: u64) -> Result<(), NoMemory>
+    ensures { Writes (origin ∷ big_bytes 8 seq) out.old.items out.new.items result }
+{
+    write_octet(out, origin)?;
+    append_u64(out, seq)?;
+    Ok(())
 }
 
 /// Writes a text.
@@ -140,20 +165,33 @@ fn write_received(out: &mut Vec<u8>, received: &Received) -> Result<(), NoMemory
     Ok(())
 }
 
+/// Writes that there is a will, and all of it but its message.
+fn write_asked(
+    out: &mut Vec<u8>,
+    qos: QosLevel,
+    retain: bool,
+    topic: &TopicName,
+) -> Result<(), NoMemory>
+    ensures { Writes (1 ∷ qos ∷ flag_octet retain ∷ text_octets topic.now) out.old.items
+        out.new.items result }
+{
+    out.extend_from_slice(&[1, qos.number(), retain as u8])?;
+    write_text(out, topic.bytes())
+}
+
 /// Writes a will.
 fn write_will(out: &mut Vec<u8>, will: &Option<Will>) -> Result<(), NoMemory>
     requires { IsTrue (is_will will.now) }
     ensures { Writes (option_octets will_octets will.now) out.old.items out.new.items result }
 {
     match will {
-        None => out.push(0)?,
+        None => write_octet(out, 0),
         Some(will) => {
-            out.extend_from_slice(&[1, will.qos.number(), will.retain as u8])?;
-            write_text(out, will.topic.bytes())?;
+            write_asked(out, will.qos, will.retain, &will.topic)?;
             write_text(out, will.message.as_slice())?;
+            Ok(())
         }
     }
-    Ok(())
 }
 
 /// Writes a will's topic.
@@ -162,12 +200,19 @@ fn write_will_topic(out: &mut Vec<u8>, asked: &Option<WillTopic>) -> Result<(), 
         out.new.items result }
 {
     match asked {
-        None => out.push(0)?,
-        Some(asked) => {
-            out.extend_from_slice(&[1, asked.qos.number(), asked.retain as u8])?;
-            write_text(out, asked.topic.bytes())?;
-        }
+        None => write_octet(out, 0),
+        Some(asked) => write_asked(out, asked.qos, asked.retain, &asked.topic),
     }
+}
+
+/// Writes that there is an exchange, and the exchange.
+fn write_some_exchange(out: &mut Vec<u8>, exchange: &Outbound) -> Result<(), NoMemory>
+    ensures { Writes (1 ∷ exchange_octets exchange.now) out.old.items out.new.items result }
+{
+    write_octet(out, 1)?;
+    write_number(out, exchange.origin, exchange.seq)?;
+    append_u16(out, exchange.msg_id)?;
+    write_octet(out, phase_code(exchange.phase))?;
     Ok(())
 }
 
@@ -177,15 +222,9 @@ fn write_exchange(out: &mut Vec<u8>, exchange: &Option<Outbound>) -> Result<(), 
         out.new.items result }
 {
     match exchange {
-        None => out.push(0)?,
-        Some(exchange) => {
-            out.extend_from_slice(&[1, exchange.origin])?;
-            append_u64(out, exchange.seq)?;
-            append_u16(out, exchange.msg_id)?;
-            out.push(phase_code(exchange.phase))?;
-        }
+        None => write_octet(out, 0),
+        Some(exchange) => write_some_exchange(out, exchange),
     }
-    Ok(())
 }
 
 /// Writes where the client is, and the numbers of a session.
@@ -200,6 +239,20 @@ fn write_head(out: &mut Vec<u8>, session: &Session) -> Result<(), NoMemory>
     Ok(())
 }
 
+/// Writes the parts of a session that stand after its subscriptions.
+fn write_later_parts(out: &mut Vec<u8>, session: &Session) -> Result<(), NoMemory>
+    requires { IsTrue (is_will session.now.will) }
+    ensures { Writes (option_octets will_octets session.now.will
+        ++ table_octets (big_bytes 2) session.now.received
+        ++ option_octets exchange_octets session.now.outbound) out.old.items
+        out.new.items result }
+{
+    write_will(out, &session.will)?;
+    write_received(out, &session.received)?;
+    write_exchange(out, &session.outbound)?;
+    Ok(())
+}
+
 /// Writes a session.
 fn write_session(out: &mut Vec<u8>, session: &Session) -> Result<(), NoMemory>
     requires { IsTrue (is_session session.now) }
@@ -208,10 +261,75 @@ fn write_session(out: &mut Vec<u8>, session: &Session) -> Result<(), NoMemory>
     write_head(out, session)?;
     write_topics(out, &session.topics)?;
     write_subscriptions(out, &session.subscriptions)?;
-    write_will(out, &session.will)?;
-    write_received(out, &session.received)?;
-    write_exchange(out, &session.outbound)?;
+    write_later_parts(out, session)?;
     Ok(())
+}
+
+/// The tag of a change.
+fn change_code(change: &SessionOp) -> u8
+    ensures { change_octets change.now ≡ result ∷ drop 1 (change_octets change.now) }
+{
+    match change {
+        SessionOp::Take(_) => 0,
+        SessionOp::Presence { .. } => 1,
+        SessionOp::Register { .. } => 2,
+        SessionOp::Subscribe { .. } => 3,
+        SessionOp::Unsubscribe { .. } => 4,
+        SessionOp::WillTopic(_) => 5,
+        SessionOp::WillMsg(_) => 6,
+        SessionOp::Received { .. } => 7,
+        SessionOp::Released { .. } => 8,
+        SessionOp::Outbound { .. } => 9,
+    }
+}
+
+/// Writes a presence and a duration.
+fn write_presence(out: &mut Vec<u8>, presence: Presence, duration: u16) -> Result<(), NoMemory>
+    ensures { Writes (presence_octet presence ∷ big_bytes 2 duration) out.old.items
+        out.new.items result }
+{
+    write_octet(out, presence_code(presence))?;
+    append_u16(out, duration)?;
+    Ok(())
+}
+
+/// Writes a message id.
+fn write_id(out: &mut Vec<u8>, id: u16) -> Result<(), NoMemory>
+    ensures { Writes (big_bytes 2 id) out.old.items out.new.items result }
+{
+    append_u16(out, id)?;
+    Ok(())
+}
+
+/// Writes a next message id and an exchange.
+fn write_outbound(
+    out: &mut Vec<u8>,
+    next_id: u16,
+    exchange: &Option<Outbound>,
+) -> Result<(), NoMemory>
+    ensures { Writes (big_bytes 2 next_id ++ option_octets exchange_octets exchange.now)
+        out.old.items out.new.items result }
+{
+    write_id(out, next_id)?;
+    write_exchange(out, exchange)
+}
+
+/// Writes the fields of a change.
+fn write_fields(out: &mut Vec<u8>, change: &SessionOp) -> Result<(), NoMemory>
+    requires { IsTrue (is_change change.now) }
+    ensures { Writes (drop 1 (change_octets change.now)) out.old.items out.new.items result }
+{
+    match change {
+        SessionOp::Take(session) => write_session(out, session),
+        SessionOp::Presence { presence, duration } => write_presence(out, *presence, *duration),
+        SessionOp::Register { id, name, known } => write_named(out, *id, *known, name),
+        SessionOp::Subscribe { filter, qos } => write_filter(out, filter, *qos),
+        SessionOp::Unsubscribe { filter } => write_text(out, filter.bytes()),
+        SessionOp::WillTopic(asked) => write_will_topic(out, asked),
+        SessionOp::WillMsg(message) => write_text(out, message.as_slice()),
+        SessionOp::Received { id } | SessionOp::Released { id } => write_id(out, *id),
+        SessionOp::Outbound { exchange, next_id } => write_outbound(out, *next_id, exchange),
+    }
 }
 
 /// Writes a change of a session.
@@ -219,48 +337,6 @@ pub fn write_change(out: &mut Vec<u8>, change: &SessionOp) -> Result<(), NoMemor
     requires { IsTrue (is_change change.now) }
     ensures { Writes (change_octets change.now) out.old.items out.new.items result }
 {
-    match change {
-        SessionOp::Take(session) => {
-            out.push(0)?;
-            write_session(out, session)?;
-        }
-        SessionOp::Presence { presence, duration } => {
-            out.extend_from_slice(&[1, presence_code(*presence)])?;
-            append_u16(out, *duration)?;
-        }
-        SessionOp::Register { id, name, known } => {
-            out.push(2)?;
-            write_named(out, *id, *known, name)?;
-        }
-        SessionOp::Subscribe { filter, qos } => {
-            out.push(3)?;
-            write_filter(out, filter, *qos)?;
-        }
-        SessionOp::Unsubscribe { filter } => {
-            out.push(4)?;
-            write_text(out, filter.bytes())?;
-        }
-        SessionOp::WillTopic(asked) => {
-            out.push(5)?;
-            write_will_topic(out, asked)?;
-        }
-        SessionOp::WillMsg(message) => {
-            out.push(6)?;
-            write_text(out, message.as_slice())?;
-        }
-        SessionOp::Received { id } => {
-            out.push(7)?;
-            append_u16(out, *id)?;
-        }
-        SessionOp::Released { id } => {
-            out.push(8)?;
-            append_u16(out, *id)?;
-        }
-        SessionOp::Outbound { exchange, next_id } => {
-            out.push(9)?;
-            append_u16(out, *next_id)?;
-            write_exchange(out, exchange)?;
-        }
-    }
-    Ok(())
+    write_octet(out, change_code(change))?;
+    write_fields(out, change)
 }

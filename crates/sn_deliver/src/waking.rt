@@ -168,8 +168,10 @@ fn woken_by(
         Presence::Active => from_activity(alloc, to, client, draft),
         Presence::Asleep => from_sleep(alloc, to, client, session, idle, draft),
         Presence::Awake => from_wake(alloc, to, client, session, idle, draft),
-        Presence::Disconnected => turn_away(alloc, to),
-        Presence::Lost => turn_away(alloc, to),
+        Presence::Disconnected | Presence::Lost => {
+            drop(draft);
+            turn_away(alloc, to)
+        }
     }
 }
 

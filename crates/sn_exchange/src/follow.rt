@@ -73,6 +73,31 @@ fn follow_for<R: Replica>(
     followed
 }
 
+/// And then what follows, for the client at this address; without one nothing follows.
+fn follow_at<R: Replica>(
+    alloc: Global,
+    predefined: &Predefined,
+    replica: &R,
+    address: Addr,
+    now: u64,
+    client: &Option<ClientId>,
+    draft: &mut Draft,
+    follow: &Follow,
+) -> Result<(), NoMemory>
+    ensures { OnOk result (draft.new ≡ spec.followed_for predefined.now
+        (seen_of (R.kept replica.now)) address now draft.old follow.now client.now) }
+{
+    match client {
+        None => Ok(()),
+        Some(client) => {
+            let peer = peer_at(alloc, address, client, now)?;
+            let followed = follow_for(alloc, predefined, replica, &peer, draft, follow);
+            drop(peer);
+            followed
+        }
+    }
+}
+
 /// The row with what follows it, for its client at this address.
 fn followed<R: Replica>(
     alloc: Global,
@@ -90,20 +115,18 @@ fn followed<R: Replica>(
         mut draft,
         follow,
     } = row;
-    match client {
-        None => Ok(Row {
-            client: None,
+    match follow_at(
+        alloc, predefined, replica, address, now, &client, &mut draft, &follow,
+    ) {
+        Ok(()) => Ok(Row {
+            client,
             draft,
             follow,
         }),
-        Some(client) => {
-            let peer = peer_at(alloc, address, &client, now)?;
-            follow_for(alloc, predefined, replica, &peer, &mut draft, &follow)?;
-            Ok(Row {
-                client: Some(client),
-                draft,
-                follow,
-            })
+        Err(fault) => {
+            drop(client);
+            drop(draft);
+            Err(fault)
         }
     }
 }

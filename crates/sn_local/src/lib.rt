@@ -3,7 +3,8 @@
 //!
 //! - `config`: what a gateway is told (`Config`), addresses (`Addr`), what is sent (`Send`).
 //! - `local`: the gateway's local state (`Dialogs`), and how it may change (`LocalChange`).
-//!   `bindings`, `will_dialogs`, `timers` are its three lists, and `changes` carries changes out.
+//!   `bindings`, `will_dialogs`, `timers` are its three lists, `changes` carries changes out, and
+//!   `copies` makes equal lists.
 //! - `lifetime`: how long messages wait (`expires_at`).
 //! - `fault`: why a step has no plan.
 //!
@@ -17,6 +18,7 @@
 mod bindings;
 mod changes;
 mod config;
+mod copies;
 mod fault;
 mod lifetime;
 mod local;

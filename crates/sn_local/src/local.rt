@@ -6,6 +6,7 @@ ghost use Rattle.std.specs.Option.{option_copied};
 use super::bindings::{address_of, client_at, keep_bindings};
 use super::changes::commit_all;
 use super::config::Addr;
+use super::copies::{copy_bindings, copy_dialogs, copy_timers};
 use super::timers::{keep_timers, timer_of};
 use super::will_dialogs::{dialog_at, is_crowded};
 use octets::{NoMemory, Sequence};
@@ -24,6 +25,18 @@ pub struct Binding {
     pub client: ClientId,
 }
 
+impl Binding {
+    /// An equal binding.
+    pub fn copied(&self, alloc: Global) -> Result<Binding, NoMemory>
+        ensures { IfOk result (λ made. made ≡ self.now) }
+    {
+        Ok(Binding {
+            address: self.address,
+            client: self.client.copied(alloc)?,
+        })
+    }
+}
+
 /// What a will dialog waits for.
 #[derive(Drop)]
 pub enum Awaited {
@@ -31,6 +44,18 @@ pub enum Awaited {
     Topic,
     /// The message of the will, whose topic was given.
     Message(WillTopic),
+}
+
+impl Awaited {
+    /// The same.
+    pub fn copied(&self, alloc: Global) -> Result<Awaited, NoMemory>
+        ensures { IfOk result (λ made. made ≡ self.now) }
+    {
+        match self {
+            Awaited::Topic => Ok(Awaited::Topic),
+            Awaited::Message(topic) => Ok(Awaited::Message(topic.copied(alloc)?)),
+        }
+    }
 }
 
 /// What a CONNECT asks for.
@@ -72,6 +97,21 @@ pub struct WillDialog {
     pub awaited: Awaited,
 }
 
+impl WillDialog {
+    /// An equal dialog.
+    pub fn copied(&self, alloc: Global) -> Result<WillDialog, NoMemory>
+        ensures { IfOk result (λ made. made ≡ self.now) }
+    {
+        let request = self.request.copied(alloc)?;
+        let awaited = self.awaited.copied(alloc)?;
+        Ok(WillDialog {
+            request,
+            begun: self.begun,
+            awaited,
+        })
+    }
+}
+
 /// The moments of a client, in seconds.
 #[derive(Drop)]
 pub struct Timer {
@@ -83,6 +123,20 @@ pub struct Timer {
     pub sent: u64,
     /// How often that frame was sent again.
     pub tries: u8,
+}
+
+impl Timer {
+    /// An equal timer.
+    pub fn copied(&self, alloc: Global) -> Result<Timer, NoMemory>
+        ensures { IfOk result (λ made. made ≡ self.now) }
+    {
+        Ok(Timer {
+            client: self.client.copied(alloc)?,
+            heard: self.heard,
+            sent: self.sent,
+            tries: self.tries,
+        })
+    }
 }
 
 /// A change of a gateway's local state.
@@ -166,6 +220,24 @@ impl Dialogs {
             timers: Vec::new(alloc),
             advertised: None,
         }
+    }
+
+    /// An equal local state.
+    pub fn copied(&self, alloc: Global) -> Result<Dialogs, NoMemory>
+        ensures { IfOk result (λ made. made.local ≡ self.now.local) }
+    {
+        let bound = self.bindings.as_slice();
+        let asked = self.dialogs.as_slice();
+        let timed = self.timers.as_slice();
+        let bindings = copy_bindings(alloc, bound)?;
+        let dialogs = copy_dialogs(alloc, asked)?;
+        let timers = copy_timers(alloc, timed)?;
+        Ok(Dialogs {
+            bindings,
+            dialogs,
+            timers,
+            advertised: self.advertised,
+        })
     }
 
     /// Makes room for these changes. The state stays.

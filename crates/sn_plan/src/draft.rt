@@ -98,8 +98,13 @@ impl Draft {
         ensures { IfOk result (λ draft. draft ≡ sent to frame nothing) }
     {
         let mut draft = Draft::new(alloc);
-        draft.send(alloc, to, frame)?;
-        Ok(draft)
+        match draft.send(alloc, to, frame) {
+            Ok(()) => Ok(draft),
+            Err(fault) => {
+                drop(draft);
+                Err(fault)
+            }
+        }
     }
 
     /// The changes of the session so far.

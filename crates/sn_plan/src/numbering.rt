@@ -284,6 +284,9 @@ pub fn number_puts<R: Replica>(
             body,
         } = new;
         let Some(seq) = replica.next_seq(&client, gateway) else {
+            drop(client);
+            drop(topic);
+            drop(body);
             return Err(StepFault::Exhausted);
         };
         let put = Put {
@@ -375,6 +378,8 @@ fn number_posted<R: Replica>(
 {
     let Posted { topic, qos, body } = posted;
     let Some(clock) = replica.next_clock(&topic) else {
+        drop(topic);
+        drop(body);
         return Err(StepFault::Exhausted);
     };
     let retained = Retained {

@@ -53,11 +53,17 @@ impl Row {
     ) -> Result<Row, NoMemory>
         ensures { IfOk result (λ row. row ≡ row_of follow client.now draft) }
     {
-        Ok(Row {
-            client: Some(client.copied(alloc)?),
-            draft,
-            follow,
-        })
+        match client.copied(alloc) {
+            Ok(client) => Ok(Row {
+                client: Some(client),
+                draft,
+                follow,
+            }),
+            Err(fault) => {
+                drop(draft);
+                Err(fault)
+            }
+        }
     }
 
     /// A row for nobody.
@@ -89,8 +95,13 @@ pub fn heard_row(
 ) -> Result<Row, NoMemory>
     ensures { IfOk result (λ heard. heard ≡ spec.heard_row (option_copied bound.entry) now row) }
 {
-    hear_of(alloc, &mut row.draft, bound, now)?;
-    Ok(row)
+    match hear_of(alloc, &mut row.draft, bound, now) {
+        Ok(()) => Ok(row),
+        Err(fault) => {
+            drop(row);
+            Err(fault)
+        }
+    }
 }
 
 /// The plan of a row, without what follows it.
@@ -136,8 +147,13 @@ pub fn stray(alloc: Global, from: Addr, bound: Option<&ClientId>, now: u64) -> R
         None => turn_away(alloc, from),
         Some(client) => {
             let mut draft = Draft::new(alloc);
-            hear_of(alloc, &mut draft, Some(client), now)?;
-            Row::new(alloc, Follow::Delivery, client, draft)
+            match hear_of(alloc, &mut draft, Some(client), now) {
+                Ok(()) => Row::new(alloc, Follow::Delivery, client, draft),
+                Err(fault) => {
+                    drop(draft);
+                    Err(fault)
+                }
+            }
         }
     }
 }

@@ -2,8 +2,10 @@
 
 ghost use Rattle.std.specs.Prelude.{◌≡◌, IfOk, OnOk};
 ghost use Rattle.sn_local.specs.Seen.{seen_of};
-ghost use Rattle.sn_plan.specs.Drafts.{nothing, put_all, sent};
-ghost use Rattle.sn_frame.specs.declared.frame.Frame.TheVariants.{PubAck, PubRec};
+ghost use Rattle.sn_plan.specs.Drafts.{changed, changed_if, nothing, put_all, sent};
+ghost use Rattle.sn_frame.specs.declared.frame.Frame.TheVariants.{PubAck, PubComp, PubRec};
+ghost use Rattle.sn_session.specs.declared.change.SessionOp.TheVariants.{Received};
+ghost use Rattle.sn_publish.specs.declared.meaning.Meant.TheVariants.{Topic};
 ghost use Rattle.sn_publish.specs.Recipients as recipients;
 ghost use Rattle.sn_publish.specs.Publishing as spec;
 
@@ -34,8 +36,13 @@ fn puts_draft<R: Replica>(
 {
     let puts = puts_for(alloc, replica, name, qos, body)?;
     let mut draft = Draft::new(alloc);
-    draft.put_all(puts)?;
-    Ok(draft)
+    match draft.put_all(puts) {
+        Ok(()) => Ok(draft),
+        Err(_) => {
+            drop(draft);
+            Err(NoMemory)
+        }
+    }
 }
 
 /// A message for each recipient; and it is retained, where that is asked for.
@@ -89,10 +96,12 @@ fn puback(alloc: Global, to: Addr, topic_id: u16, msg_id: u16, code: u8) -> Resu
     Draft::reply(alloc, to, answer)
 }
 
-/// And then a PUBREC.
-fn pubrec(alloc: Global, to: Addr, msg_id: u16, draft: &mut Draft) -> Result<(), NoMemory>
-    ensures { OnOk result (draft.new ≡ sent to (PubRec msg_id) draft.old) }
+/// And then the message id is received, and a PUBREC says so.
+fn receive(alloc: Global, to: Addr, msg_id: u16, draft: &mut Draft) -> Result<(), NoMemory>
+    ensures { OnOk result (draft.new ≡ sent to (PubRec msg_id)
+        (changed (Received msg_id) draft.old)) }
 {
+    draft.change(SessionOp::Received { id: msg_id })?;
     match draft.send(alloc, to, Frame::PubRec { msg_id }) {
         Ok(()) => Ok(()),
         Err(_) => Err(NoMemory),
@@ -121,7 +130,10 @@ fn spread_once<R: Replica>(
     };
     match draft.send(alloc, to, answer) {
         Ok(()) => Ok(draft),
-        Err(_) => Err(NoMemory),
+        Err(_) => {
+            drop(draft);
+            Err(NoMemory)
+        }
     }
 }
 
@@ -148,9 +160,13 @@ fn spread_twice<R: Replica>(
         return puback(alloc, to, topic_id, msg_id, 1);
     }
     let mut draft = posted(alloc, replica, asked, name, QosLevel::two(), body)?;
-    draft.change(SessionOp::Received { id: msg_id })?;
-    pubrec(alloc, to, msg_id, &mut draft)?;
-    Ok(draft)
+    match receive(alloc, to, msg_id, &mut draft) {
+        Ok(()) => Ok(draft),
+        Err(fault) => {
+            drop(draft);
+            Err(fault)
+        }
+    }
 }
 
 /// A publication at this quality of service.
@@ -179,6 +195,35 @@ fn publish_at<R: Replica>(
     }
 }
 
+/// A publication on this topic. A message of more than 4,096 octets is refused.
+fn publish_on<R: Replica>(
+    alloc: Global,
+    replica: &R,
+    asked: bool,
+    to: Addr,
+    session: &Session,
+    topic_id: u16,
+    msg_id: u16,
+    body: &Octets,
+    name: &TopicName,
+    qos: Qos,
+) -> Result<Draft, NoMemory>
+    ensures { IfOk result (λ draft. draft ≡ spec.publish_meant (seen_of (R.kept replica.now)) asked
+        to session.now topic_id msg_id body.now qos
+        (spec.within_limit body.now (Topic name.now))) }
+{
+    match Message::new(body.copied(alloc)?) {
+        None => puback(alloc, to, topic_id, msg_id, 3),
+        Some(body) => {
+            let draft = publish_at(
+                alloc, replica, asked, to, session, topic_id, msg_id, &body, name, qos,
+            );
+            drop(body);
+            draft
+        }
+    }
+}
+
 /// A publication on what its topic field is about. A message of more than 4,096 octets is refused.
 fn publish_meant<R: Replica>(
     alloc: Global,
@@ -197,12 +242,13 @@ fn publish_meant<R: Replica>(
 {
     match meant {
         Meant::Refused(code) => puback(alloc, to, topic_id, msg_id, code),
-        Meant::Topic(name) => match Message::new(body.copied(alloc)?) {
-            None => puback(alloc, to, topic_id, msg_id, 3),
-            Some(body) => publish_at(
-                alloc, replica, asked, to, session, topic_id, msg_id, &body, &name, qos,
-            ),
-        },
+        Meant::Topic(name) => {
+            let draft = publish_on(
+                alloc, replica, asked, to, session, topic_id, msg_id, body, &name, qos,
+            );
+            drop(name);
+            draft
+        }
     }
 }
 
@@ -238,6 +284,28 @@ pub fn publish<R: Replica>(
     )
 }
 
+/// A publication without a connection, on this topic. A message of more than 4,096 octets is for
+/// nobody.
+fn spread_on<R: Replica>(
+    alloc: Global,
+    replica: &R,
+    asked: bool,
+    body: &Octets,
+    name: &TopicName,
+) -> Result<Draft, NoMemory>
+    ensures { IfOk result (λ draft. draft ≡ spec.spread_meant (seen_of (R.kept replica.now)) asked
+        body.now (spec.within_limit body.now (Topic name.now))) }
+{
+    match Message::new(body.copied(alloc)?) {
+        None => Ok(Draft::new(alloc)),
+        Some(body) => {
+            let draft = spread(alloc, replica, asked, name, &body);
+            drop(body);
+            draft
+        }
+    }
+}
+
 /// A publication without a connection, on what its topic field is about. A message of more than
 /// 4,096 octets is for nobody.
 fn spread_meant<R: Replica>(
@@ -252,10 +320,11 @@ fn spread_meant<R: Replica>(
 {
     match meant {
         Meant::Refused(_) => Ok(Draft::new(alloc)),
-        Meant::Topic(name) => match Message::new(body.copied(alloc)?) {
-            None => Ok(Draft::new(alloc)),
-            Some(body) => spread(alloc, replica, asked, &name, &body),
-        },
+        Meant::Topic(name) => {
+            let draft = spread_on(alloc, replica, asked, body, &name);
+            drop(name);
+            draft
+        }
     }
 }
 
@@ -289,14 +358,34 @@ fn release(session: &Session, msg_id: u16) -> Option<SessionOp>
     }
 }
 
+/// And then the message id is released, where it was received, and a PUBCOMP says so.
+fn complete(
+    alloc: Global,
+    to: Addr,
+    session: &Session,
+    msg_id: u16,
+    draft: &mut Draft,
+) -> Result<(), NoMemory>
+    ensures { OnOk result (draft.new ≡ sent to (PubComp msg_id)
+        (changed_if (spec.release session.now msg_id) draft.old)) }
+{
+    draft.change_if(release(session, msg_id))?;
+    match draft.send(alloc, to, Frame::PubComp { msg_id }) {
+        Ok(()) => Ok(()),
+        Err(_) => Err(NoMemory),
+    }
+}
+
 /// PUBREL: the client will not send the message of this id again. PUBCOMP is always the answer.
 pub fn pubrel(alloc: Global, to: Addr, session: &Session, msg_id: u16) -> Result<Draft, NoMemory>
     ensures { IfOk result (λ draft. draft ≡ spec.pubrel to session.now msg_id) }
 {
     let mut draft = Draft::new(alloc);
-    draft.change_if(release(session, msg_id))?;
-    match draft.send(alloc, to, Frame::PubComp { msg_id }) {
+    match complete(alloc, to, session, msg_id, &mut draft) {
         Ok(()) => Ok(draft),
-        Err(_) => Err(NoMemory),
+        Err(fault) => {
+            drop(draft);
+            Err(fault)
+        }
     }
 }

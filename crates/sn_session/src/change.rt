@@ -1,6 +1,6 @@
 //! The operations that change a session.
 
-ghost use Rattle.std.specs.Prelude.{◌≡◌, ◌↔◌, false, IfOk, OnOk, OnErr, IsErrOf, IsTrue};
+ghost use Rattle.std.specs.Prelude.{◌≡◌, ◌↔◌, false, IfOk, IfErr, OnOk, OnErr, IsErrOf, IsTrue};
 ghost use Rattle.sn_session.specs.Session.{applied};
 ghost use Rattle.sn_session.specs.inner.Holding.{holds_octets};
 ghost use Rattle.sn_session.specs.Session as spec;
@@ -14,6 +14,7 @@ use octets::NoMemory;
 use sn_tables::sn_topic::{Filter, TopicName};
 use sn_tables::{QosLevel, SessionFault};
 use std::alloc::Global;
+use std::mem;
 
 /// A change of a session.
 #[derive(Drop, PartialEq, Eq)]
@@ -145,20 +146,27 @@ impl Session {
         ensures light { OnErr result (spec.is_light change.now ≡ false) }
     {
         match change {
-            SessionOp::Take(taken) => {
-                *self = taken.copied(alloc)?;
-                Ok(())
-            }
+            SessionOp::Take(taken) => self.take(alloc, taken),
             SessionOp::Register { id, name, known } => self.topics.set(alloc, *id, name, *known),
             SessionOp::Subscribe { filter, qos } => self.subscriptions.set(alloc, filter, *qos),
-            SessionOp::WillTopic(asked) => Ok(set_topic(&mut self.will, alloc, asked)?),
-            SessionOp::WillMsg(message) => Ok(set_message(&mut self.will, alloc, message)?),
+            SessionOp::WillTopic(asked) => set_topic(&mut self.will, alloc, asked),
+            SessionOp::WillMsg(message) => set_message(&mut self.will, alloc, message),
             SessionOp::Received { id } => self.received.add(*id),
             _ => {
                 self.apply_light(change);
                 Ok(())
             }
         }
+    }
+
+    /// Becomes equal to another session. On an error the session is as it was.
+    fn take(&mut self, alloc: Global, taken: &Session) -> Result<(), SessionFault>
+        ensures ok { OnOk result (self.new ≡ taken.now) }
+        ensures err { OnErr result (self.new ≡ self.old) }
+        ensures fault { IfErr result (λ fault. fault ≡ SessionFault.Memory) }
+    {
+        drop(mem::replace(self, taken.copied(alloc)?));
+        Ok(())
     }
 
     /// Changes the session by one operation that puts no octets and no entry into it.

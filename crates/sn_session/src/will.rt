@@ -1,13 +1,14 @@
 //! The will of a client: what is published when the client is lost (MQTT-SN 1.2 section 6.3).
 
-ghost use Rattle.std.specs.Prelude.{◌≡◌, false, IfOk, OnOk, OnErr, is_none, Some, None};
+ghost use Rattle.std.specs.Prelude.{◌≡◌, false, IfOk, IfErr, OnOk, OnErr, is_none, Some, None};
 ghost use Rattle.sn_session.specs.Wills.{with_will_topic, with_will_message};
 
 use super::message::Message;
 use octets::NoMemory;
-use sn_tables::QosLevel;
 use sn_tables::sn_topic::TopicName;
+use sn_tables::{QosLevel, SessionFault};
 use std::alloc::Global;
+use std::mem;
 
 /// What a client says of its will by WILLTOPIC or WILLTOPICUPD.
 #[derive(Drop, PartialEq, Eq)]
@@ -78,19 +79,20 @@ pub fn set_topic(
     will: &mut Option<Will>,
     alloc: Global,
     asked: &Option<WillTopic>,
-) -> Result<(), NoMemory>
+) -> Result<(), SessionFault>
     ensures ok { OnOk result (will.new ≡ with_will_topic asked.now will.old) }
     ensures err { OnErr result (will.new ≡ will.old) }
+    ensures fault { IfErr result (λ fault. fault ≡ SessionFault.Memory) }
     ensures light { OnErr result (is_none asked.now ≡ false) }
 {
     let Some(asked) = asked else {
-        *will = None;
+        drop(mem::replace(will, None));
         return Ok(());
     };
     match will {
-        None => *will = Some(asked.new_will(alloc)?),
+        None => drop(mem::replace(will, Some(asked.new_will(alloc)?))),
         Some(will) => {
-            will.topic = asked.topic.copied(alloc)?;
+            drop(mem::replace(&mut will.topic, asked.topic.copied(alloc)?));
             will.qos = asked.qos;
             will.retain = asked.retain;
         }
@@ -103,9 +105,10 @@ pub fn set_message(
     will: &mut Option<Will>,
     alloc: Global,
     message: &Message,
-) -> Result<(), NoMemory>
+) -> Result<(), SessionFault>
     ensures ok { OnOk result (will.new ≡ with_will_message message.now will.old) }
     ensures err { OnErr result (will.new ≡ will.old) }
+    ensures fault { IfErr result (λ fault. fault ≡ SessionFault.Memory) }
 {
     match will {
         None => {}

@@ -1,6 +1,6 @@
 //! The subscriptions of a session.
 
-ghost use Rattle.std.specs.Prelude.{◌≡◌, ◌==◌, ◌<◌, ◌≤◌, ◌↔◌, [], length, IfOk, IfSome, MatchOption, OnOk, OnErr, IsErrOf, IsTrue, false, Some, is_none};
+ghost use Rattle.std.specs.Prelude.{◌≡◌, ◌==◌, ◌<◌, ◌≤◌, ◌↔◌, ◌++◌, [], ◌∷◌, length, IfOk, IfSome, MatchOption, OnOk, OnErr, IsErrOf, IsTrue, false, Some, is_none};
 ghost use Rattle.std.specs.Ordering.{nat_cmp};
 ghost use Rattle.std.specs.Cmp.Lexicographic.{slice_cmp};
 ghost use Rattle.sn_tables.specs.declared.table.TheConstants.{MAX_ENTRIES};
@@ -15,7 +15,7 @@ use crate::qos_level::QosLevel;
 use crate::table::{MAX_ENTRIES, insert_at};
 use sn_topic::octets::NoMemory;
 use sn_topic::{Filter, TopicName, matches};
-use std::alloc::{AllocError, Global};
+use std::alloc::Global;
 use std::cmp::Ordering;
 use std::marker::Model;
 
@@ -184,12 +184,22 @@ impl Subscriptions {
     {
         let mut entries = Vec::with_capacity(alloc, self.entries.len())?;
         for entry in self.entries.as_slice() {
-            entries
-                .push(entry.copied(alloc)?)
-                .map_err(AllocError::from)?;
+            push_copy(alloc, &mut entries, entry)?;
         }
         Ok(Subscriptions { entries })
     }
+}
+
+/// Puts an equal subscription after the others.
+fn push_copy(
+    alloc: Global,
+    entries: &mut Vec<Subscription>,
+    entry: &Subscription,
+) -> Result<(), NoMemory>
+    ensures { OnOk result (entries.new.items ≡ entries.old.items ++ entry.now ∷ []) }
+{
+    entries.push(entry.copied(alloc)?)?;
+    Ok(())
 }
 
 /// Where the subscription of a filter is, or where it would go. The time is logarithmic.

@@ -1,6 +1,6 @@
 //! The topic ids of a session.
 
-ghost use Rattle.std.specs.Prelude.{◌≡◌, ◌==◌, ◌<◌, ◌≤◌, ◌↔◌, [], ◌∷◌, length, is_some, IfOk, IfSome, MatchOption, OnOk, OnErr, IsErrOf, IsTrue, false, map, option_copied};
+ghost use Rattle.std.specs.Prelude.{◌≡◌, ◌==◌, ◌<◌, ◌≤◌, ◌↔◌, ◌++◌, [], ◌∷◌, length, is_some, IfOk, IfSome, MatchOption, OnOk, OnErr, IsErrOf, IsTrue, false, map, option_copied};
 ghost use Rattle.std.specs.Ordering.{nat_cmp};
 ghost use Rattle.sn_tables.specs.declared.table.TheConstants.{MAX_ENTRIES};
 ghost use Rattle.sn_tables.specs.Tables.{IsTable};
@@ -13,7 +13,7 @@ use crate::fault::SessionFault;
 use crate::table::{MAX_ENTRIES, insert_at};
 use sn_topic::TopicName;
 use sn_topic::octets::NoMemory;
-use std::alloc::{AllocError, Global};
+use std::alloc::Global;
 use std::marker::Model;
 
 /// A topic id of a session.
@@ -190,9 +190,7 @@ impl Topics {
     {
         let mut entries = Vec::with_capacity(alloc, self.entries.len())?;
         for entry in self.entries.as_slice() {
-            entries
-                .push(entry.copied(alloc)?)
-                .map_err(AllocError::from)?;
+            push_copy(alloc, &mut entries, entry)?;
         }
         Ok(Topics { entries })
     }
@@ -208,6 +206,18 @@ impl Topics {
         }
         Some(Topics { entries })
     }
+}
+
+/// Puts an equal entry after the others.
+fn push_copy(
+    alloc: Global,
+    entries: &mut Vec<TopicEntry>,
+    entry: &TopicEntry,
+) -> Result<(), NoMemory>
+    ensures { OnOk result (entries.new.items ≡ entries.old.items ++ entry.now ∷ []) }
+{
+    entries.push(entry.copied(alloc)?)?;
+    Ok(())
 }
 
 /// No entry is known any more.

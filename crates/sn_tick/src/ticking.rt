@@ -1,9 +1,9 @@
 //! Tick: what a gateway does as time goes by (MQTT-SN 1.2 sections 6.1, 6.3, 6.11 and 6.13), and
 //! when messages need not wait any more.
 
-ghost use Rattle.std.specs.Prelude.{◌≡◌, if◌then◌else◌, Some, fold, IfOk, OnOk};
+ghost use Rattle.std.specs.Prelude.{◌≡◌, if◌then◌else◌, Some, fold, IfOk, IsOk, OnOk};
 ghost use Rattle.rep_model.specs.Views as views;
-ghost use Rattle.sn_local.specs.declared.local.LocalChange.TheVariants.{Heard};
+ghost use Rattle.sn_local.specs.declared.local.LocalChange.TheVariants.{Heard, Retried};
 ghost use Rattle.sn_plan.specs.Drafts.{moved};
 ghost use Rattle.sn_plan.specs.Others.{can_wake};
 ghost use Rattle.sn_local.specs.Seen.{seen_of};
@@ -11,6 +11,7 @@ ghost use Rattle.sn_plan.specs.Plans.{Gives};
 ghost use Rattle.sn_plan.specs.Plans as plans;
 ghost use Rattle.sn_plan.specs.Bound as bound;
 ghost use Rattle.sn_exchange.specs.Following as following;
+ghost use Rattle.sn_tick.specs.Due as dues;
 ghost use Rattle.sn_tick.specs.Expiry as expiry;
 ghost use Rattle.sn_tick.specs.Ticking.{dialog_ended, dialogs_ended, timers_begun, advertised_to};
 ghost use Rattle.sn_tick.specs.Ticking as spec;
@@ -35,6 +36,19 @@ use std::alloc::Global;
 
 /// How many seconds a will dialog lasts.
 pub const DIALOG_SECONDS: u64 = 60;
+
+/// The draft, unless memory ran out while it was written.
+fn finished(draft: Draft, done: Result<(), NoMemory>) -> Result<Draft, NoMemory>
+    ensures { IfOk result (λ made. (made ≡ draft) × IsOk done) }
+{
+    match done {
+        Ok(()) => Ok(draft),
+        Err(fault) => {
+            drop(draft);
+            Err(fault)
+        }
+    }
+}
 
 /// Whether the CONNECT of a will dialog is a minute ago.
 pub(crate) fn is_old(now: u64, dialog: &WillDialog) -> bool
@@ -133,6 +147,23 @@ fn begin_timers<R: Replica>(
     Ok(())
 }
 
+/// And then what every tick does first.
+fn clean<R: Replica>(
+    alloc: Global,
+    draft: &mut Draft,
+    gateway: u8,
+    replica: &R,
+    dialogs: &Dialogs,
+    now: u64,
+) -> Result<(), NoMemory>
+    ensures { OnOk result (draft.new ≡ timers_begun gateway (seen_of (R.kept replica.now))
+        dialogs.now.local.timers now (views.clients (R.kept replica.now))
+        (dialogs_ended now dialogs.now.local.dialogs draft.old)) }
+{
+    end_dialogs(draft, now, dialogs.dialogs())?;
+    begin_timers(alloc, draft, gateway, replica, dialogs, now)
+}
+
 /// What every tick does first.
 fn cleaned<R: Replica>(
     alloc: Global,
@@ -145,9 +176,8 @@ fn cleaned<R: Replica>(
         dialogs.now.local now) }
 {
     let mut draft = Draft::new(alloc);
-    end_dialogs(&mut draft, now, dialogs.dialogs())?;
-    begin_timers(alloc, &mut draft, gateway, replica, dialogs, now)?;
-    Ok(draft)
+    let done = clean(alloc, &mut draft, gateway, replica, dialogs, now);
+    finished(draft, done)
 }
 
 /// Whether the last ADVERTISE is so long ago, if there was one.
@@ -204,7 +234,24 @@ fn advertise_all(
     Ok(())
 }
 
-/// And then ADVERTISE to each address of the field.
+/// And then ADVERTISE to each address of the field, at this moment.
+fn advertise_at(
+    alloc: Global,
+    draft: &mut Draft,
+    gateway: u8,
+    advertise: u16,
+    field: &[Addr],
+    now: u64,
+) -> Result<(), NoMemory>
+    ensures { OnOk result (draft.new ≡ spec.advertised gateway advertise field.now now
+        draft.old) }
+{
+    advertise_all(alloc, draft, gateway, advertise, field)?;
+    draft.note(LocalChange::Advertised { moment: now })?;
+    Ok(())
+}
+
+/// The draft with ADVERTISE to each address of the field.
 fn advertised(
     alloc: Global,
     gateway: u8,
@@ -216,9 +263,8 @@ fn advertised(
     ensures { IfOk result (λ made. made ≡ spec.advertised gateway advertise field.now
         now draft) }
 {
-    advertise_all(alloc, &mut draft, gateway, advertise, field)?;
-    draft.note(LocalChange::Advertised { moment: now })?;
-    Ok(draft)
+    let done = advertise_at(alloc, &mut draft, gateway, advertise, field, now);
+    finished(draft, done)
 }
 
 /// The messages of the will of a client, if it has one.
@@ -326,7 +372,8 @@ fn plan_expiry<R: Replica>(
         (seen_of (R.kept replica.now)) (expiry.expire_all (seen_of (R.kept replica.now))
         dialogs.now.local now client.now draft)) }
 {
-    expire(alloc, replica, dialogs, now, client, &mut draft)?;
+    let done = expire(alloc, replica, dialogs, now, client, &mut draft);
+    let draft = finished(draft, done)?;
     plan_of(alloc, config.gateway, replica, client, draft)
 }
 
@@ -346,18 +393,27 @@ fn plan_loss<R: Replica>(
     let session = session_or(replica, client, &empty);
     let lost = lose(alloc, replica, client, session, &mut draft);
     drop(empty);
-    lost?;
+    let draft = finished(draft, lost)?;
     plan_of(alloc, config.gateway, replica, client, draft)
+}
+
+/// And then one try more.
+fn retry(alloc: Global, draft: &mut Draft, now: u64, client: &ClientId) -> Result<(), NoMemory>
+    ensures { OnOk result (draft.new ≡ moved (Retried client.now now) draft.old) }
+{
+    draft.note(LocalChange::Retried {
+        client: client.copied(alloc)?,
+        moment: now,
+    })?;
+    Ok(())
 }
 
 /// One try more: Resend follows.
 fn retried(alloc: Global, now: u64, mut draft: Draft, client: &ClientId) -> Result<Row, NoMemory>
     ensures { IfOk result (λ row. row ≡ spec.retried now draft client.now) }
 {
-    draft.note(LocalChange::Retried {
-        client: client.copied(alloc)?,
-        moment: now,
-    })?;
+    let done = retry(alloc, &mut draft, now, client);
+    let draft = finished(draft, done)?;
     Row::new(alloc, Follow::Resend, client, draft)
 }
 
@@ -424,6 +480,43 @@ fn plan_if_due<R: Replica>(
     }
 }
 
+/// The plan of an advertisement.
+fn plan_advertisement(
+    alloc: Global,
+    config: &Config,
+    now: u64,
+    draft: Draft,
+) -> Result<Plan, StepFault>
+    ensures { Gives result (Some (plans.plan_without (spec.advertised config.now.gateway
+        config.now.advertise config.now.field now draft))) }
+{
+    let field = config.field.as_slice();
+    let draft = advertised(alloc, config.gateway, config.advertise, field, now, draft)?;
+    Ok(plan_without(alloc, draft))
+}
+
+/// The plan of what is due with the least client with which something is due, if there is one.
+fn plan_first<R: Replica>(
+    alloc: Global,
+    config: &Config,
+    replica: &R,
+    dialogs: &Dialogs,
+    now: u64,
+    draft: Draft,
+) -> Result<Plan, StepFault>
+    ensures { Gives result (spec.plan_if_due config.now.gateway config.now.predefined
+        (seen_of (R.kept replica.now)) dialogs.now.local now draft (dues.first_due config.now.gateway
+        (seen_of (R.kept replica.now)) dialogs.now.local now (seen_of (R.kept replica.now)).all)) }
+{
+    match first_due(alloc, config.gateway, replica, dialogs, now) {
+        Ok(found) => plan_if_due(alloc, config, replica, dialogs, now, draft, found),
+        Err(_) => {
+            drop(draft);
+            Err(StepFault::Memory)
+        }
+    }
+}
+
 /// The plan of one thing.
 fn one_thing<R: Replica>(
     alloc: Global,
@@ -438,11 +531,9 @@ fn one_thing<R: Replica>(
 {
     let field = config.field.as_slice();
     if may_advertise(config.advertise, field, now, dialogs.advertised()) {
-        let draft = advertised(alloc, config.gateway, config.advertise, field, now, draft)?;
-        return Ok(plan_without(alloc, draft));
+        return plan_advertisement(alloc, config, now, draft);
     }
-    let found = first_due(alloc, config.gateway, replica, dialogs, now)?;
-    plan_if_due(alloc, config, replica, dialogs, now, draft, found)
+    plan_first(alloc, config, replica, dialogs, now, draft)
 }
 
 /// A tick: will dialogs of a minute end, clients without a timer get one, and then one thing is

@@ -48,7 +48,34 @@ where
     R::Staged: Send,
     D: Disk + Drop + Send,
 {
-    let mut opened = open_all(rt, alloc, settings)?;
+    match open_all(rt, alloc, settings) {
+        Ok(opened) => run_opened(rt, alloc, settings, node, shifts, opened_at, opened, said),
+        Err(stop) => {
+            drop(node);
+            Err(stop)
+        }
+    }
+}
+
+/// Works so many shifts with a gateway, by what it is reached by.
+fn run_opened<T, R, D>(
+    rt: &T,
+    alloc: Global,
+    settings: &Settings,
+    node: Node<R, D>,
+    shifts: u64,
+    opened_at: u64,
+    mut opened: Opened,
+    said: Said<'_>,
+) -> Result<(), Stop>
+where
+    T: Threads + Wait + Sync + Clock + Print + Eprint + Files<File = File>,
+    T: Net<Listener = TcpListener, Stream = TcpStream>,
+    T::Dir: Send,
+    R: Replica + Send,
+    R::Staged: Send,
+    D: Disk + Drop + Send,
+{
     begin_dates(rt, &opened.shared.pool.clock, opened_at);
     let place = Mutex::new(Some(node));
     let over = Stage::new(0, 0);
@@ -94,18 +121,74 @@ where
     T: Eprint + Net<Listener = TcpListener, Stream = TcpStream>,
 {
     let socket = socket_of(rt, alloc, settings)?;
-    let listeners = listeners_of(rt, settings)?;
-    let shared = shared_of(alloc, settings)?;
-    let Some(doors) = doors_of(alloc, settings) else {
-        return Err(Stop::Memory);
-    };
-    let inlet = inlet_of(alloc, settings, socket)?;
-    Ok(Opened {
-        inlet,
-        doors,
-        shared,
-        listeners,
-    })
+    match listeners_of(rt, settings) {
+        Ok(listeners) => open_beside(alloc, settings, socket, listeners),
+        Err(stop) => {
+            drop(socket);
+            Err(stop)
+        }
+    }
+}
+
+/// What is opened beside a socket and listeners.
+fn open_beside(
+    alloc: Global,
+    settings: &Settings,
+    socket: Socket,
+    listeners: Listeners,
+) -> Result<Opened, Stop> {
+    match shared_of(alloc, settings) {
+        Ok(shared) => open_over(alloc, settings, socket, listeners, shared),
+        Err(stop) => {
+            drop(socket);
+            drop(listeners);
+            Err(stop)
+        }
+    }
+}
+
+/// The doors, and all that is open.
+fn open_over(
+    alloc: Global,
+    settings: &Settings,
+    socket: Socket,
+    listeners: Listeners,
+    shared: Shared,
+) -> Result<Opened, Stop> {
+    match doors_of(alloc, settings) {
+        Some(doors) => opened_of(alloc, settings, socket, listeners, shared, doors),
+        None => {
+            drop(socket);
+            drop(listeners);
+            drop(shared);
+            Err(Stop::Memory)
+        }
+    }
+}
+
+/// All that is open.
+fn opened_of(
+    alloc: Global,
+    settings: &Settings,
+    socket: Socket,
+    listeners: Listeners,
+    shared: Shared,
+    doors: Vec<Door>,
+) -> Result<Opened, Stop> {
+    match inlet_of(alloc, settings, socket) {
+        Ok(inlet) => Ok(Opened {
+            inlet,
+            doors,
+            shared,
+            listeners,
+        }),
+        Err(stop) => {
+            drop(doors);
+            drop(listeners);
+            drop(shared);
+            Err(stop)
+        }
+    }
 }
 
 /// The socket of datagrams.
@@ -330,25 +413,57 @@ where
     begin_dates(rt, &shared.pool.clock, shared.pool.clock.moment());
     listen_first(rt, settings, &shared.pool);
     for number in 0..shifts {
-        let Some(node) = place.lock(rt).take() else {
-            return Ok(());
-        };
-        know_clients(alloc, settings, &node, inlet, shared.pool.clock.second());
-        let worked = work(rt, alloc, settings, node, inlet, shared, number)?;
-        end_in_place(
+        work_one(
             rt,
             alloc,
             settings,
             place,
-            worked,
             inlet,
             shared,
-            number + 1,
+            number,
             &mut keeper,
             said,
         )?;
     }
     Ok(())
+}
+
+/// The shift of this number, from 0 on, with the gateway of its place. If none is there, nothing is
+/// done.
+fn work_one<T, R, D>(
+    rt: &T,
+    alloc: Global,
+    settings: &Settings,
+    place: &Mutex<Option<Node<R, D>>>,
+    inlet: &mut Inlet,
+    shared: &Shared,
+    number: u64,
+    keeper: &mut Keeper<'_>,
+    said: Said<'_>,
+) -> Result<(), Stop>
+where
+    T: Threads + Wait + Sync + Clock + Print + Eprint + Files<File = File>,
+    R: Replica + Send,
+    R::Staged: Send,
+    D: Disk + Drop + Send,
+{
+    let Some(node) = place.lock(rt).take() else {
+        return Ok(());
+    };
+    know_clients(alloc, settings, &node, inlet, shared.pool.clock.second());
+    let worked = work(rt, alloc, settings, node, inlet, shared, number)?;
+    end_in_place(
+        rt,
+        alloc,
+        settings,
+        place,
+        worked,
+        inlet,
+        shared,
+        number.saturating_add(1),
+        keeper,
+        said,
+    )
 }
 
 /// Ends the shift of this number, from 1 on, and puts the gateway back into its place. If the date
@@ -566,21 +681,53 @@ where
         return Ok(());
     }
     for _ in rt.forever() {
-        let tended = tend_behind(rt, alloc, node, shared, keeper, said)?;
-        if is_written(tended) {
-            keeper.note_written();
-            shared.board.set(Number::Halted, 0);
+        if write_once(rt, alloc, node, inlet, shared, keeper, said)? {
             return Ok(());
         }
-        if tended == Tended::Starved {
-            tell(rt, alloc, node, said);
-        }
-        let silence = keeper.wait_longer();
-        shared.board.set(Number::Halted, 1);
-        shared.board.note_failed(rt);
-        be_silent(rt, inlet, shared, silence);
     }
     unreachable!()
+}
+
+/// Tries it once, and waits if it is not written. True if it is.
+fn write_once<T, R, D>(
+    rt: &T,
+    alloc: Global,
+    node: &mut Node<R, D>,
+    inlet: &mut Inlet,
+    shared: &Shared,
+    keeper: &mut Keeper<'_>,
+    said: Said<'_>,
+) -> Result<bool, Stop>
+where
+    T: Wait + Clock + Print + Eprint + Files<File = File>,
+    R: Replica,
+    D: Disk + Drop,
+{
+    let tended = tend_behind(rt, alloc, node, shared, keeper, said)?;
+    if tended == Tended::Starved {
+        tell(rt, alloc, node, said);
+    }
+    let is_done = is_written(tended);
+    if is_done {
+        keeper.note_written();
+        shared.board.set(Number::Halted, 0);
+    } else {
+        wait_halted(rt, inlet, shared, keeper);
+    }
+    Ok(is_done)
+}
+
+/// Notes that the gateway cannot write, and waits. What has come meanwhile is dropped.
+fn wait_halted<T: Clock + Wait>(
+    rt: &T,
+    inlet: &mut Inlet,
+    shared: &Shared,
+    keeper: &mut Keeper<'_>,
+) {
+    let silence = keeper.wait_longer();
+    shared.board.set(Number::Halted, 1);
+    shared.board.note_failed(rt);
+    be_silent(rt, inlet, shared, silence);
 }
 
 /// Waits so many seconds. What has come meanwhile is dropped.

@@ -363,14 +363,24 @@ fn lanes_ready(alloc: Global, stage: &mut Stage) -> Result<(), NoMemory> {
 
 /// The gateway says yes to the lane for commands, and the broker to the connection.
 fn sides_ready(alloc: Global, stage: &mut Stage) -> Result<(), NoMemory> {
+    pass(alloc, stage, Event::Tick)?;
+    gateway_ready(alloc, stage)?;
+    pass(alloc, stage, Event::BrokerOpen)?;
+    broker_ready(alloc, stage)
+}
+
+/// The gateway says yes to the lane for commands.
+fn gateway_ready(alloc: Global, stage: &mut Stage) -> Result<(), NoMemory> {
     let frame = Frame::ConnAck { code: 0 };
+    pass(alloc, stage, Event::Commands { frame })
+}
+
+/// The broker says yes to the connection.
+fn broker_ready(alloc: Global, stage: &mut Stage) -> Result<(), NoMemory> {
     let packet = Packet::ConnAck {
         session: true,
         code: 0,
     };
-    pass(alloc, stage, Event::Tick)?;
-    pass(alloc, stage, Event::Commands { frame })?;
-    pass(alloc, stage, Event::BrokerOpen)?;
     pass(alloc, stage, Event::Broker { packet })
 }
 

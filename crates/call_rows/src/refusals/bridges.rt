@@ -79,14 +79,43 @@ impl Made for Bridges {
 /// All of it.
 fn bridge_parts(alloc: Global) -> Result<Bridges, NoMemory> {
     let settings = settings(alloc)?;
-    let bridge = begun(alloc, &settings)?;
-    Ok(Bridges {
-        settings,
-        bridge,
-        item: item(alloc)?,
-        command: command(alloc)?,
-        queue: Queue::empty(alloc),
-    })
+    match begun(alloc, &settings) {
+        Ok(bridge) => parts_beside(alloc, settings, bridge),
+        Err(fault) => {
+            drop(settings);
+            Err(fault)
+        }
+    }
+}
+
+/// A bridge, and what lies beside it.
+fn parts_beside(alloc: Global, settings: Settings, bridge: Bridge) -> Result<Bridges, NoMemory> {
+    match item_and_command(alloc) {
+        Ok((item, command)) => Ok(Bridges {
+            settings,
+            bridge,
+            item,
+            command,
+            queue: Queue::empty(alloc),
+        }),
+        Err(fault) => {
+            drop(settings);
+            drop(bridge);
+            Err(fault)
+        }
+    }
+}
+
+/// A reading and a command.
+fn item_and_command(alloc: Global) -> Result<(Item, Command), NoMemory> {
+    let item = item(alloc)?;
+    match command(alloc) {
+        Ok(command) => Ok((item, command)),
+        Err(fault) => {
+            drop(item);
+            Err(fault)
+        }
+    }
 }
 
 impl Calls for Bridges {
@@ -152,19 +181,62 @@ impl Bridges {
 
 /// The settings of a bridge with one lane, which has no name.
 fn settings(alloc: Global) -> Result<Settings, NoMemory> {
-    Ok(Settings {
-        lanes: lanes(alloc)?,
-        commands: Octets::from_slice(alloc, b"d")?,
+    let lanes = lanes(alloc)?;
+    match ids(alloc) {
+        Ok((clients, told)) => Ok(settings_of(alloc, lanes, clients, told)),
+        Err(fault) => {
+            drop(lanes);
+            Err(fault)
+        }
+    }
+}
+
+/// Settings of their parts.
+fn settings_of(
+    alloc: Global,
+    lanes: Sequence<LaneSettings>,
+    clients: (Octets, Octets),
+    told: (Octets, Octets),
+) -> Settings {
+    let (commands, client) = clients;
+    let (state, here) = told;
+    Settings {
+        lanes,
+        commands,
         downs: Sequence::empty(alloc),
-        client: Octets::from_slice(alloc, b"b")?,
+        client,
         will: None,
         login: None,
-        state: Octets::from_slice(alloc, b"s")?,
-        here: Octets::from_slice(alloc, b"h")?,
+        state,
+        here,
         window: 1,
         room: 1,
         spools: false,
-    })
+    }
+}
+
+/// The client ids, and what is said of the bridge.
+fn ids(alloc: Global) -> Result<((Octets, Octets), (Octets, Octets)), NoMemory> {
+    let clients = pair(alloc, b"d", b"b")?;
+    match pair(alloc, b"s", b"h") {
+        Ok(told) => Ok((clients, told)),
+        Err(fault) => {
+            drop(clients);
+            Err(fault)
+        }
+    }
+}
+
+/// Two octet strings.
+fn pair(alloc: Global, first: &[u8], second: &[u8]) -> Result<(Octets, Octets), NoMemory> {
+    let first = Octets::from_slice(alloc, first)?;
+    match Octets::from_slice(alloc, second) {
+        Ok(second) => Ok((first, second)),
+        Err(fault) => {
+            drop(first);
+            Err(fault)
+        }
+    }
 }
 
 /// One lane without a name.

@@ -376,7 +376,7 @@ fn new<R: Replica>(said: &mut Said) -> Option<Gateway<R>> {
 }
 
 /// The octets of what a gateway must keep.
-fn kept<R: Replica>(said: &mut Said, node: &Gateway<R>) -> Vec<u8> {
+pub(crate) fn kept<R: Replica>(said: &mut Said, node: &Gateway<R>) -> Vec<u8> {
     match node.held(said.alloc) {
         Ok(deltas) => spelled(said, deltas),
         Err(_fault) => {

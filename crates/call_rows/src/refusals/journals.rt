@@ -3,7 +3,7 @@
 use crate::refusals::calls::{Calls, Made, Shown, beside, is_word, octets_or_none};
 use crate::refusals::deltas::{FIRST, delta};
 use crate::refusals::said::{Said, Stop};
-use jr_journal::{Disk, Journal, JournalFault, MemoryDisk, Slot};
+use jr_journal::{Disk, Journal, JournalFault, MemoryDisk, Records, Slot};
 use rep_ops::Delta;
 use std::mem;
 
@@ -51,12 +51,45 @@ fn look_closed(said: &mut Said, is_starved: bool, fault: &JournalFault) {
     }
 }
 
+/// Records that are to be written at once, and the delta of one more.
+#[derive(Drop)]
+pub(crate) struct Batches {
+    records: Records,
+    delta: Delta,
+}
+
+impl Made for Batches {
+    fn make(said: &mut Said, _call: &str, _is_second: bool) -> Option<Batches> {
+        Some(Batches {
+            records: records(said),
+            delta: delta(said, &FIRST),
+        })
+    }
+}
+
+impl Calls for Batches {
+    fn call_once(&mut self, said: &mut Said, _call: &str) {
+        let stood = self.records.size();
+        match self.records.push(said.alloc, &self.delta) {
+            Ok(()) => {
+                said.number("octets", self.records.size());
+                said.answer();
+            }
+            Err(_) => {
+                said.keep(self.records.size() == stood);
+                said.refuse(true);
+            }
+        }
+    }
+}
+
 /// A journal, and what is appended to it or is its new base. After a call it is closed.
 #[derive(Drop)]
 pub(crate) struct Journals {
     journal: Option<Journal<MemoryDisk>>,
     delta: Delta,
     base: Vec<Delta>,
+    records: Records,
 }
 
 impl Made for Journals {
@@ -66,6 +99,7 @@ impl Made for Journals {
             journal: Some(journal),
             delta: delta(said, &FIRST),
             base: base(said),
+            records: records(said),
         })
     }
 }
@@ -85,8 +119,8 @@ impl Calls for Journals {
 }
 
 impl Journals {
-    /// Appends a record, or compacts to it, or opens the journal again and prints how many records
-    /// it has.
+    /// Appends a record or several, or compacts to one, or opens the journal again and prints how
+    /// many records it has.
     fn called(
         &self,
         said: &mut Said,
@@ -95,6 +129,7 @@ impl Journals {
     ) -> Result<(), JournalFault> {
         match call {
             "Journal::append" => journal.append(said.alloc, &self.delta),
+            "Journal::append_all" => journal.append_all(&self.records),
             "Journal::compact" => journal.compact(said.alloc, self.base.as_slice()),
             _ => {
                 let read = journal.reopen(said.alloc)?;
@@ -141,6 +176,17 @@ fn base(said: &mut Said) -> Vec<Delta> {
     let is_short = deltas.push(delta).is_err();
     said.stop_if_short(is_short);
     deltas
+}
+
+/// Two records of the first delta.
+fn records(said: &mut Said) -> Records {
+    let mut records = Records::empty(said.alloc);
+    let delta = delta(said, &FIRST);
+    for _ in 0..2 {
+        let is_short = records.push(said.alloc, &delta).is_err();
+        said.stop_if_short(is_short);
+    }
+    records
 }
 
 /// Prints the octets of both slots of a journal that was called.

@@ -4,7 +4,7 @@ use crate::refusals::calls::{Calls, Made, Shown, given, is_word};
 use crate::refusals::deltas::client;
 use crate::refusals::said::Said;
 use crate::refusals::topics::predefined;
-use octets::Sequence;
+use octets::{NoMemory, Sequence};
 use rep_ops::ClientId;
 use sn_local::{Addr, Config, Dialogs, LocalChange, StepFault};
 use std::alloc::AllocError;
@@ -20,12 +20,15 @@ pub(crate) struct Locals {
 }
 
 impl Made for Locals {
-    fn make(said: &mut Said, _call: &str, _is_second: bool) -> Option<Locals> {
+    fn make(said: &mut Said, call: &str, _is_second: bool) -> Option<Locals> {
         let config = config(said)?;
-        Some(Locals {
-            config,
-            dialogs: Dialogs::empty(said.alloc),
-        })
+        let mut dialogs = Dialogs::empty(said.alloc);
+        if is_word(call, "Dialogs::copied") {
+            let changes = changes(said);
+            let is_short = change(&mut dialogs, changes).is_err();
+            said.stop_if_short(is_short);
+        }
+        Some(Locals { config, dialogs })
     }
 }
 
@@ -34,10 +37,22 @@ impl Calls for Locals {
         if is_word(call, "Config::copy") {
             let copy = self.config.copy(said.alloc);
             given(said, copy, StepFault::Memory);
+        } else if is_word(call, "Dialogs::copied") {
+            let copy = self.dialogs.copied(said.alloc);
+            given(said, copy, NoMemory);
         } else {
             let changes = changes(said);
             let done = change(&mut self.dialogs, changes);
             show(said, self.dialogs.client_at(HERE), done.is_err());
+        }
+    }
+}
+
+/// Prints who speaks from the address.
+impl Shown for Dialogs {
+    fn show(&self, said: &mut Said) {
+        if let Some(client) = self.client_at(HERE) {
+            said.octets(client.bytes());
         }
     }
 }

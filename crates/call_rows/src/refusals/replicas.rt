@@ -35,7 +35,7 @@ pub(crate) struct Replicas<R: Replica> {
 
 impl<R: Replica> Made for Replicas<R> {
     fn make(said: &mut Said, call: &str, _is_second: bool) -> Option<Replicas<R>> {
-        match replica_with(said, !is_word(call, "prepare")) {
+        match replica_with(said, !is_word(call, "prepare") && !is_word(call, "save")) {
             Some(replica) => Some(Replicas {
                 next: delta(said, &NEXT),
                 stood: kept(said, &replica),
@@ -51,6 +51,8 @@ impl<R: Replica> Calls for Replicas<R> {
         match call {
             "empty" => show_empty::<R>(said),
             "prepare" => self.take(said),
+            "aside" => self.set_aside(said),
+            "save" => self.go_back(said),
             "ClientView::copy" => copy_view(said, &self.replica),
             call => self.read(said, call),
         }
@@ -81,6 +83,32 @@ impl<R: Replica> Replicas<R> {
         drop(stands);
     }
 
+    /// Makes a place for what deltas replace, and puts back what lies there: nothing.
+    fn set_aside(&mut self, said: &mut Said) {
+        match self.replica.aside(said.alloc) {
+            Ok(aside) => {
+                self.replica.put_back(aside);
+                show(said, &self.replica);
+                said.answer();
+            }
+            Err(fault) => {
+                said.refuse(matches!(&fault, TakeFault::Memory));
+                drop(fault);
+            }
+        }
+    }
+
+    /// Takes the delta, and goes back. What is kept is then as it was; so it is after a refusal.
+    fn go_back(&mut self, said: &mut Said) {
+        let gone = save(said, &mut self.replica, &self.next);
+        said.stop_if_short(gone.is_err());
+        drop(gone);
+        self.look(said);
+        if said.is_answered() {
+            show(said, &self.replica);
+        }
+    }
+
     /// Asks for the clients, for what is kept, or for what is retained of all topics.
     fn read(&self, said: &mut Said, call: &str) {
         match call {
@@ -95,6 +123,25 @@ impl<R: Replica> Replicas<R> {
             _ => match_all(said, &self.replica),
         }
     }
+}
+
+/// Puts aside what a delta replaces, takes the delta, and goes back. A fault is of what is beside.
+fn save<R: Replica>(said: &mut Said, replica: &mut R, delta: &Delta) -> Result<(), TakeFault> {
+    let staged = replica.prepare(said.alloc, delta)?;
+    let mut aside = replica.aside(said.alloc)?;
+    match replica.save(said.alloc, &mut aside, &staged) {
+        Ok(()) => {
+            replica.commit(staged);
+            replica.put_back(aside);
+            said.answer();
+        }
+        Err(fault) => {
+            drop(staged);
+            drop(aside);
+            said.refuse(fault == TakeFault::Memory);
+        }
+    }
+    Ok(())
 }
 
 /// Makes an empty replica.

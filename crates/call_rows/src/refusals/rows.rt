@@ -7,7 +7,7 @@ use crate::refusals::deltas::{Clients, Deltas};
 use crate::refusals::digests::Digests;
 use crate::refusals::frames::Frames;
 use crate::refusals::gateways::{Gateways, Openings};
-use crate::refusals::journals::{Disks, Journals};
+use crate::refusals::journals::{Batches, Disks, Journals};
 use crate::refusals::links::Links;
 use crate::refusals::locals::Locals;
 use crate::refusals::packets::Packets;
@@ -16,6 +16,7 @@ use crate::refusals::reports::Reports;
 use crate::refusals::said::{Said, Stop};
 use crate::refusals::sessions::Sessions;
 use crate::refusals::steps::Steps;
+use crate::refusals::together::Togethers;
 use crate::refusals::topics::Topics;
 use crate::refusals::worlds::Worlds;
 use crate::refusals::{serving, shifts};
@@ -51,17 +52,22 @@ pub(crate) const ROWS: &str = "
     rep_plain::clients
     rep_plain::held
     rep_plain::retained_matching
+    rep_plain::aside
+    rep_plain::save
     rep_state::empty
     rep_state::prepare
     rep_state::clients
     rep_state::held
     rep_state::retained_matching
+    rep_state::aside
+    rep_state::save
     rep_digest::digest_of
     rep_digest::Digest::encode
     rep_digest::Digest::decode
     rep_answer::answer
     sn_local::Config::copy
     sn_local::Dialogs::prepare
+    sn_local::Dialogs::copied
     sn_flow::connect
     sn_flow::disconnect
     sn_flow::will_topic
@@ -81,6 +87,8 @@ pub(crate) const ROWS: &str = "
     sn_tick::tick
     jr_journal::Journal::open
     jr_journal::Journal::append
+    jr_journal::Records::push
+    jr_journal::Journal::append_all
     jr_journal::Journal::compact
     jr_journal::Journal::reopen
     gw_node::Node::open
@@ -93,6 +101,7 @@ pub(crate) const ROWS: &str = "
     gw_node::Node::compact
     gw_node::Node::reopen
     gw_node::Node::step
+    gw_node::Node::step_all
     gw_node::Node::held
     gw_node::Node::clients
     gw_node::Node::retained
@@ -101,6 +110,7 @@ pub(crate) const ROWS: &str = "
     gw_play::play
     gw_shift::Shift::open
     gw_shift::Shift::call
+    gw_shift::Shift::call_all
     gw_shift::Shift::after
     gw_shift::Shift::glance
     gw_shift::Shift::messages_known
@@ -138,7 +148,10 @@ pub(crate) const NO_GROWTH: &str = "
     sn_topic::Predefined::new
     rep_op::ClientId::copy
     rep_plain::empty
+    rep_plain::aside
     rep_state::empty
+    rep_state::aside
+    jr_journal::Journal::append_all
     br_core::Item::copied
     br_core::Command::copied
 ";
@@ -194,6 +207,7 @@ fn play_format(said: &mut Said, home: &str, call: &str) {
 fn play_part(said: &mut Said, home: &str, call: &str) {
     match home {
         "jr_journal" if is_word(call, "Journal::open") => play::<Disks>(said, call),
+        "jr_journal" if is_word(call, "Records::push") => play::<Batches>(said, call),
         "jr_journal" => play::<Journals>(said, call),
         "gw_net" => play::<Links>(said, call),
         "gw_page" => play::<Reports>(said, call),
@@ -255,6 +269,8 @@ fn play_on<R: Replica>(said: &mut Said, home: &str, call: &str) {
 fn play_node<R: Replica>(said: &mut Said, call: &str) {
     if is_word(call, "Node::open") {
         play::<Openings<R>>(said, call);
+    } else if is_word(call, "Node::step_all") {
+        play::<Togethers<R>>(said, call);
     } else {
         play::<Gateways<R>>(said, call);
     }

@@ -1,11 +1,12 @@
 //! Shifts.
 
-use crate::refusals::calls::{Calls, beside, is_word, play_call};
+use crate::refusals::calls::{Calls, beside, is_one_of, is_word, play_call};
 use crate::refusals::gateways::{
     Gateway, NOT_SUBSCRIBED, SUBSCRIBE, frame, gateway, is_excuse, show_out,
 };
 use crate::refusals::said::{Said, Stop};
-use gw_node::{NodeFault, Out, Step};
+use crate::refusals::together::steps;
+use gw_node::{Answer, NodeFault, Out, Step};
 use gw_report::Glimpse;
 use gw_shift::{CallFault, CloseFault, Closed, Ended, Pass, Shift, ShiftFault};
 use jr_journal::MemoryDisk;
@@ -23,6 +24,9 @@ type Opened<R> = Result<(Shared<R>, Vec<Pass>), (Gateway<R>, ShiftFault)>;
 
 /// What a call of a shift gives.
 type Answered = Result<(Pass, Arc<Out>, u64), (Pass, CallFault)>;
+
+/// What calls of a shift in a row give.
+type RowAnswered = Result<(Pass, Vec<Answer>, u64), (Pass, CallFault)>;
 
 /// A shift that is over.
 type Over<R> = Ended<R, MemoryDisk>;
@@ -120,8 +124,12 @@ fn subscribe(said: &mut Said) -> Option<Arc<Step>> {
 /// Plays a row of a shift without calls, which is closed if its calls are what the row is about.
 fn play_with<W: Wait, R: Replica>(rt: &W, said: &mut Said, step: &Arc<Step>, call: &str) {
     if let Some((shift, passes)) = begun::<R>(said) {
-        let (pass, calls) = play_in_shift(rt, said, &shift, passes, step, call);
-        if is_word(call, "Shift::call") {
+        let (pass, calls) = if is_word(call, "Shift::call_all") {
+            play_rows(rt, said, &shift, passes, call)
+        } else {
+            play_in_shift(rt, said, &shift, passes, step, call)
+        };
+        if is_one_of(call, "Shift::call Shift::call_all") {
             close(said, shift, pass, calls);
         } else {
             drop(pass);
@@ -237,6 +245,143 @@ impl<'a, W: Wait, R: Replica> Work<'a, W, R> {
             fault => said.refuse(matches!(fault, CallFault::Memory)),
         }
     }
+}
+
+/// A shift, the calls that are left for it, its pass unless they have it, and how many calls its
+/// history has.
+#[derive(Drop)]
+struct Rows<'a, W: Wait, R: Replica> {
+    rt: &'a W,
+    shift: &'a Shared<R>,
+    steps: Vec<Arc<Step>>,
+    pass: Option<Pass>,
+    calls: u64,
+}
+
+/// Plays the row of calls in a row. The pass comes back, and how many calls the history has.
+fn play_rows<W: Wait, R: Replica>(
+    rt: &W,
+    said: &mut Said,
+    shift: &Shared<R>,
+    mut passes: Vec<Pass>,
+    call: &str,
+) -> (Option<Pass>, u64) {
+    let pass = passes.pop();
+    drop(passes);
+    let steps = steps(said);
+    let mut rows = Rows {
+        rt,
+        shift,
+        steps,
+        pass,
+        calls: 0,
+    };
+    play_call(said, &mut rows, call);
+    let Rows {
+        rt: _,
+        shift: _,
+        steps,
+        pass,
+        calls,
+    } = rows;
+    drop(steps);
+    (pass, calls)
+}
+
+impl<'a, W: Wait, R: Replica> Calls for Rows<'a, W, R> {
+    /// Makes the calls that are left, in as many rows as it takes.
+    fn call_once(&mut self, said: &mut Said, _call: &str) {
+        for _ in 0..self.steps.len() {
+            if self.steps.is_empty() || !self.call_row(said) {
+                break;
+            }
+        }
+        if self.steps.is_empty() {
+            said.answer();
+        }
+    }
+}
+
+impl<'a, W: Wait, R: Replica> Rows<'a, W, R> {
+    /// Makes the calls that are left in a row, unless others have the pass. Says whether none was
+    /// refused.
+    fn call_row(&mut self, said: &mut Said) -> bool {
+        match self.pass.take() {
+            Some(pass) => {
+                let (rt, shift) = (self.rt, self.shift);
+                let answered = row_by(rt, said.alloc, shift, pass, self.steps.as_slice());
+                self.look(said, answered)
+            }
+            None => false,
+        }
+    }
+
+    /// Takes the pass back, and looks at what was answered.
+    fn look(&mut self, said: &mut Said, answered: RowAnswered) -> bool {
+        match answered {
+            Ok((pass, answers, number)) => {
+                self.take_back(pass);
+                said.keep(number == self.calls.saturating_add(1));
+                self.look_at_all(said, answers)
+            }
+            Err((pass, fault)) => {
+                self.take_back(pass);
+                said.refuse(matches!(&fault, CallFault::Memory));
+                drop(fault);
+                false
+            }
+        }
+    }
+
+    /// The pass is here again.
+    fn take_back(&mut self, pass: Pass) {
+        drop(mem::replace(&mut self.pass, Some(pass)));
+    }
+
+    /// Looks at what was answered, up to a refusal. All of it is in the history. Says whether none
+    /// was refused.
+    fn look_at_all(&mut self, said: &mut Said, answers: Vec<Answer>) -> bool {
+        let mut is_done = true;
+        for answer in answers {
+            self.calls = self.calls.saturating_add(1);
+            if is_done {
+                is_done = self.look_at(said, &answer);
+            }
+        }
+        is_done
+    }
+
+    /// Looks at the answer to the first call that is left. Says whether that was done: it is left no
+    /// more.
+    fn look_at(&mut self, said: &mut Said, answer: &Answer) -> bool {
+        match answer {
+            Ok(out) => {
+                show_out(said, out);
+                if !self.steps.is_empty() {
+                    drop(self.steps.remove(0));
+                }
+                true
+            }
+            Err(fault) => {
+                look_inside(said, fault);
+                false
+            }
+        }
+    }
+}
+
+/// What a shift answers to calls in a row.
+fn row_by<W: Wait, R: Replica>(
+    rt: &W,
+    alloc: Global,
+    shift: &Shared<R>,
+    pass: Pass,
+    steps: &[Arc<Step>],
+) -> RowAnswered {
+    if steps.is_empty() {
+        return Err((pass, CallFault::Memory));
+    }
+    shift.call_all(rt, alloc, pass, steps)
 }
 
 /// A share of the step.

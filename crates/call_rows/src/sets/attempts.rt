@@ -1,13 +1,13 @@
 //! Lines that try a journal at one place after the other, each on a disk of its own.
 
 use crate::sets::calls;
-use crate::sets::journals::{Held, Store, both, octets_of, put};
+use crate::sets::journals::{Held, Store, both, octets_of, put, records_of};
 use crate::sets::page::Page;
 use crate::sets::retries::call_all;
 use crate::sets::runs::Runs;
 use crate::sets::values::{print_journal_fault, slot, slot_word};
 use crate::sets::words::Words;
-use jr_journal::{Journal, JournalFault, MemoryDisk, OnceCall, OnceDisk, Slot};
+use jr_journal::{Journal, JournalFault, MemoryDisk, OnceCall, OnceDisk, Records, Slot};
 use rep_ops::Delta;
 
 /// What is tried at each place.
@@ -15,6 +15,8 @@ use rep_ops::Delta;
 pub(crate) enum Trial<'a> {
     /// An append of a record that stops after so many octets.
     Append(&'a Delta),
+    /// A write of several records that stops after so many octets.
+    Write(&'a Records),
     /// A compaction that stops after so many octets.
     Compaction(&'a [Delta]),
     /// The calls of a journal, of which one fails after so many of its kind.
@@ -119,6 +121,14 @@ pub(crate) fn appends(page: &mut Page, store: &mut Store, words: &mut Words<'_>,
     tried(page, store, words, gateway, &Trial::Append(delta));
 }
 
+/// `writes GATEWAY COUNT`: the same of the operations, each a record, that are written at once.
+pub(crate) fn writes(page: &mut Page, store: &mut Store, words: &mut Words<'_>, base: &[Delta]) {
+    let gateway = words.octet();
+    let records = records_of(page, base);
+    tried(page, store, words, gateway, &Trial::Write(&records));
+    drop(records);
+}
+
 /// `compactions GATEWAY COUNT`: the same of compactions to the operations.
 pub(crate) fn compactions(
     page: &mut Page,
@@ -163,6 +173,7 @@ fn try_each(page: &mut Page, held: &Held, gateway: u8, most: usize, trial: &Tria
 fn tried_at(said: &mut Page, disk: MemoryDisk, gateway: u8, far: usize, trial: &Trial<'_>) {
     match trial {
         Trial::Append(delta) => append_on(said, stopped(disk, far), gateway, delta),
+        Trial::Write(records) => write_on(said, stopped(disk, far), gateway, records),
         Trial::Compaction(base) => compact_on(said, stopped(disk, far), gateway, base),
         Trial::Calls(call, base) => {
             call_all(said, OnceDisk::over(disk, *call, far), gateway, base);
@@ -180,6 +191,14 @@ fn stopped(mut disk: MemoryDisk, far: usize) -> MemoryDisk {
 fn append_on(said: &mut Page, disk: MemoryDisk, gateway: u8, delta: &Delta) {
     if let Some((mut journal, _count)) = opened(said, disk, gateway) {
         let outcome = calls::append(said.alloc, &mut journal, delta);
+        behind_crash(said, journal.into_disk(), gateway, outcome);
+    }
+}
+
+/// One such write of several records.
+fn write_on(said: &mut Page, disk: MemoryDisk, gateway: u8, records: &Records) {
+    if let Some((mut journal, _count)) = opened(said, disk, gateway) {
+        let outcome = calls::append_all(&mut journal, records);
         behind_crash(said, journal.into_disk(), gateway, outcome);
     }
 }

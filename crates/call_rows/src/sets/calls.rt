@@ -1,7 +1,7 @@
 //! Calls of the libraries. These functions say nothing of them: what a library promises would stay
 //! in view at each exit after the call, and no row needs it.
 
-use jr_journal::{Disk, Journal, JournalFault};
+use jr_journal::{Disk, Journal, JournalFault, Records};
 use rep_model::{Replica, TakeFault};
 use rep_ops::{Delta, Op, OpsFault, Retained};
 use sn_frame::{EncodeFault, Frame, FrameFault};
@@ -90,6 +90,14 @@ pub(crate) fn append<D: Disk + Drop>(
     delta: &Delta,
 ) -> Result<(), JournalFault> {
     journal.append(alloc, delta)
+}
+
+/// Records are written at once.
+pub(crate) fn append_all<D: Disk + Drop>(
+    journal: &mut Journal<D>,
+    records: &Records,
+) -> Result<(), JournalFault> {
+    journal.append_all(records)
 }
 
 /// Records take the place of all.

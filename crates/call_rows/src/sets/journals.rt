@@ -8,7 +8,7 @@ use crate::sets::printing::print_deltas;
 use crate::sets::stop::Stop;
 use crate::sets::values::{print_journal_fault, slot, slot_word};
 use crate::sets::words::Words;
-use jr_journal::{Disk, Journal, JournalFault, MemoryDisk, Slot};
+use jr_journal::{Disk, Journal, JournalFault, MemoryDisk, Records, Slot};
 use rep_ops::{Delta, Op};
 use std::alloc::Global;
 use std::mem;
@@ -213,6 +213,35 @@ fn push(page: &mut Page, base: &mut Vec<Delta>, delta: Delta) {
     if is_short {
         page.run_out();
     }
+}
+
+/// Deltas as records that are to be written at once. If memory ran out, the page remembers that.
+pub(crate) fn records_of(page: &mut Page, deltas: &[Delta]) -> Records {
+    let mut records = Records::empty(page.alloc);
+    for delta in deltas {
+        if records.push(page.alloc, delta).is_err() {
+            page.run_out();
+        }
+    }
+    records
+}
+
+/// `together`: the operations, each a new record, are written at once.
+pub(crate) fn together(page: &mut Page, store: &mut Store, words: &mut Words<'_>, base: &[Delta]) {
+    match &mut store.journal {
+        Some(journal) => append_all_to(page, journal, base),
+        None => words.fail(Stop::Line),
+    }
+}
+
+/// The deltas are new records, which are written at once.
+fn append_all_to(page: &mut Page, journal: &mut Journal<MemoryDisk>, base: &[Delta]) {
+    let records = records_of(page, base);
+    match calls::append_all(journal, &records) {
+        Ok(()) => page.line("appended"),
+        Err(fault) => refused(page, fault, journal.starved()),
+    }
+    drop(records);
 }
 
 /// `compact`: the operations, each a record, take the place of all records.

@@ -1,5 +1,6 @@
 //! A line that plays made-up deltas on both replicas, and compares after each what these say.
 
+use crate::sets::backs::there_and_back;
 use crate::sets::calls;
 use crate::sets::made_up::{client, delta, next};
 use crate::sets::page::Page;
@@ -12,9 +13,9 @@ use rep_state::Folded;
 
 /// The two replicas.
 #[derive(Drop)]
-struct Pair {
-    plain: Plain,
-    folded: Folded,
+pub(crate) struct Pair {
+    pub(crate) plain: Plain,
+    pub(crate) folded: Folded,
 }
 
 /// How many deltas both took or refused, and after how many of them they said the same.
@@ -25,7 +26,8 @@ struct Counts {
 }
 
 /// `pair SEED TIMES SIZE LEAST`: so many times both replicas take so many made-up operations, if
-/// they are a delta; which so many are at least.
+/// they are a delta; which so many are at least. `back` in place of `pair`: one of the two takes
+/// two others before each, and goes back.
 pub(crate) fn play_pair(page: &mut Page, words: &mut Words<'_>) {
     let (seed, times) = (words.number(), words.number());
     let (size, least) = (words.number(), words.number());
@@ -80,7 +82,7 @@ fn pair_with(words: &mut Words<'_>, plain: Plain) -> Option<Pair> {
 }
 
 /// Both replicas take one made-up delta after the other: from this seed on, so many, of so many
-/// operations.
+/// operations. Before each one of the two may go back.
 fn count_each(
     words: &mut Words<'_>,
     pair: &mut Pair,
@@ -88,7 +90,8 @@ fn count_each(
     (seed, times, size): (u64, u64, u64),
 ) {
     let mut number = seed;
-    for _ in 0..times {
+    for time in 0..times {
+        number = there_and_back(words, pair, number, size, time % 2 == 0);
         number = next(number);
         if let Some(delta) = delta(words, number, size) {
             count(words, pair, counts, delta);
@@ -118,7 +121,7 @@ fn take(words: &mut Words<'_>, pair: &mut Pair, delta: &Delta) -> bool {
 }
 
 /// Keeps the fault, if memory ran out before a replica could say whether it can take a delta.
-fn keep_fault(words: &mut Words<'_>, taken: &Result<(), TakeFault>) {
+pub(crate) fn keep_fault(words: &mut Words<'_>, taken: &Result<(), TakeFault>) {
     if matches!(taken, Err(TakeFault::Memory)) {
         words.fail(Stop::Memory);
     }

@@ -1,8 +1,8 @@
 //! A row: what its lines have brought about so far but in the replica, and the play of one more.
 
-use crate::sets::attempts::{appends, compactions};
+use crate::sets::attempts::{appends, compactions, writes};
 use crate::sets::deltas::{self, made, print_read, spell, written};
-use crate::sets::journals::{self, Store, add_records, append, compact};
+use crate::sets::journals::{self, Store, add_records, append, compact, together};
 use crate::sets::page::Page;
 use crate::sets::pairs::play_pair;
 use crate::sets::printing::print_delta;
@@ -27,7 +27,7 @@ const OPERATIONS: &str = "op ops takes put puts ack acks retain retains";
 const DELTA: &str = "delta copy spell written fold append appends";
 
 /// Those of lines that use the operations as a delta each.
-const BASE: &str = "compact compactions retries";
+const BASE: &str = "compact compactions together writes retries";
 
 /// Those of lines about octets, and of two that want none.
 const OCTETS: &str = "set fill cut altered print size read older count beginnings none client";
@@ -96,7 +96,7 @@ fn play_use(page: &mut Page, row: &mut Row, words: &mut Words<'_>) {
 fn play_folded(page: &mut Page, row: &Row, words: &mut Words<'_>) {
     match words.first {
         "folded" => next(page, &row.folded, words),
-        "pair" => play_pair(page, words),
+        "pair" | "back" => play_pair(page, words),
         _ => words.fail(Stop::Line),
     }
 }
@@ -140,11 +140,20 @@ fn play_base(page: &mut Page, row: &mut Row, words: &mut Words<'_>) {
     drop(base);
 }
 
-/// Puts the deltas into a journal in the place of all its records.
+/// Puts the deltas into a journal: after its records at once, or in the place of them all.
 fn use_base(page: &mut Page, row: &mut Row, words: &mut Words<'_>, base: &[Delta]) {
     match words.first {
         "compact" => compact(page, &mut row.store, words, base),
+        "together" => together(page, &mut row.store, words, base),
+        _ => try_base(page, row, words, base),
+    }
+}
+
+/// Tries this at one place after the other.
+fn try_base(page: &mut Page, row: &mut Row, words: &mut Words<'_>, base: &[Delta]) {
+    match words.first {
         "compactions" => compactions(page, &mut row.store, words, base),
+        "writes" => writes(page, &mut row.store, words, base),
         _ => retries(page, &mut row.store, words, base),
     }
 }

@@ -16,3 +16,7 @@ world_fault_line world_faults.Memory = codes "E3" ▹ line_end
 -- a script whose line of this number is bad
 abbrev pub bad_line_text : ℕ → List ℕ
 bad_line_text number = codes "line " ▹ decimal number ▹ codes ": not a command" ▹ line_end
+
+-- a script whose line of this number is to be a call and is none
+abbrev pub bad_call_text : ℕ → List ℕ
+bad_call_text number = codes "line " ▹ decimal number ▹ codes ": not a call" ▹ line_end

@@ -1,5 +1,5 @@
 -- The lines of a script.
-use Rattle.std.specs.Prelude.{◌-◌, Result, Ok, Err}
+use Rattle.std.specs.Prelude.{Result, Ok, Err}
 use Rattle.gw_script.specs.declared.command.Command.{Command}
 use Rattle.gw_script.specs.declared.fault.LineFault.{LineFault}
 use Rattle.gw_script.specs.declared.fault.LineFault.TheVariants as faults

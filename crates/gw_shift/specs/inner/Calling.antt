@@ -1,11 +1,11 @@
 -- What a call does to a history and to the pass that makes it.
-use Rattle.std.specs.Prelude.{◌≡◌, ◌<◌, ◌+◌, ℕ, List, [], ◌∷◌, ◌++◌, length, Result}
+use Rattle.std.specs.Prelude.{◌≡◌, ◌<◌, ◌≤◌, ◌+◌, ℕ, List, [], ◌∷◌, ◌++◌, length, Result}
 use Rattle.gw_answer.specs.declared.step.Step.{Step}
 use Rattle.gw_answer.specs.declared.out.Out.{Out}
 use Rattle.gw_answer.specs.declared.refusal.Refusal.{Refusal}
 use Rattle.gw_shift.specs.Calls.{Call, Holder}
 use Rattle.gw_shift.specs.Passes.{seen_by}
-use Rattle.gw_shift.specs.inner.Passes.{call}
+use Rattle.gw_shift.specs.inner.Passes.{call, calls_of}
 use Rattle.gw_shift.specs.declared.fault.CallFault.{CallFault}
 use Rattle.gw_shift.specs.declared.fault.CallFault.TheVariants as faults
 
@@ -17,8 +17,19 @@ pub record Entered (before : List Call) (pass : Holder) (step : Step) (answer : 
   pub later : seen_by pass < number
   pub history : after ≡ before ++ call pass.place step answer ∷ []
 
--- why it is not, the history being as it was: there are as many calls as there may be; or the pass
--- has seen more than there are
+-- The first of these calls are the next ones of the history, under their pass: as many as there are
+-- answers, and one at least. The number is that of the first, and is above all that the pass has
+-- seen.
+pub record EnteredInRow (before : List Call) (pass : Holder) (steps : List Step)
+    (answers : List (Result Out Refusal)) (number : ℕ) (after : List Call) : Type 0 where
+  pub some : 0 < length answers
+  pub few : length answers ≤ length steps
+  pub next : number ≡ length before + 1
+  pub later : seen_by pass < number
+  pub history : after ≡ before ++ calls_of pass.place steps answers
+
+-- why none is entered, the history being as it was: there are as many calls as there may be; or
+-- the pass has seen more than there are
 abbrev pub NotEntered : ℕ → List Call → Holder → CallFault → List Call → Type 0
 NotEntered steps before pass faults.ShiftFull after = (length before ≡ steps) × (after ≡ before)
 NotEntered steps before pass (faults.Behind held) after =

@@ -29,6 +29,13 @@ made_after before (call ∷ calls) =
 abbrev pub call : ℕ → Step → Result Out Refusal → Call
 call place step answer = record { place = place; step = step; answer = answer }
 
+-- calls with their answers as a history holds them, as many as there are answers
+abbrev pub calls_of : ℕ → List Step → List (Result Out Refusal) → List Call
+calls_of place steps [] = []
+calls_of place [] (answer ∷ answers) = []
+calls_of place (step ∷ steps) (answer ∷ answers) =
+    call place step answer ∷ calls_of place steps answers
+
 -- the deltas that shares of answers hold, with their numbers
 abbrev pub told_by : List (ℕ × Arc Out Global) → List (ℕ × List Op)
 told_by [] = []

@@ -1,6 +1,6 @@
 -- What an event does to the nodes of a field. `olds` and `news` are what they are before it and
 -- after it.
-use Rattle.std.specs.Prelude.{Bool, ◌≡◌, ◌<◌, ℕ, ◌+◌, ◌-◌, ◌≤◌, ◌==◌, if◌then◌else◌, take, length, Vec, List, [], ◌∷◌, ◌++◌, Option, Some, None, Result, Ok, Err, slice_get, slice_set}
+use Rattle.std.specs.Prelude.{Bool, ◌≡◌, ◌⊎◌, ◌<◌, ℕ, ◌+◌, ◌-◌, ◌≤◌, ◌==◌, if◌then◌else◌, map, take, drop, length, Vec, List, [], ◌∷◌, ◌++◌, Option, Some, None, Result, Ok, Err, slice_get, slice_set, Contains}
 use Rattle.std.specs.List.{AllByRecursion}
 use Rattle.std.specs.declared.alloc.Global.{Global}
 use Rattle.rep_op.specs.declared.op.Op.{Op}
@@ -16,19 +16,24 @@ use Rattle.gw_answer.specs.declared.refusal.Refusal.{Refusal}
 use Rattle.gw_answer.specs.declared.refusal.Refusal.TheVariants as refusals
 use Rattle.gw_answer.specs.declared.step.Step.{Step}
 use Rattle.gw_answer.specs.declared.step.Step.TheVariants as steps
-use Rattle.gw_event.specs.Event.{StepOf, IsWritable}
+use Rattle.gw_event.specs.Event.{StepOf, Event as CallEvent, IsWritable}
+use Rattle.gw_event.specs.Together.{InTurnBy, Together}
+use Rattle.jr_disk.specs.declared.disk.Plan.{Plan as Failure}
 use Rattle.gw_event.specs.Gateways.{Gateway}
 use Rattle.gw_node.specs.Parts.{State}
 use Rattle.gw_answer.specs.Answers.{said, only_sends}
-use Rattle.gw_node.specs.Standing.{Agrees}
+use Rattle.gw_node.specs.Standing.{Agrees, fated}
 use Rattle.gw_world.specs.declared.event.Event.{Event}
-use Rattle.gw_world.specs.declared.event.Event.TheVariants.{Frame, Tick, Take, Answer as Asks, WriteFails, Compact, Restart, Show}
+use Rattle.gw_world.specs.declared.event.Event.TheVariants.{Frame, Tick, Take, Together as AtOnce, Answer as Asks, WriteFails, Compact, Restart, Show}
+use Rattle.gw_world.specs.declared.event.Call.{Call}
+use Rattle.gw_world.specs.declared.event.Call.TheVariants as calls
 use Rattle.gw_world.specs.declared.event.Answer.{Answer}
-use Rattle.gw_world.specs.declared.event.Answer.TheVariants.{Node, Views, Records, Nothing}
+use Rattle.gw_world.specs.declared.event.Answer.TheVariants.{Node, Row, Views, Records, Nothing}
 use Rattle.gw_world.specs.declared.world.WorldFault.{WorldFault}
 use Rattle.gw_world.specs.declared.world.WorldFault.TheVariants as stops
 use Rattle.gw_world.specs.Events.{made_of, answered_of}
-use Rattle.gw_world.specs.Field.{Field, new_field, Run, NamesNoGateway, NamesNoDelta, shown, gateway_of, failing}
+use Rattle.gw_world.specs.Whole.{made_of_all}
+use Rattle.gw_world.specs.Field.{Field, new_field, AreStepsOf, AreFed, Run, NamesNoGateway, NamesNoDelta, shown, gateway_of, failing}
 use Rattle.gw_world.specs.Keeping.{IsShown, AreShown}
 use Rattle.gw_world.specs.Steps.{restarted, records_left}
 
@@ -53,6 +58,45 @@ GoesOn old step answer new =
     (gateway : Gateway) → IsShown gateway old → Agrees gateway step
     → (next : Gateway) × (made : List (List Op)) × StepOf gateway step answer next made
     × IsShown next new
+
+-- the answer is not that the disk failed
+abbrev pub IsNoFailure : Result Out Refusal → Type 0
+IsNoFailure (Err (refusals.Disk excuse)) = ⊥
+IsNoFailure answer = Unit {0}
+
+-- what each call takes contradicts nothing that the gateway has taken by then, whatever failures
+-- are arranged
+abbrev pub AgreeAlong : Gateway → List Step → Type 0
+AgreeAlong gateway [] = Unit {0}
+AgreeAlong gateway (step ∷ rest) =
+    Agrees gateway step
+    × ((fate : Option Failure) (answer : Result Out Refusal) (next : Gateway)
+    (made : List (List Op)) → CallEvent (fated fate gateway) step answer next made
+    → AgreeAlong next rest)
+
+-- whatever gateway the node stood for, it does these calls with one write, and the node stands for
+-- the next one
+abbrev pub GoesTogether : {D : Type 0} {G : Ghosts D} → State G → List Step
+    → List (Result Out Refusal) → State G → Type 0
+GoesTogether old called answers new =
+    (gateway : Gateway) → IsShown gateway old → AgreeAlong gateway called
+    → (next : Gateway) × (made : List (List Op)) × Together gateway called answers next made
+    × AreFed answers × IsShown next new
+
+-- the first ones of the calls are done and none failed; or all are, with one write
+abbrev pub RowLeads : {D : Type 0} {G : Ghosts D} → Gateway → List Step → List (Result Out Refusal)
+    → State G → Type 0
+RowLeads gateway called answers state =
+    (next : Gateway) × (made : List (List Op)) × AreFed answers × IsShown next state
+    × ((InTurnBy StepOf gateway (take (length answers) called) answers next made
+    × AllByRecursion IsNoFailure answers × AgreeAlong next (drop (length answers) called))
+    ⊎ (Together gateway called answers next made × (length answers ≡ length called)))
+
+-- more of the calls are done
+abbrev pub RowDone : {D : Type 0} {G : Ghosts D} → State G → List Step → List (Result Out Refusal)
+    → List (Result Out Refusal) → State G → Type 0
+RowDone old called before after new =
+    (gateway : Gateway) → RowLeads gateway called before old → RowLeads gateway called after new
 
 -- the node stops and is opened again: so many records are read then
 abbrev pub StartsAgain : {D : Type 0} {G : Ghosts D} → State G → ℕ → ℕ → State G → Type 0
@@ -121,6 +165,11 @@ abbrev pub StepsAt : {D : Type 0} {G : Ghosts D} → List (State G) → ℕ → 
     → List (State G) → Type 0
 StepsAt olds i step answer news = Moves olds i (λ old new. GoesOn old step answer new) news
 
+-- the i-th node answers these calls so, which have one write, and no other node changes
+abbrev pub RowAt : {D : Type 0} {G : Ghosts D} → List (State G) → ℕ → List Step
+    → List (Result Out Refusal) → List (State G) → Type 0
+RowAt olds i called answers news = Moves olds i (λ old new. GoesTogether old called answers new) news
+
 -- the digest of the i-th node goes to the j-th
 abbrev pub AskAt : {D : Type 0} {G : Ghosts D} → List (State G) → ℕ → ℕ → Result Out Refusal
     → Type 0
@@ -141,6 +190,7 @@ OwnAnswered olds deltas i step news next (Node answer) =
     StepsAt olds i step (said answer) news × Join deltas (made_of (said answer)) next
 OwnAnswered olds deltas i step news next (Views views topics) = ⊥
 OwnAnswered olds deltas i step news next (Records count) = ⊥
+OwnAnswered olds deltas i step news next (Row answers) = ⊥
 OwnAnswered olds deltas i step news next Nothing = ⊥
 
 -- the answer to a delta or a compaction
@@ -149,7 +199,24 @@ abbrev pub StepAnswered : {D : Type 0} {G : Ghosts D} → List (State G) → ℕ
 StepAnswered olds i step news (Node answer) = StepsAt olds i step (said answer) news
 StepAnswered olds i step news (Views views topics) = ⊥
 StepAnswered olds i step news (Records count) = ⊥
+StepAnswered olds i step news (Row answers) = ⊥
 StepAnswered olds i step news Nothing = ⊥
+
+-- a field of which nothing is known but its list
+abbrev pub listing : List (List Op) → Field
+listing deltas = record { gateways = []; deltas = deltas }
+
+-- the answers to calls with one write, and the list of deltas after them
+abbrev pub RowAnswered : {D : Type 0} {G : Ghosts D} → List (State G) → List (List Op) → ℕ
+    → List Call → List (State G) → List (List Op) → Answer → Type 0
+RowAnswered olds deltas i calls news next (Row answers) =
+    (called : List Step) × AreStepsOf (listing deltas) calls called
+    × RowAt olds i called (map said answers) news
+    × Join deltas (made_of_all (map said answers)) next
+RowAnswered olds deltas i calls news next (Node answer) = ⊥
+RowAnswered olds deltas i calls news next (Views views topics) = ⊥
+RowAnswered olds deltas i calls news next (Records count) = ⊥
+RowAnswered olds deltas i calls news next Nothing = ⊥
 
 -- the answer to a restart
 abbrev pub RestartAnswered : {D : Type 0} {G : Ghosts D} → List (State G) → ℕ → ℕ → List (State G)
@@ -157,6 +224,7 @@ abbrev pub RestartAnswered : {D : Type 0} {G : Ghosts D} → List (State G) → 
 RestartAnswered olds i kept news (Records count) =
     Moves olds i (λ old new. StartsAgain old kept count new) news
 RestartAnswered olds i kept news (Node answer) = ⊥
+RestartAnswered olds i kept news (Row answers) = ⊥
 RestartAnswered olds i kept news (Views views topics) = ⊥
 RestartAnswered olds i kept news Nothing = ⊥
 
@@ -168,6 +236,7 @@ FailAnswered olds i bytes sync news Nothing =
 FailAnswered olds i bytes sync news (Node answer) = ⊥
 FailAnswered olds i bytes sync news (Views views topics) = ⊥
 FailAnswered olds i bytes sync news (Records count) = ⊥
+FailAnswered olds i bytes sync news (Row answers) = ⊥
 
 -- the answer of a peer in its place to the digest of the i-th node, and the list of deltas after it
 abbrev pub AskAnswered : {D : Type 0} {G : Ghosts D} → List (State G) → List (List Op) → ℕ → ℕ
@@ -176,6 +245,7 @@ AskAnswered olds deltas i j next (Node answer) =
     AskAt olds i j (said answer) × Join deltas (answered_of (said answer)) next
 AskAnswered olds deltas i j next (Views views topics) = ⊥
 AskAnswered olds deltas i j next (Records count) = ⊥
+AskAnswered olds deltas i j next (Row answers) = ⊥
 AskAnswered olds deltas i j next Nothing = ⊥
 
 -- the answer of the peer of this number to the digest of the i-th node, and the list of deltas
@@ -189,6 +259,7 @@ PeerAnswered olds deltas i peer next answer =
 abbrev pub ShowAnswered : {D : Type 0} {G : Ghosts D} → List (State G) → ℕ → Answer → Type 0
 ShowAnswered olds i (Node answer) = ⊥
 ShowAnswered olds i (Records count) = ⊥
+ShowAnswered olds i (Row answers) = ⊥
 ShowAnswered olds i Nothing = ⊥
 ShowAnswered {G = G} olds i (Views views topics) =
     (state : State G) × (slice_get olds i ≡ Some state)
@@ -208,6 +279,8 @@ EventAt olds deltas i (Tick number now) news next answer =
 EventAt olds deltas i (Take number delta) news next answer =
     (ops : List Op) × IsListed deltas delta ops × StepAnswered olds i (steps.Take ops) news answer
     × (next ≡ deltas)
+EventAt olds deltas i (AtOnce number calls) news next answer =
+    RowAnswered olds deltas i calls news next answer
 EventAt olds deltas i (Asks number peer) news next answer =
     PeerAnswered olds deltas i peer next answer × (news ≡ olds)
 EventAt olds deltas i (WriteFails number bytes sync) news next answer =
@@ -241,11 +314,29 @@ NoDelta deltas delta number (stops.NoDelta n) =
     (n ≡ number) × ((ops : List Op) → IsListed deltas delta ops → ⊥)
 NoDelta deltas delta number stops.Memory = Unit {0}
 
+-- why a call is none of the node: the list has no delta of its number, or memory ran out
+abbrev pub CallMissing : List (List Op) → Call → ℕ → WorldFault → Type 0
+CallMissing deltas call number (stops.NoGateway n) = ⊥
+CallMissing deltas call number (stops.NoDelta n) =
+    (n ≡ number) × ((delta : ℕ) × (call ≡ calls.Take delta)
+    × ((ops : List Op) → IsListed deltas delta ops → ⊥))
+CallMissing deltas call number stops.Memory = Unit {0}
+
+-- why one of these calls is none
+abbrev pub CallsMissing : List (List Op) → List Call → ℕ → WorldFault → Type 0
+CallsMissing deltas called number (stops.NoGateway n) = ⊥
+CallsMissing deltas called number (stops.NoDelta n) =
+    (n ≡ number) × ((delta : ℕ) × Contains called (calls.Take delta)
+    × ((ops : List Op) → IsListed deltas delta ops → ⊥))
+CallsMissing deltas called number stops.Memory = Unit {0}
+
 -- why an event at a node that is there has no answer
 abbrev pub IsMissing : {D : Type 0} {G : Ghosts D} → List (State G) → List (List Op) → Event → ℕ
     → WorldFault → Type 0
 IsMissing olds deltas (Asks gateway peer) number fault = NoPeer olds peer number fault
 IsMissing olds deltas (Take gateway delta) number fault = NoDelta deltas delta number fault
+IsMissing olds deltas (AtOnce gateway calls) number fault =
+    CallsMissing deltas calls number fault
 IsMissing olds deltas (Frame gateway from bytes now) number fault = fault ≡ stops.Memory
 IsMissing olds deltas (Tick gateway now) number fault = fault ≡ stops.Memory
 IsMissing olds deltas (WriteFails gateway bytes sync) number fault = fault ≡ stops.Memory

@@ -2,7 +2,7 @@
 
 ghost use Rattle.std.specs.Prelude.{◌≡◌, IfOk, MatchOption, Some, None};
 ghost use Rattle.mq_packet.specs.inner.Reading as spec;
-ghost use Rattle.mq_packet.specs.inner.Reading.{Gives, Parts, connection, login_made, past_protocol, read_connect, read_data_if, read_marked, read_parts, will_made};
+ghost use Rattle.mq_packet.specs.inner.Reading.{Gives, Parts, connection, login_made, past_protocol, read_connect, read_connection, read_data_if, read_marked, read_parts, will_made};
 
 use crate::decoder::parts::{data, number};
 use crate::fault::PacketFault;
@@ -58,16 +58,28 @@ fn marked(alloc: Global, rest: &[u8]) -> Result<Packet, PacketFault>
     let [bits, high, low, payload @ ..] = rest else {
         return Err(PacketFault::Body);
     };
-    let Some(marks) = read_marks(*bits) else {
-        return Err(PacketFault::Body);
-    };
+    match read_marks(*bits) {
+        None => Err(PacketFault::Body),
+        Some(marks) => with_marks(alloc, marks, number(*high, *low), payload),
+    }
+}
+
+/// CONNECT of these flags and this time, of its strings.
+fn with_marks(
+    alloc: Global,
+    marks: Marks,
+    keep_alive: u16,
+    payload: &[u8],
+) -> Result<Packet, PacketFault>
+    ensures { Gives (read_connection marks keep_alive payload.now) result }
+{
     let Some(strings) = strings_of(marks, payload) else {
         return Err(PacketFault::Body);
     };
     if !are_good(marks, strings) {
         return Err(PacketFault::Body);
     }
-    Ok(made(alloc, marks, number(*high, *low), strings)?)
+    Ok(made(alloc, marks, keep_alive, strings)?)
 }
 
 /// A string or data if it is there, else nothing, and what follows.
@@ -149,15 +161,27 @@ fn made(
         IfOk result (λ packet. packet ≡ connection marks keep_alive parts) }
 {
     let will = will_of(alloc, marks.will, strings.topic, strings.message)?;
-    let login = login_of(alloc, marks.login, strings.user, strings.password)?;
-    let client = Octets::from_slice(alloc, strings.client)?;
-    Ok(Packet::Connect {
-        clean: marks.clean,
-        keep_alive,
-        client,
-        will,
-        login,
-    })
+    let login = match login_of(alloc, marks.login, strings.user, strings.password) {
+        Ok(login) => login,
+        Err(fault) => {
+            drop(will);
+            return Err(fault);
+        }
+    };
+    match Octets::from_slice(alloc, strings.client) {
+        Ok(client) => Ok(Packet::Connect {
+            clean: marks.clean,
+            keep_alive,
+            client,
+            will,
+            login,
+        }),
+        Err(fault) => {
+            drop(will);
+            drop(login);
+            Err(fault)
+        }
+    }
 }
 
 /// The will of these flags and strings.

@@ -1,8 +1,8 @@
 //! Whether a packet's parts have values that are allowed, and its body.
 
-ghost use Rattle.std.specs.Prelude.{◌≡◌, ◌≢◌, ◌<◌, ◌++◌, ◌↔◌, ◌⊎◌, OnOk, OnErr, Err, IsTrue, IfSome};
+ghost use Rattle.std.specs.Prelude.{◌≡◌, ◌≢◌, ◌<◌, ◌++◌, ◌↔◌, ◌⊎◌, IfOk, OnOk, OnErr, Err, IsTrue, IfSome};
 ghost use Rattle.mq_packet.specs.declared.packet.TheConstants.{MAX_REMAINING};
-ghost use Rattle.mq_packet.specs.Bodies.{IsAnswer, IsDelivery, IsLogin, IsMessage, IsWill};
+ghost use Rattle.mq_packet.specs.Bodies.{IsAnswer, IsDelivery, IsLogin, IsMessage, IsWill, body_of};
 ghost use Rattle.mq_packet.specs.Grammar.{size_of, spelling};
 ghost use Rattle.mq_packet.specs.Text.{IsData};
 
@@ -13,7 +13,7 @@ use crate::marks::bit;
 use crate::packet::{Delivery, Login, MAX_DATA, Packet, Will};
 use crate::text::{is_filter, is_text, is_topic};
 use octets::Octets;
-use std::alloc::Global;
+use std::alloc::{AllocError, Global};
 
 /// Whether the packet's parts have values that MQTT 3.1.1 allows.
 pub(super) fn is_message(packet: &Packet) -> bool
@@ -87,6 +87,25 @@ fn is_delivery(delivery: Delivery) -> bool
     }
 }
 
+/// Appends the spelling of a packet whose body begins with what was made, or nothing.
+fn append_made(
+    out: &mut Vec<u8>,
+    packet: &Packet,
+    made: Result<Vec<u8>, AllocError>,
+    tail: &[u8],
+) -> Result<(), EncodeFault>
+    requires { IfOk made (λ front. body_of packet.now ≡ front.items ++ tail.now) }
+    ensures ok { OnOk result (out.new.items ≡ out.old.items ++ spelling packet.now) }
+    ensures body { result ≢ Err EncodeFault.Body }
+    ensures too_long { result ≡ Err EncodeFault.TooLong → MAX_REMAINING < size_of packet.now }
+    ensures refused { MAX_REMAINING < size_of packet.now
+        → (result ≡ Err EncodeFault.TooLong) ⊎ (result ≡ Err EncodeFault.Memory) }
+    ensures err { OnErr result (out.new.items ≡ out.old.items) }
+{
+    let front = made?;
+    append_spelling(out, packet, &front, tail)
+}
+
 /// Appends the canonical spelling of a packet, or nothing. The body of a publication is lent and
 /// copied once.
 pub(super) fn append_packet(
@@ -110,8 +129,8 @@ pub(super) fn append_packet(
             will,
             login,
         } => {
-            let front = connect(alloc, *clean, *keep_alive, client.as_slice(), will, login)?;
-            append_spelling(out, packet, &front, &[])
+            let front = connect(alloc, *clean, *keep_alive, client.as_slice(), will, login);
+            append_made(out, packet, front, &[])
         }
         Packet::ConnAck { session, code } => {
             append_spelling(out, packet, &[bit(*session), *code], &[])
@@ -122,22 +141,25 @@ pub(super) fn append_packet(
             body,
             ..
         } => {
-            let front = publish(alloc, *delivery, topic.as_slice())?;
-            append_spelling(out, packet, &front, body.as_slice())
+            let front = publish(alloc, *delivery, topic.as_slice());
+            append_made(out, packet, front, body.as_slice())
         }
         Packet::PubAck { id } | Packet::UnsubAck { id } => {
             append_spelling(out, packet, &octets_of(*id), &[])
         }
         Packet::Subscribe { id, filter, qos } => {
-            let front = subscribe(alloc, *id, filter.as_slice(), *qos)?;
-            append_spelling(out, packet, &front, &[])
+            append_made(
+                out,
+                packet,
+                subscribe(alloc, *id, filter.as_slice(), *qos),
+                &[],
+            )
         }
         Packet::SubAck { id, granted } => {
             append_spelling(out, packet, &sub_ack(*id, *granted), &[])
         }
         Packet::Unsubscribe { id, filter } => {
-            let front = unsubscribe(alloc, *id, filter.as_slice())?;
-            append_spelling(out, packet, &front, &[])
+            append_made(out, packet, unsubscribe(alloc, *id, filter.as_slice()), &[])
         }
         Packet::PingReq | Packet::PingResp | Packet::Disconnect => {
             append_spelling(out, packet, &[], &[])

@@ -8,7 +8,6 @@ ghost use Rattle.mq_packet.specs.Grammar.{size_of, spelling};
 use crate::fault::EncodeFault;
 use crate::header::Header;
 use crate::packet::{Delivery, MAX_REMAINING, Packet};
-use std::alloc::AllocError;
 
 /// What the first octet of a packet says.
 fn header_of(packet: &Packet) -> Header
@@ -59,12 +58,12 @@ pub(super) fn append_spelling(
     let first = header_of(packet).octet();
     let size = front.len() + tail.len();
     if size < 0x80 {
-        append_parts(out, &[first, size as u8], front, tail)?;
+        append_parts(out, &[first, size as u8], front, tail)
     } else if size < 0x4000 {
-        append_parts(out, &[first, low(size), (size / 0x80) as u8], front, tail)?;
+        append_parts(out, &[first, low(size), (size / 0x80) as u8], front, tail)
     } else if size < 0x20_0000 {
         let head = [first, low(size), low(size / 0x80), (size / 0x4000) as u8];
-        append_parts(out, &head, front, tail)?;
+        append_parts(out, &head, front, tail)
     } else if size <= MAX_REMAINING {
         let head = [
             first,
@@ -73,11 +72,10 @@ pub(super) fn append_spelling(
             low(size / 0x4000),
             (size / 0x20_0000) as u8,
         ];
-        append_parts(out, &head, front, tail)?;
+        append_parts(out, &head, front, tail)
     } else {
-        return Err(EncodeFault::TooLong);
+        Err(EncodeFault::TooLong)
     }
-    Ok(())
 }
 
 /// The lowest seven bits of a number, with the mark that another octet follows.
@@ -88,14 +86,22 @@ fn low(n: usize) -> u8
 }
 
 /// Appends all three, or nothing: the room for all of them is reserved first.
-fn append_parts(out: &mut Vec<u8>, head: &[u8], front: &[u8], tail: &[u8]) -> Result<(), AllocError>
+fn append_parts(
+    out: &mut Vec<u8>,
+    head: &[u8],
+    front: &[u8],
+    tail: &[u8],
+) -> Result<(), EncodeFault>
     requires { length head.now + length front.now + length tail.now < 2 ^ 64 }
     ensures ok { OnOk result (out.new.items ≡ out.old.items ++ (head.now ++ front.now
         ++ tail.now)) }
     ensures err { OnErr result (out.new.items ≡ out.old.items) }
+    ensures body { result ≢ Err EncodeFault.Body }
+    ensures too_long { result ≢ Err EncodeFault.TooLong }
 {
     out.reserve(head.len() + front.len() + tail.len())?;
     out.extend_from_slice(head)?;
     out.extend_from_slice(front)?;
-    out.extend_from_slice(tail)
+    out.extend_from_slice(tail)?;
+    Ok(())
 }

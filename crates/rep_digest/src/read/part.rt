@@ -67,6 +67,7 @@ pub fn read_origin(alloc: Global, bytes: &[u8]) -> Result<(OriginEntry, &[u8]), 
         waiting,
     };
     if !entry.has_ranges() {
+        drop(entry);
         return Err(OpsFault::Kind);
     }
     Ok((entry, rest))

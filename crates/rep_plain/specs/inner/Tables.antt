@@ -11,7 +11,7 @@ use Rattle.rep_model.specs.declared.fault.TheConstants.{MOST_PENDING, MOST_PARKE
 use Rattle.rep_model.specs.declared.fault.Limit.{Limit}
 use Rattle.rep_shared.specs.inner.Tables.{passed_of}
 use Rattle.rep_plain.specs.declared.entry.Entry.{Entry}
-use Rattle.rep_shared.specs.Rows.{flat}
+use Rattle.rep_shared.specs.Rows.{flat, moved, CanGoBack}
 use Rattle.rep_plain.specs.Tables.{rows_of, AreEntries, IsTable}
 
 -- the operations of each client, if there is nothing else yet
@@ -24,6 +24,15 @@ pub record IsRoomier (old new : List (List ℕ × Entry)) : Type 0 where
   pub table : (count : ℕ) → IsTable old count → IsTable new count
   pub found : (c : List ℕ) → IsSome (find client_cmp c (rows_of old))
       → IsSome (find client_cmp c (rows_of new))
+  pub back : (count : ℕ) → IsTable old count → (aside : List (List ℕ × List Op))
+      → CanGoBack (rows_of old) aside → CanGoBack (rows_of new) aside
+      × (flat (moved (rows_of new) aside) ≡ flat (moved (rows_of old) aside))
+
+-- more of the rows lies aside, and is put back as before
+pub record IsSaving (rows old new : List (List ℕ × List Op)) : Type 0 where
+  pub can : CanGoBack rows old → CanGoBack rows new
+  pub same : moved rows new ≡ moved rows old
+  pub found : (c : List ℕ) → IsSome (find client_cmp c old) → IsSome (find client_cmp c new)
 
 -- the fresh entries can be moved into the table
 pub record AreMovable (entries fresh : List (List ℕ × Entry)) : Type 0 where

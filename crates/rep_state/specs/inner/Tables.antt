@@ -1,5 +1,5 @@
 -- The table of clients.
-use Rattle.std.specs.Prelude.{◌≡◌, ℕ, List, [], ◌∷◌, ◌++◌, length, IsSome, Option, nat_lt, Bool}
+use Rattle.std.specs.Prelude.{◌≡◌, ℕ, List, [], ◌∷◌, ◌++◌, length, IsSome, Option, Some, nat_lt, Bool}
 use Rattle.std.specs.List.{AllByRecursion, list_any}
 use Rattle.std.specs.declared.cmp.Ordering.{Ordering}
 use Rattle.std.specs.FinMap.{find}
@@ -7,12 +7,12 @@ use Rattle.rep_op.specs.declared.op.Op.{Op}
 use Rattle.rep_op.specs.Orders.{client_cmp}
 use Rattle.rep_model.specs.declared.fault.TheConstants.{MOST_PENDING, MOST_PARKED, MOST_EXCEPTIONS}
 use Rattle.rep_model.specs.declared.fault.Limit.{Limit}
-use Rattle.rep_shared.specs.Rows.{flat, own}
+use Rattle.rep_shared.specs.Rows.{flat, own, moved, CanGoBack}
 use Rattle.rep_shared.specs.inner.Tables.{passed_of}
 use Rattle.rep_entry.specs.declared.entry.Entry.{Entry}
 use Rattle.rep_state.specs.declared.places.Place.{Place}
 use Rattle.rep_entry.specs.Entries.{IsEntry}
-use Rattle.rep_state.specs.Tables.{rows_of, IsTable}
+use Rattle.rep_state.specs.Tables.{rows_of, IsKept, IsTable}
 
 -- places are in the order of their names
 abbrev pub place_cmp : Place → Place → Ordering
@@ -33,6 +33,26 @@ pub record IsRoomier (old new : List (List ℕ × Entry)) : Type 0 where
   pub table : (count : ℕ) → IsTable old count → IsTable new count
   pub found : (c : List ℕ) → IsSome (find client_cmp c (rows_of old))
       → IsSome (find client_cmp c (rows_of new))
+  pub back : (count : ℕ) → IsTable old count → (aside : List (List ℕ × List Op))
+      → CanGoBack (rows_of old) aside → CanGoBack (rows_of new) aside
+      × (flat (moved (rows_of new) aside) ≡ flat (moved (rows_of old) aside))
+
+-- more of the rows lies aside, and is put back as before
+pub record IsSaving (rows old new : List (List ℕ × List Op)) : Type 0 where
+  pub can : CanGoBack rows old → CanGoBack rows new
+  pub same : moved rows new ≡ moved rows old
+  pub found : (c : List ℕ) → IsSome (find client_cmp c old) → IsSome (find client_cmp c new)
+
+-- each client that has one of the entries aside has a place for it
+abbrev pub HaveTheirPlaces : List (List ℕ × Entry) → List (List ℕ × Entry) → Type 0
+HaveTheirPlaces es aside =
+    (c : List ℕ) → IsSome (find client_cmp c (rows_of aside))
+    → IsSome (find client_cmp c (rows_of es))
+
+-- what lies aside of a client passes no limit
+abbrev pub AreKeptAside : List (List ℕ × Entry) → Type 0
+AreKeptAside aside =
+    (c : List ℕ) (entry : Entry) → find client_cmp c aside ≡ Some entry → IsKept c entry
 
 -- whether more than 16,384 messages wait for the client
 abbrev pub too_many_pending : List ℕ × Entry → Bool

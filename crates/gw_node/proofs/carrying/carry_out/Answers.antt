@@ -39,7 +39,7 @@ returns-in-Ok-write_if_made g c =
           c.requires.some
           (subst (λ (ops : List Op). IsDeltaOf ops delta) c.into_vec.ensures c.in-Ok.ensures.delta)
           c.in-Ok.ensures.fits
-          (subst (λ (kept : List Op). IsKeptOf (g.R.Replica.kept c.args.node.now.replica ++ delta) kept) (sym c.commit.ensures) c.in-Ok.ensures.taken)
+          (subst (λ (kept : List Op). IsKeptOf (g.R.Replica.kept c.args.node.now.replica ++ delta) kept) (sym c.commit.ensures.kept) c.in-Ok.ensures.taken)
           (subst (λ (made : Option (List Op)). WrittenIfMade c.args.node.now.journal made (Ok c.in-Ok-write_if_made.field-0) c.write_if_made.new.journal) given_is c.in-Ok-write_if_made.ensures)
           c.in-Ok.ensures.writable);
       answer = answer_is ∙ ap (λ (made : Option (List Op)). record (only_sends c.args.plan.sends) { made = made }) (sym made_is);

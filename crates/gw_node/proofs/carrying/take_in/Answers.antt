@@ -15,7 +15,7 @@ returns-in-Ok g c = (
     records = refl;
     is_delta = c.in_ok-ready.ensures.delta;
     fits = c.in_ok-ready.ensures.fits;
-    kept = subst (λ K. IsKeptOf (g.R.Replica.kept c.args.node.now.replica ++ c.args.delta.now) K) (sym c.commit.ensures) c.in_ok-ready.ensures.taken;
+    kept = subst (λ K. IsKeptOf (g.R.Replica.kept c.args.node.now.replica ++ c.args.delta.now) K) (sym c.commit.ensures.kept) c.in_ok-ready.ensures.taken;
     local = c.keep_owned.ensures.dropped;
     noted = noted c.args.node.now.journal c.write_if_any.new.journal c.args.delta.now c.in-Ok.field-0 c.in-Ok.ensures;
   },

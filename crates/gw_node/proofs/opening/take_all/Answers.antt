@@ -22,7 +22,7 @@ loop-delta-preserved g c =
     take_more c.args.deltas.now c.loop-delta.delta-index delta c.loop-delta-test.true ∙ ap (λ x. before ++ x ∷ []) (sym c.delta-item.is) in (
       subst (λ (ds : List (List Op)). Keeps (all_of ds) next) (sym more)
           (keeps_one_more before delta kept next c.loop-delta.invariant.0
-          (subst (λ (K : List Op). IsKeptOf (kept ++ delta) K) (sym c.commit.ensures) c.in-Ok.ensures.taken)),
+          (subst (λ (K : List Op). IsKeptOf (kept ++ delta) K) (sym c.commit.ensures.kept) c.in-Ok.ensures.taken)),
       λ first. absurd (omega arith),
       λ rest.
           c.loop-delta.invariant.2

@@ -1,13 +1,16 @@
-use Rattle.std.proofs.Common.{◌≡◌, take}
-use Rattle.gw_script.specs.Commands.{lines_of}
+-- The script is what the lines up to a place make up, and the place moves on.
+use Rattle.std.proofs.Common.{◌-◌, ◌≤◌, take}
+use Rattle.std.specs.Prelude.{vec_len}
 use Rattle.gw_script.specs.Scripts.{IsScriptOf}
 use Rattle.gw_script.proofs.Growth.{octets_of}
 use Rattle.gw_script.proofs.script.parse.Given as goal
 
--- the script is what the lines so far make up
-abbrev pub invariant-loop-index : goal.invariant-loop-index
-invariant-loop-index l =
+abbrev pub invariant-reading : goal.invariant-reading
+invariant-reading l =
     record {
-      all : octets_of l.line-items ≡ lines_of l.fn.text;
-      said : IsScriptOf (take l.index (octets_of l.line-items)) l.script;
+      within : l.at ≤ vec_len l.lines;
+      said : IsScriptOf (take l.at (octets_of l.lines.items)) l.script;
     }
+
+abbrev pub decreases-reading : goal.decreases-reading
+decreases-reading l = vec_len l.lines - l.at

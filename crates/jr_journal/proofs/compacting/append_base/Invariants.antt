@@ -1,7 +1,7 @@
 use Rattle.std.proofs.Common.{◌≡◌, ◌++◌, take, flat_map}
 use Rattle.std.specs.List.{AllByRecursion}
 use Rattle.jr_journal.specs.Records.{written}
-use Rattle.jr_journal.specs.inner.Records.{IsReadable}
+use Rattle.jr_journal.specs.Readable.{IsReadable}
 use Rattle.jr_journal.proofs.compacting.append_base.Given as goal
 
 -- what was there, and a record for each so far

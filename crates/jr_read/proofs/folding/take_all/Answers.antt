@@ -12,7 +12,7 @@ loop-before-init g c = counts_none (g.R.Replica.kept c.args.replica.now) c.requi
 
 pub loop-before-preserved : goal.loop-before-preserved
 loop-before-preserved g c =
-    counts_more c.args.records.now c.loop-before.before c.index-records-before.result (g.R.Replica.kept c.loop-before.replica) (g.R.Replica.after c.prepare.new.self c.in-Ok.staged) (g.R.Replica.kept c.commit.new.self) c.loop-before-test.true c.index-records-before.is c.loop-before.invariant c.in-Ok.ensures.taken c.commit.ensures
+    counts_more c.args.records.now c.loop-before.before c.index-records-before.result (g.R.Replica.kept c.loop-before.replica) (g.R.Replica.after c.prepare.new.self c.in-Ok.staged) (g.R.Replica.kept c.commit.new.self) c.loop-before-test.true c.index-records-before.is c.loop-before.invariant c.in-Ok.ensures.taken c.commit.ensures.kept
 
 pub returns-in-Err-clause-err : goal.returns-in-Err-clause-err
 returns-in-Err-clause-err g c = record {

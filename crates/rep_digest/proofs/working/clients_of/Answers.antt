@@ -22,6 +22,6 @@ returns g c =
     let held = c.in-Ok-held.held.items in
     let values = subst AreValues (ap all_of c.as_slice.ensures.value) c.are_values.ensures in
     let grouped : c.as_slice-5.result.now ≡ groups cs (all_of held) =
-    c.as_slice-5.ensures.value ∙ c.in_ok-groups.ensures ∙ (λ i. groups ((c.as_slice-2.ensures.value ∙ sym c.as_slice-4.ensures.value) i) (all_of (c.as_slice-3.ensures.value i))) in
-    IfOk-weaker c.entries_of.result _ _
-    (λ entries e. worked K held cs entries.items c.in-Ok-held.ensures.ok values (c.as_slice-4.ensures.value ∙ c.in-Ok.ensures.ok) e) (c.entries_of.ensures (all_of held) grouped)
+    c.as_slice-5.ensures.value ∙ c.in-Ok-acknowledgements.ensures ∙ (λ i. groups ((c.as_slice-2.ensures.value ∙ sym c.as_slice-4.ensures.value) i) (all_of (c.as_slice-3.ensures.value i))) in
+    IfOk-weaker c.entries_of-entries.result _ _
+    (λ entries e. worked K held cs entries.items c.in-Ok-held.ensures.ok values (c.as_slice-4.ensures.value ∙ c.in-Ok.ensures.ok) e) (c.entries_of-entries.ensures (all_of held) grouped)

@@ -1,8 +1,9 @@
-use Rattle.std.proofs.Common.{sym, ap, ◌∙◌}
+use Rattle.std.proofs.Common.{sym, ap, subst, ◌∙◌}
 use Rattle.std.specs.BTreeMap.{is_at, insert_entry}
 use Rattle.std.specs.Map.{lookup}
 use Rattle.rep_op.specs.Orders.{client_cmp}
-use Rattle.rep_plain.proofs.Moves.{roomier_place, place_there, entry_empty, some_there}
+use Rattle.rep_plain.specs.inner.Tables.{IsRoomier}
+use Rattle.rep_plain.proofs.Moves.{roomier_itself, roomier_place, place_there, entry_empty, some_there}
 use Rattle.rep_shared.proofs.Found.{none_there}
 use Rattle.rep_plain.proofs.room.add_place.Goals as goal
 
@@ -24,3 +25,12 @@ returns-in_ok-insert-clause-there c =
 
 pub returns-else-not-contains_key-clause-there : goal.returns-else-not-contains_key-clause-there
 returns-else-not-contains_key-clause-there c = some_there c.args.client.now c.args.table.now.entries (sym c.contains_key.ensures ∙ c.if-not-contains_key.false)
+
+pub returns-in_err-copied-clause-roomier : goal.returns-in_err-copied-clause-roomier
+returns-in_err-copied-clause-roomier c = roomier_itself c.args.table.now.entries
+
+pub returns-in_err-insert-clause-roomier : goal.returns-in_err-insert-clause-roomier
+returns-in_err-insert-clause-roomier c = subst (IsRoomier c.args.table.now.entries) (sym c.in_err-insert.ensures.err) (roomier_itself c.args.table.now.entries)
+
+pub returns-else-not-contains_key-clause-roomier : goal.returns-else-not-contains_key-clause-roomier
+returns-else-not-contains_key-clause-roomier c = roomier_itself c.args.table.now.entries

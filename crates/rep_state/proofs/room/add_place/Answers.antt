@@ -1,14 +1,15 @@
-use Rattle.std.proofs.Common.{◌≡◌, ℕ, true, is_some, sym, ap, subst, ◌∙◌, Vec, Global}
+use Rattle.std.proofs.Common.{◌≡◌, ℕ, List, true, is_some, sym, ap, subst, ◌∙◌, Vec, Global}
 use Rattle.sn_tables.specs.Tables.{is_ascending, with_entry}
 use Rattle.std.specs.Map.{lookup}
 use Rattle.std.specs.FinMap.{find, put}
 use Rattle.std.specs.Prelude.{bytes_eq}
 use Rattle.rep_op.specs.Orders.{client_cmp}
 use Rattle.rep_state.specs.Tables.{by_client}
-use Rattle.rep_state.specs.inner.Tables.{place_cmp}
+use Rattle.rep_state.specs.inner.Tables.{place_cmp, IsRoomier}
+use Rattle.rep_entry.specs.declared.entry.Entry.{Entry}
 use Rattle.rep_state.specs.declared.places.Place.{Place}
 use Rattle.rep_state.proofs.Rows.{put_by_client, found_by_client}
-use Rattle.rep_state.proofs.Placing.{roomier_place, place_there, empty_kept, some_there, none_there}
+use Rattle.rep_state.proofs.Placing.{roomier_itself, roomier_place, place_there, empty_kept, some_there, none_there}
 use Rattle.rep_state.proofs.Indexed.{places_pass, places_with}
 use Rattle.rep_state.proofs.Asking.{marked_with}
 use Rattle.rep_state.proofs.room.add_place.Goals as goal
@@ -69,3 +70,20 @@ returns-clause-there c =
     let e = c.empty.result in
     let is : by_client new ≡ put client_cmp client e (by_client old) = put_by_client c.in_ok-key.key e old new c.in_ok-insert.ensures.entries ∙ ap (λ k. put client_cmp k e (by_client old)) c.in_ok-key.ensures in
     place_there (by_client old) (by_client new) client e is
+
+pub returns-then-contains_key-clause-roomier : goal.returns-then-contains_key-clause-roomier
+returns-then-contains_key-clause-roomier c = roomier_itself (by_client c.args.table.now.entries)
+
+pub returns-in_err-reserve-clause-roomier : goal.returns-in_err-reserve-clause-roomier
+returns-in_err-reserve-clause-roomier c = roomier_itself (by_client c.args.table.now.entries)
+
+pub returns-in_err-name-clause-roomier : goal.returns-in_err-name-clause-roomier
+returns-in_err-name-clause-roomier c = roomier_itself (by_client c.args.table.now.entries)
+
+pub returns-in_err-key-clause-roomier : goal.returns-in_err-key-clause-roomier
+returns-in_err-key-clause-roomier c = roomier_itself (by_client c.args.table.now.entries)
+
+pub returns-in_err-insert-clause-roomier : goal.returns-in_err-insert-clause-roomier
+returns-in_err-insert-clause-roomier c =
+    let old = c.args.table.now.entries in
+    subst (λ (es : List (Vec ℕ Global × Entry)). IsRoomier (by_client old) (by_client es)) (sym c.in_err-insert.ensures.err) (roomier_itself (by_client old))

@@ -5,7 +5,7 @@ use Rattle.rep_op.specs.Orders.{client_cmp}
 use Rattle.rep_state.specs.Tables.{by_client, rows_of}
 use Rattle.rep_entry.specs.Staging.{staged_of}
 use Rattle.rep_state.specs.inner.Staging.{HaveRoom}
-use Rattle.rep_state.proofs.Placing.{roomier_then}
+use Rattle.rep_state.proofs.Placing.{roomier_itself, roomier_then}
 use Rattle.rep_state.proofs.Staging.{staged_last, room_more}
 use Rattle.rep_state.proofs.room.make_room.Goals as goal
 
@@ -36,3 +36,6 @@ returns-clause-places c = c.loop-row.invariant.2
 
 pub returns-clause-marks : goal.returns-clause-marks
 returns-clause-marks c = c.loop-row.invariant.3
+
+pub loop-row-init : goal.loop-row-init
+loop-row-init c = (roomier_itself (by_client c.args.table.now.entries), tt, c.requires.places, c.requires.marks)

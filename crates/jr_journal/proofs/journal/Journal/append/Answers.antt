@@ -62,12 +62,12 @@ returns-clause-known g c = λ honest fed.
 pub returns-then-is_err-clause-struck : goal.returns-then-is_err-clause-struck
 returns-then-is_err-clause-struck g c = λ told.
     let s = c.args.self.now in
-    struck_short c.append.result g.D.Disk.honest s.slot (g.D.Disk.slots s.disk) (g.D.Disk.slots c.append.new.self) c.args.delta.now c.deref.result.now c.if-is_err.ensures.value
+    struck_short c.append.result g.D.Disk.honest s.slot (g.D.Disk.slots s.disk) (g.D.Disk.slots c.append.new.self) (written c.args.delta.now) c.deref.result.now c.if-is_err.ensures.value
     (c.deref.ensures.value ∙ c.in_ok-bytes.ensures.ok) c.append.ensures.err
 
 pub returns-then-is_err-2-clause-struck : goal.returns-then-is_err-2-clause-struck
 returns-then-is_err-2-clause-struck g c = λ told.
     let s = c.args.self.now in
-    struck_kept g.D.Disk.honest s.slot (g.D.Disk.slots s.disk) (g.D.Disk.slots c.append.new.self) (g.D.Disk.slots c.sync.new.self) c.args.delta.now c.deref.result.now
+    struck_kept g.D.Disk.honest s.slot (g.D.Disk.slots s.disk) (g.D.Disk.slots c.append.new.self) (g.D.Disk.slots c.sync.new.self) (written c.args.delta.now) c.deref.result.now
     (c.deref.ensures.value ∙ c.in_ok-bytes.ensures.ok)
     (λ honest. on_ok c.append.result c.if-is_err.ensures.value (c.append.ensures.ok honest)) (λ honest. on_err c.sync.result c.if-is_err-2.ensures.value (c.sync.ensures.err honest))

@@ -1,9 +1,10 @@
-use Rattle.std.proofs.Common.{◌≡◌, ◌+◌, ◌++◌, true, not, Some, sym, ap, subst, ◌∙◌}
+use Rattle.std.proofs.Common.{◌≡◌, ℕ, ◌+◌, List, ◌++◌, true, not, Some, refl, sym, ap, subst, ◌∙◌}
+use Rattle.rep_op.specs.declared.op.Op.{Op}
 use Rattle.rep_op.specs.Orders.{is_of_client, AreOfClients}
 use Rattle.rep_model.specs.Taking.{AllAgree, Fits}
 use Rattle.rep_model.specs.Limits.{first_passed}
 use Rattle.rep_model.specs.Keep.{IsKeptOf}
-use Rattle.rep_shared.specs.Rows.{flat, moved}
+use Rattle.rep_shared.specs.Rows.{flat, moved, CanGoBack}
 use Rattle.rep_shared.specs.inner.Rows.{count_new}
 use Rattle.rep_plain.specs.inner.Rows.{IsGrown}
 use Rattle.rep_plain.specs.Tables.{rows_of, HaveRoom}
@@ -137,3 +138,29 @@ returns-clause-clients c =
     let r = c.in_ok-make_room.ensures.roomier in
     let after = moved (rows_of room) (rows_of fs) in
     rows_of_clients after (rows_moved (rows_of room) (rows_of fs) (table_rows room n (r.table n t)) fresh.owned).owned
+
+-- nothing is changed yet
+pub returns-in_err-news-clause-aside : goal.returns-in_err-news-clause-aside
+returns-in_err-news-clause-aside c = rw (← c.self.view_is) (λ aside can. (can, refl))
+
+pub returns-in_err-groups-clause-aside : goal.returns-in_err-groups-clause-aside
+returns-in_err-groups-clause-aside c = rw (← c.self.view_is) (λ aside can. (can, refl))
+
+pub returns-in_err-fresh-clause-aside : goal.returns-in_err-fresh-clause-aside
+returns-in_err-fresh-clause-aside c = rw (← c.self.view_is) (λ aside can. (can, refl))
+
+pub returns-in-Some-clause-aside : goal.returns-in-Some-clause-aside
+returns-in-Some-clause-aside c = rw (← c.self.view_is) (λ aside can. (can, refl))
+
+-- there are more places
+pub returns-in_err-make_room-clause-aside : goal.returns-in_err-make_room-clause-aside
+returns-in_err-make_room-clause-aside c =
+    let room = rows_of c.make_room.new.table.entries in
+    λ aside can. subst (λ (rows : List (List ℕ × List Op)). CanGoBack rows aside → CanGoBack room aside × (flat (moved room aside) ≡ flat (moved rows aside))) c.self.view_is
+    (c.in_err-make_room.ensures.roomier.back c.self.inside.named c.self.invariant aside) can
+
+pub returns-clause-aside : goal.returns-clause-aside
+returns-clause-aside c =
+    let room = rows_of c.make_room.new.table.entries in
+    λ aside can. subst (λ (rows : List (List ℕ × List Op)). CanGoBack rows aside → CanGoBack room aside × (flat (moved room aside) ≡ flat (moved rows aside))) c.self.view_is
+    (c.in_ok-make_room.ensures.roomier.back c.self.inside.named c.self.invariant aside) can

@@ -1,4 +1,4 @@
-use Rattle.std.proofs.Common.{◌++◌, sym, subst}
+use Rattle.std.proofs.Common.{◌++◌, List, refl, sym, ap, subst}
 use Rattle.std.proofs.lemmas.Result.{err_from_is_err_and}
 use Rattle.rep_ops.specs.Making.{AreWellMade}
 use Rattle.rep_model.specs.Keep.{IsKeptOf}
@@ -8,6 +8,8 @@ use Rattle.rep_retain.proofs.Refusing.{made_parts, refused_by_topics, refused_by
 use Rattle.rep_retain.specs.Tables.{ops_of}
 use Rattle.rep_retain.specs.Staging.{moved}
 use Rattle.rep_retain.proofs.Found.{are_of_topics}
+use Rattle.rep_op.specs.declared.op.Op.{Op}
+use Rattle.rep_retain.specs.Asides.{topics_back}
 use Rattle.rep_retain.proofs.whole.WholeReplica.prepare.Goals as goal
 
 pub prepare-requires-clause-made : goal.prepare-requires-clause-made
@@ -72,3 +74,24 @@ returns-in-Ok-clause-taken g c =
 
 pub returns-in-Ok-clause-ready : goal.returns-in-Ok-clause-ready
 returns-in-Ok-clause-ready g c = (c.in_ok-clients.ensures.ready, c.in_ok-clients.ensures.clients, c.in-Ok.ensures.ready)
+
+pub returns-in_err-check-clause-aside : goal.returns-in_err-check-clause-aside
+returns-in_err-check-clause-aside g c = λ aside h. (h, refl)
+
+pub returns-in_err-clients-clause-aside : goal.returns-in_err-clients-clause-aside
+returns-in_err-clients-clause-aside g c = λ aside h.
+    let w = c.args.self.now in
+    let b = c.in_err-clients.ensures.aside aside.clients h in
+    (b.0, ap (λ (S : List Op). S ++ ops_of (topics_back aside.has_topics aside.topics w.topics)) b.1)
+
+pub returns-in-Err-clause-aside : goal.returns-in-Err-clause-aside
+returns-in-Err-clause-aside g c = λ aside h.
+    let w = c.args.self.now in
+    let b = c.in_ok-clients.ensures.aside aside.clients h in
+    (b.0, ap (λ (S : List Op). S ++ ops_of (topics_back aside.has_topics aside.topics w.topics)) b.1)
+
+pub returns-in-Ok-clause-aside : goal.returns-in-Ok-clause-aside
+returns-in-Ok-clause-aside g c = λ aside h.
+    let w = c.args.self.now in
+    let b = c.in_ok-clients.ensures.aside aside.clients h in
+    (b.0, ap (λ (S : List Op). S ++ ops_of (topics_back aside.has_topics aside.topics w.topics)) b.1)

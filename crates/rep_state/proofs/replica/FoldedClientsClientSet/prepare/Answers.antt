@@ -1,9 +1,10 @@
-use Rattle.std.proofs.Common.{◌≡◌, ◌+◌, ◌++◌, not, Some, sym, ap, subst, ◌∙◌}
+use Rattle.std.proofs.Common.{◌≡◌, ℕ, ◌+◌, List, ◌++◌, not, Some, refl, sym, ap, subst, ◌∙◌}
+use Rattle.rep_op.specs.declared.op.Op.{Op}
 use Rattle.rep_op.specs.Orders.{AreOfClients}
 use Rattle.rep_model.specs.Taking.{AllAgree, Fits}
 use Rattle.rep_model.specs.Limits.{first_passed}
 use Rattle.rep_model.specs.Keep.{IsKeptOf}
-use Rattle.rep_shared.specs.Rows.{flat, own, has_any, moved, count_named}
+use Rattle.rep_shared.specs.Rows.{flat, own, has_any, moved, count_named, CanGoBack}
 use Rattle.rep_shared.specs.inner.Rows.{count_new}
 use Rattle.rep_state.specs.Tables.{by_client, rows_of}
 use Rattle.rep_state.specs.inner.Tables.{passed_by}
@@ -180,3 +181,29 @@ returns-clause-clients c =
     let is-planned = planned_future (rows_of room) es (own_room es n t D fs fresh rows room r) gs in
     let after = moved (rows_of room) (rows_of fs) in
     subst (λ rs. AreOfClients (flat (moved (rows_of room) rs))) (sym is-planned) (rows_of_clients after (rows_moved (rows_of room) (rows_of fs) (table_rows room n (r.table n t)) fresh.owned).owned)
+
+-- nothing is changed yet
+pub returns-in_err-check-clause-aside : goal.returns-in_err-check-clause-aside
+returns-in_err-check-clause-aside c = rw (← c.self.view_is) (λ aside can. (can, refl))
+
+pub returns-in_err-groups-clause-aside : goal.returns-in_err-groups-clause-aside
+returns-in_err-groups-clause-aside c = rw (← c.self.view_is) (λ aside can. (can, refl))
+
+pub returns-in_err-changes-clause-aside : goal.returns-in_err-changes-clause-aside
+returns-in_err-changes-clause-aside c = rw (← c.self.view_is) (λ aside can. (can, refl))
+
+pub returns-in-Some-clause-aside : goal.returns-in-Some-clause-aside
+returns-in-Some-clause-aside c = rw (← c.self.view_is) (λ aside can. (can, refl))
+
+-- there are more places
+pub returns-in_err-make_room-clause-aside : goal.returns-in_err-make_room-clause-aside
+returns-in_err-make_room-clause-aside c =
+    let room = rows_of (by_client c.make_room.new.table.entries) in
+    λ aside can. subst (λ (rows : List (List ℕ × List Op)). CanGoBack rows aside → CanGoBack room aside × (flat (moved room aside) ≡ flat (moved rows aside))) c.self.view_is
+    (c.in_err-make_room.ensures.roomier.back c.self.inside.named c.self.invariant.0 aside) can
+
+pub returns-clause-aside : goal.returns-clause-aside
+returns-clause-aside c =
+    let room = rows_of (by_client c.make_room.new.table.entries) in
+    λ aside can. subst (λ (rows : List (List ℕ × List Op)). CanGoBack rows aside → CanGoBack room aside × (flat (moved room aside) ≡ flat (moved rows aside))) c.self.view_is
+    (c.in_ok-make_room.ensures.roomier.back c.self.inside.named c.self.invariant.0 aside) can
