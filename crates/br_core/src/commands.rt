@@ -122,8 +122,8 @@ fn queued(
 }
 
 /// The broker is told that a publication was taken, if it wants to be (MQTT 3.1.1 section 3.4).
-fn told(id: u16, bridge: &mut Bridge) -> Result<(), NoMemory>
-    ensures { OnOk result (bridge.new ≡ spec.told id bridge.old) }
+fn broker_told(id: u16, bridge: &mut Bridge) -> Result<(), NoMemory>
+    ensures { OnOk result (bridge.new ≡ spec.broker_told id bridge.old) }
 {
     if id == 0 {
         return Ok(());
@@ -134,7 +134,7 @@ fn told(id: u16, bridge: &mut Bridge) -> Result<(), NoMemory>
 
 /// A publication of the broker waits for its turn. A message that the broker kept is acknowledged
 /// at once, unless the filter hands such messages on.
-fn asked(
+fn command_asked(
     alloc: Global,
     entry: Option<&DownFilter>,
     id: u16,
@@ -143,14 +143,14 @@ fn asked(
     body: &Octets,
     bridge: &mut Bridge,
 ) -> Result<(), NoMemory>
-    ensures { OnOk result (bridge.new ≡ spec.asked (option_copied entry.entry) id retain topic.now
+    ensures { OnOk result (bridge.new ≡ spec.command_asked (option_copied entry.entry) id retain topic.now
         body.now bridge.old) }
 {
     let Some(entry) = entry else {
         return queued(alloc, id, topic, &[], body, bridge);
     };
     if retain && !entry.retained {
-        return told(id, bridge);
+        return broker_told(id, bridge);
     }
     let rest = stripped(entry.strip.as_slice(), topic.as_slice());
     queued(alloc, id, topic, rest, body, bridge)
@@ -175,8 +175,8 @@ fn is_queued(id: u16, queue: &[Command]) -> bool
 }
 
 /// Whether there is no room for a command, or there was none for one before it.
-fn is_full(down: &Down) -> bool
-    ensures { result ≡ spec.is_full down.now }
+fn is_queue_full(down: &Down) -> bool
+    ensures { result ≡ spec.is_queue_full down.now }
 {
     down.is_behind || MAX_COMMANDS <= down.queue.len()
 }
@@ -208,12 +208,12 @@ pub(crate) fn commanded(
     if is_queued(id, bridge.down.queue.as_slice()) {
         return Ok(());
     }
-    if is_full(&bridge.down) {
+    if is_queue_full(&bridge.down) {
         passes_over(id, bridge);
         return Ok(());
     }
     let entry = filter_for(topic.as_slice(), downs);
-    asked(alloc, entry, id, retain, topic, body, bridge)
+    command_asked(alloc, entry, id, retain, topic, body, bridge)
 }
 
 /// The topic id of a topic.
@@ -229,8 +229,8 @@ fn id_of(topic: &[u8], ids: &[NamedTopic]) -> Option<u16>
 }
 
 /// A name of two octets is its own id (MQTT-SN 1.2 section 5.3.11).
-fn short_name(topic: &[u8]) -> Option<u16>
-    ensures { result ≡ spec.short_name topic.now }
+fn short_name_id(topic: &[u8]) -> Option<u16>
+    ensures { result ≡ spec.short_name_id topic.now }
 {
     match topic {
         [high, low] => Some(u16::from(*high) * 256 + u16::from(*low)),
@@ -284,8 +284,8 @@ fn publishing(
 
 /// REGISTER of a command's name (MQTT-SN 1.2 section 6.5); a session that has no id left begins
 /// anew.
-fn registering(m: Moment, command: Command, bridge: &mut Bridge) -> Result<(), NoMemory>
-    ensures { OnOk result (bridge.new ≡ spec.registering m command bridge.old.down bridge.old) }
+fn command_registering(m: Moment, command: Command, bridge: &mut Bridge) -> Result<(), NoMemory>
+    ensures { OnOk result (bridge.new ≡ spec.command_registering m command bridge.old.down bridge.old) }
 {
     if MAX_NAMES <= bridge.down.ids.len() {
         drop(command);
@@ -316,15 +316,15 @@ fn away(m: Moment, bridge: &mut Bridge)
 
 /// A command goes out under its id, or its name is registered first.
 fn sent(dup: bool, m: Moment, command: Command, bridge: &mut Bridge) -> Result<(), NoMemory>
-    ensures { OnOk result (bridge.new ≡ spec.sent_as (spec.short_name command.topic) dup m command
+    ensures { OnOk result (bridge.new ≡ spec.sent_as (spec.short_name_id command.topic) dup m command
         bridge.old.down bridge.old) }
 {
-    if let Some(id) = short_name(command.topic.as_slice()) {
+    if let Some(id) = short_name_id(command.topic.as_slice()) {
         return publishing(dup, true, id, m, command, bridge);
     }
     match id_of(command.topic.as_slice(), bridge.down.ids.as_slice()) {
         Some(id) => publishing(dup, false, id, m, command, bridge),
-        None => registering(m, command, bridge),
+        None => command_registering(m, command, bridge),
     }
 }
 
@@ -370,7 +370,7 @@ fn begun_by(dup: bool, m: Moment, command: Command, bridge: &mut Bridge) -> Resu
 
 /// A copy of the first command.
 fn first(alloc: Global, bridge: &Bridge) -> Result<Option<Command>, NoMemory>
-    ensures { IfOk result (λ found. found ≡ inner.first_of bridge.now.down.queue) }
+    ensures { IfOk result (λ found. found ≡ inner.first_command bridge.now.down.queue) }
 {
     match bridge.down.queue.as_slice() {
         [] => Ok(None),
@@ -379,8 +379,8 @@ fn first(alloc: Global, bridge: &Bridge) -> Result<Option<Command>, NoMemory>
 }
 
 /// The first command is begun.
-fn begun(alloc: Global, dup: bool, m: Moment, bridge: &mut Bridge) -> Result<(), NoMemory>
-    ensures { OnOk result (bridge.new ≡ spec.begun bridge.old.down.queue dup m bridge.old.down
+fn command_begun(alloc: Global, dup: bool, m: Moment, bridge: &mut Bridge) -> Result<(), NoMemory>
+    ensures { OnOk result (bridge.new ≡ spec.command_begun bridge.old.down.queue dup m bridge.old.down
         bridge.old) }
 {
     match first(alloc, bridge)? {
@@ -390,19 +390,19 @@ fn begun(alloc: Global, dup: bool, m: Moment, bridge: &mut Bridge) -> Result<(),
 }
 
 /// The first command is begun, if none is.
-pub(crate) fn begins(alloc: Global, m: Moment, bridge: &mut Bridge) -> Result<(), NoMemory>
-    ensures { OnOk result (bridge.new ≡ spec.begins m bridge.old) }
+pub(crate) fn command_begins(alloc: Global, m: Moment, bridge: &mut Bridge) -> Result<(), NoMemory>
+    ensures { OnOk result (bridge.new ≡ spec.command_begins m bridge.old) }
 {
     let doing = bridge.down.doing;
     match doing {
-        Doing::Nothing => begun(alloc, false, m, bridge),
+        Doing::Nothing => command_begun(alloc, false, m, bridge),
         Doing::Registering | Doing::Publishing | Doing::Refusing { .. } => Ok(()),
     }
 }
 
 /// Takes the first command out of the queue.
 fn taken_first(alloc: Global, bridge: &mut Bridge) -> Option<Command>
-    ensures first { result ≡ inner.first_of bridge.old.down.queue }
+    ensures first { result ≡ inner.first_command bridge.old.down.queue }
     ensures rest { bridge.new ≡ inner.without_first bridge.old }
 {
     let mut queue = mem::replace(&mut bridge.down.queue, Sequence::empty(alloc)).into_vec();
@@ -426,17 +426,17 @@ fn done_with(alloc: Global, bridge: &mut Bridge) -> Result<(), NoMemory>
         Some(command) => {
             let id = command.id;
             drop(command);
-            told(id, bridge)
+            broker_told(id, bridge)
         }
     }
 }
 
 /// The first command is done: the broker is told, and the next one is begun.
-fn done(alloc: Global, m: Moment, bridge: &mut Bridge) -> Result<(), NoMemory>
-    ensures { OnOk result (bridge.new ≡ spec.done m bridge.old) }
+fn command_done(alloc: Global, m: Moment, bridge: &mut Bridge) -> Result<(), NoMemory>
+    ensures { OnOk result (bridge.new ≡ spec.command_done m bridge.old) }
 {
     done_with(alloc, bridge)?;
-    begins(alloc, m, bridge)
+    command_begins(alloc, m, bridge)
 }
 
 /// Congestion: it is sent again later.
@@ -459,7 +459,7 @@ fn answered_first(alloc: Global, code: u8, m: Moment, bridge: &mut Bridge) -> Re
     match code {
         0 => {
             drop(command);
-            done(alloc, m, bridge)
+            command_done(alloc, m, bridge)
         }
         1 => {
             drop(command);
@@ -476,8 +476,8 @@ fn answered_first(alloc: Global, code: u8, m: Moment, bridge: &mut Bridge) -> Re
 }
 
 /// The topic id of the first command's name is known.
-fn named(alloc: Global, id: u16, command: &Command, bridge: &mut Bridge) -> Result<(), NoMemory>
-    ensures { OnOk result (bridge.new ≡ spec.named id command.now bridge.old) }
+fn command_named(alloc: Global, id: u16, command: &Command, bridge: &mut Bridge) -> Result<(), NoMemory>
+    ensures { OnOk result (bridge.new ≡ spec.command_named id command.now bridge.old) }
 {
     let topic = command.topic.copied(alloc)?;
     bridge.down.ids.push(NamedTopic { id, topic })?;
@@ -501,7 +501,7 @@ fn named_first(
     };
     match code {
         0 => {
-            if let Err(fault) = named(alloc, topic_id, &command, bridge) {
+            if let Err(fault) = command_named(alloc, topic_id, &command, bridge) {
                 drop(command);
                 return Err(fault);
             }
@@ -517,8 +517,8 @@ fn named_first(
 }
 
 /// What comes while nothing is awaited shows that the gateway is there.
-fn heard(m: Moment, bridge: &mut Bridge)
-    ensures { bridge.new ≡ spec.heard m bridge.old }
+fn command_lane_heard(m: Moment, bridge: &mut Bridge)
+    ensures { bridge.new ≡ spec.command_lane_heard m bridge.old }
 {
     let doing = bridge.down.doing;
     match doing {
@@ -553,7 +553,7 @@ fn acked(
             }
         }
         Doing::Nothing | Doing::Registering | Doing::Refusing { .. } => {
-            heard(m, bridge);
+            command_lane_heard(m, bridge);
             Ok(())
         }
     }
@@ -581,7 +581,7 @@ fn registered(
             }
         }
         Doing::Nothing | Doing::Publishing | Doing::Refusing { .. } => {
-            heard(m, bridge);
+            command_lane_heard(m, bridge);
             Ok(())
         }
     }
@@ -608,7 +608,7 @@ fn listening_frame(
             Ok(())
         }
         _ => {
-            heard(m, bridge);
+            command_lane_heard(m, bridge);
             Ok(())
         }
     }
@@ -639,7 +639,7 @@ fn connected(alloc: Global, m: Moment, frame: &Frame, bridge: &mut Bridge) -> Re
     bridge.down.tries = 0;
     bridge.down.due = m.ping;
     bridge.down.doing = unfinished(bridge.down.doing);
-    begins(alloc, m, bridge)
+    command_begins(alloc, m, bridge)
 }
 
 /// A frame of the gateway of the lane for commands.
@@ -665,8 +665,8 @@ fn again_at(alloc: Global, m: Moment, bridge: &mut Bridge) -> Result<(), NoMemor
 {
     let doing = bridge.down.doing;
     match doing {
-        Doing::Publishing => begun(alloc, true, m, bridge),
-        Doing::Registering => begun(alloc, false, m, bridge),
+        Doing::Publishing => command_begun(alloc, true, m, bridge),
+        Doing::Registering => command_begun(alloc, false, m, bridge),
         Doing::Nothing | Doing::Refusing { .. } => {
             let client = Octets::from_slice(alloc, &[])?;
             bridge.down.tries = once_more(bridge.down.tries);
@@ -677,8 +677,8 @@ fn again_at(alloc: Global, m: Moment, bridge: &mut Bridge) -> Result<(), NoMemor
 }
 
 /// What is due is sent again.
-fn again(alloc: Global, client: &Octets, m: Moment, bridge: &mut Bridge) -> Result<(), NoMemory>
-    ensures { OnOk result (bridge.new ≡ spec.again bridge.old.down.phase client.now m bridge.old) }
+fn command_again(alloc: Global, client: &Octets, m: Moment, bridge: &mut Bridge) -> Result<(), NoMemory>
+    ensures { OnOk result (bridge.new ≡ spec.command_again bridge.old.down.phase client.now m bridge.old) }
 {
     let phase = bridge.down.phase;
     match phase {
@@ -705,7 +705,7 @@ pub(crate) fn down_tick(
         away(m, bridge);
         return does(bridge, Action::NextCommands);
     }
-    again(alloc, client, m, bridge)
+    command_again(alloc, client, m, bridge)
 }
 
 /// A line is on the disk: it counts if it is that of the first command.
@@ -716,7 +716,7 @@ pub(crate) fn kept(alloc: Global, line: u64, m: Moment, bridge: &mut Bridge) -> 
     match doing {
         Doing::Refusing { line: own } => {
             if own == line {
-                done(alloc, m, bridge)
+                command_done(alloc, m, bridge)
             } else {
                 Ok(())
             }

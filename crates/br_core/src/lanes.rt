@@ -10,7 +10,7 @@ ghost use Rattle.br_core.specs.inner.Parts as inner;
 use crate::action::Action;
 use crate::item::Item;
 use crate::settings::{LaneSettings, Settings, UpName};
-use crate::sides::{does, is_up, next_id, once_more, takes};
+use crate::sides::{does, is_broker_up, next_id, once_more, takes};
 use crate::state::{
     Bridge, KEEP_ALIVE, LAST_NUMBER, Lane, MAX_BODY, MAX_IDS, Moment, Named, Open, Phase, SLEEP,
     TRIES,
@@ -134,8 +134,8 @@ fn name_at(id: u16, ids: &[Named]) -> Option<usize>
 }
 
 /// Where a name is among those of the lane.
-fn place_of(name: &[u8], names: &[UpName]) -> Option<usize>
-    ensures { result ≡ spec.place_of name.now names.now }
+fn name_place(name: &[u8], names: &[UpName]) -> Option<usize>
+    ensures { result ≡ spec.name_place name.now names.now }
 {
     for at in 0..names.len() {
         if names[at].name.as_slice() == name {
@@ -146,12 +146,12 @@ fn place_of(name: &[u8], names: &[UpName]) -> Option<usize>
 }
 
 /// Which of the names a topic field of PUBLISH means (section 5.3.11).
-fn name_of(kind: TopicIdType, topic: u16, names: &[UpName], ids: &[Named]) -> Option<usize>
-    ensures { result ≡ spec.name_of kind topic names.now ids.now }
+fn name_meant(kind: TopicIdType, topic: u16, names: &[UpName], ids: &[Named]) -> Option<usize>
+    ensures { result ≡ spec.name_meant kind topic names.now ids.now }
 {
     match kind {
         TopicIdType::Normal => name_at(topic, ids),
-        TopicIdType::Short => place_of(&[(topic / 256) as u8, (topic % 256) as u8], names),
+        TopicIdType::Short => name_place(&[(topic / 256) as u8, (topic % 256) as u8], names),
         TopicIdType::Predefined | TopicIdType::Reserved => None,
     }
 }
@@ -178,21 +178,21 @@ fn item_of(
 }
 
 /// Whether the spool can keep these octets, if there is one. No gateway has more.
-fn fits(settings: &Settings, body: &Octets) -> bool
-    ensures { result ≡ spec.fits settings.now body.now }
+fn body_fits(settings: &Settings, body: &Octets) -> bool
+    ensures { result ≡ spec.body_fits settings.now body.now }
 {
     !settings.spools || body.len() <= MAX_BODY
 }
 
 /// Whether one more reading is taken, which has these octets.
-fn has_room(settings: &Settings, body: &Octets, bridge: &Bridge) -> bool
-    ensures { result ≡ spec.has_room settings.now body.now bridge.now }
+fn reading_has_room(settings: &Settings, body: &Octets, bridge: &Bridge) -> bool
+    ensures { result ≡ spec.reading_has_room settings.now body.now bridge.now }
 {
-    fits(settings, body) && bridge.waiting.len() < settings.room && bridge.number < LAST_NUMBER
+    body_fits(settings, body) && bridge.waiting.len() < settings.room && bridge.number < LAST_NUMBER
 }
 
 /// A reading of this quality of service gets the next number.
-fn counted(
+fn reading_counted(
     alloc: Global,
     settings: &Settings,
     place: usize,
@@ -202,7 +202,7 @@ fn counted(
     bridge: &mut Bridge,
 ) -> Result<(), NoMemory>
     requires { bridge.old.number < LAST_NUMBER }
-    ensures { OnOk result (bridge.new ≡ spec.counted settings.now place qos up.now body.now
+    ensures { OnOk result (bridge.new ≡ spec.reading_counted settings.now place qos up.now body.now
         bridge.old) }
 {
     let item = item_of(alloc, bridge.number, place, qos, up, body)?;
@@ -277,7 +277,7 @@ fn brings(
     ensures { OnOk result (bridge.new ≡ spec.brings settings.now place name up.now topic_id msg_id
         body.now lane bridge.old) }
 {
-    if !has_room(settings, body, bridge) {
+    if !reading_has_room(settings, body, bridge) {
         return falls_asleep(place, lane, bridge);
     }
     let number = bridge.number;
@@ -290,7 +290,7 @@ fn brings(
     };
     drop(mem::replace(&mut lane.last, Some(held)));
     seated(place, lane, bridge);
-    counted(alloc, settings, place, Qos::One, up, body, bridge)?;
+    reading_counted(alloc, settings, place, Qos::One, up, body, bridge)?;
     stored(alloc, settings, number, place, Qos::One, up, body, bridge)
 }
 
@@ -378,10 +378,10 @@ fn brings_if(
 
 /// Whether a reading of quality of service 0 goes on: the broker is there, and there is room. Else
 /// it takes no number, which the spool would have to count.
-fn goes_on(settings: &Settings, body: &Octets, bridge: &Bridge) -> bool
-    ensures { result ≡ spec.goes_on settings.now body.now bridge.now }
+fn reading_goes_on(settings: &Settings, body: &Octets, bridge: &Bridge) -> bool
+    ensures { result ≡ spec.reading_goes_on settings.now body.now bridge.now }
 {
-    is_up(bridge.side) && has_room(settings, body, bridge)
+    is_broker_up(bridge.side) && reading_has_room(settings, body, bridge)
 }
 
 /// A reading of quality of service 0 goes on, if it may.
@@ -398,10 +398,10 @@ fn passes(
     ensures { OnOk result (bridge.new ≡ spec.passes settings.now place up.now body.now lane
         bridge.old) }
 {
-    let passes_now = goes_on(settings, body, bridge);
+    let passes_now = reading_goes_on(settings, body, bridge);
     seated(place, lane, bridge);
     if passes_now {
-        counted(alloc, settings, place, Qos::Zero, up, body, bridge)
+        reading_counted(alloc, settings, place, Qos::Zero, up, body, bridge)
     } else {
         Ok(())
     }
@@ -419,8 +419,8 @@ fn refusal_at(phase: Phase) -> u8
 }
 
 /// The code that refuses a topic: after code 2 the gateway registers an id again.
-fn refusal(kind: TopicIdType, phase: Phase) -> u8
-    ensures { result ≡ spec.refusal kind phase }
+fn refusal_code(kind: TopicIdType, phase: Phase) -> u8
+    ensures { result ≡ spec.refusal_code kind phase }
 {
     match kind {
         TopicIdType::Normal => 2,
@@ -444,7 +444,7 @@ fn unknown(
 {
     match qos {
         FieldQos::One => {
-            let code = refusal(kind, lane.phase);
+            let code = refusal_code(kind, lane.phase);
             let frame = Frame::PubAck {
                 topic_id,
                 msg_id,
@@ -490,7 +490,7 @@ fn published(
 }
 
 /// PUBLISH (section 6.6).
-fn publication(
+fn lane_publication(
     alloc: Global,
     settings: &Settings,
     own: &LaneSettings,
@@ -503,11 +503,11 @@ fn publication(
     bridge: &mut Bridge,
 ) -> Result<(), NoMemory>
     requires { place < length bridge.old.lanes }
-    ensures { OnOk result (bridge.new ≡ spec.publication settings.now own.now place flags topic_id
+    ensures { OnOk result (bridge.new ≡ spec.lane_publication settings.now own.now place flags topic_id
         msg_id body.now lane bridge.old) }
 {
     let names = own.names.as_slice();
-    let Some(name) = name_of(flags.kind(), topic_id, names, lane.ids.as_slice()) else {
+    let Some(name) = name_meant(flags.kind(), topic_id, names, lane.ids.as_slice()) else {
         return unknown(
             flags.qos(),
             flags.kind(),
@@ -584,7 +584,7 @@ fn goes_away(place: usize, m: Moment, mut lane: Lane, bridge: &mut Bridge)
 
 /// REGISTER of one of the names gives its topic id (section 6.10); another name is none of the
 /// lane's. A lane that has as many ids as it holds connects anew.
-fn registered(
+fn name_registered(
     alloc: Global,
     own: &LaneSettings,
     place: usize,
@@ -596,10 +596,10 @@ fn registered(
     bridge: &mut Bridge,
 ) -> Result<(), NoMemory>
     requires { place < length bridge.old.lanes }
-    ensures { OnOk result (bridge.new ≡ spec.registered (spec.place_of name.now own.now.names) place
+    ensures { OnOk result (bridge.new ≡ spec.name_registered (spec.name_place name.now own.now.names) place
         m topic_id msg_id lane bridge.old) }
 {
-    let Some(at) = place_of(name.as_slice(), own.names.as_slice()) else {
+    let Some(at) = name_place(name.as_slice(), own.names.as_slice()) else {
         let code = 3;
         let frame = Frame::RegAck {
             topic_id,
@@ -643,14 +643,14 @@ fn awake_frame(
             topic,
             msg_id,
             body,
-        } => publication(
+        } => lane_publication(
             alloc, settings, own, place, *flags, *topic, *msg_id, body, lane, bridge,
         ),
         Frame::Register {
             topic_id,
             msg_id,
             name,
-        } => registered(alloc, own, place, m, *topic_id, *msg_id, name, lane, bridge),
+        } => name_registered(alloc, own, place, m, *topic_id, *msg_id, name, lane, bridge),
         Frame::Disconnect { .. } => {
             goes_away(place, m, lane, bridge);
             Ok(())
@@ -688,7 +688,7 @@ fn connected(
 }
 
 /// SUBACK 0 of the name gives its topic id, unless the name is short, and goes on to the next.
-fn subscribed(
+fn lane_subscribed(
     alloc: Global,
     own: &LaneSettings,
     place: usize,
@@ -701,7 +701,7 @@ fn subscribed(
 ) -> Result<(), NoMemory>
     requires seat { place < length bridge.old.lanes }
     requires fits { next < LAST_NUMBER }
-    ensures { OnOk result (bridge.new ≡ spec.subscribed own.now place next m topic_id code lane
+    ensures { OnOk result (bridge.new ≡ spec.lane_subscribed own.now place next m topic_id code lane
         bridge.old) }
 {
     if code != 0 {
@@ -747,7 +747,7 @@ fn naming_frame(
             ..
         } => {
             if is_its(next, *msg_id, &lane) {
-                subscribed(alloc, own, place, next, m, *topic_id, *code, lane, bridge)
+                lane_subscribed(alloc, own, place, next, m, *topic_id, *code, lane, bridge)
             } else {
                 drop(lane);
                 Ok(())
@@ -759,8 +759,8 @@ fn naming_frame(
 
 /// What comes shows that the gateway is there: the next sign of life is due later, if one was asked
 /// for.
-fn heard(m: Moment, mut lane: Lane) -> Lane
-    ensures { result ≡ spec.heard m lane }
+fn lane_heard(m: Moment, mut lane: Lane) -> Lane
+    ensures { result ≡ spec.lane_heard m lane }
 {
     if lane.tries != 0 {
         lane.tries = 0;
@@ -802,7 +802,7 @@ pub(crate) fn lane_frame(
                 place,
                 m,
                 frame,
-                heard(m, lane),
+                lane_heard(m, lane),
                 bridge,
             )
         }
@@ -826,7 +826,7 @@ fn pings(
 }
 
 /// What is due is sent again.
-fn again(
+fn lane_again(
     alloc: Global,
     own: &LaneSettings,
     place: usize,
@@ -835,7 +835,7 @@ fn again(
     bridge: &mut Bridge,
 ) -> Result<(), NoMemory>
     requires { place < length bridge.old.lanes }
-    ensures { OnOk result (bridge.new ≡ spec.again lane.phase own.now place m lane bridge.old) }
+    ensures { OnOk result (bridge.new ≡ spec.lane_again lane.phase own.now place m lane bridge.old) }
 {
     let phase = lane.phase;
     match phase {
@@ -885,7 +885,7 @@ pub(crate) fn lane_tick(
     if TRIES <= lane.tries {
         return gives_up(place, m, lane, bridge);
     }
-    again(alloc, own, place, m, lane, bridge)
+    lane_again(alloc, own, place, m, lane, bridge)
 }
 
 /// A lane that may not acknowledge falls asleep (section 6.14).
@@ -935,8 +935,8 @@ pub(crate) fn wakes(
 }
 
 /// Whether the gateway takes an acknowledgement now.
-fn is_awake(phase: Phase) -> bool
-    ensures { result ≡ spec.is_awake phase }
+fn is_lane_awake(phase: Phase) -> bool
+    ensures { result ≡ spec.is_lane_awake phase }
 {
     match phase {
         Phase::Subscribing { .. } | Phase::Listening => true,
@@ -952,14 +952,14 @@ fn answered(
     bridge: &mut Bridge,
 ) -> Result<(), NoMemory>
     requires { place < length bridge.old.lanes }
-    ensures { OnOk result (bridge.new ≡ spec.answered_at (spec.is_awake lane.phase) place held lane
+    ensures { OnOk result (bridge.new ≡ spec.answered_at (spec.is_lane_awake lane.phase) place held lane
         bridge.old) }
 {
     let topic_id = held.topic_id;
     let msg_id = held.msg_id;
     held.is_answered = true;
     drop(mem::replace(&mut lane.last, Some(held)));
-    if is_awake(lane.phase) {
+    if is_lane_awake(lane.phase) {
         let code = 0;
         let frame = Frame::PubAck {
             topic_id,
@@ -993,7 +993,7 @@ fn answered_if(
 ) -> Result<(), NoMemory>
     requires { place < length bridge.old.lanes }
     ensures { OnOk result (bridge.new ≡ (if is_due && not held.is_answered
-        then spec.answered_at (spec.is_awake lane.phase) place held lane bridge.old
+        then spec.answered_at (spec.is_lane_awake lane.phase) place held lane bridge.old
         else bridge.old)) }
 {
     if is_due && !held.is_answered {

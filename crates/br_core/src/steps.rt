@@ -8,13 +8,13 @@ ghost use Rattle.br_core.specs.inner.Works.{worked};
 ghost use Rattle.br_core.specs.declared.state.TheConstants.{LAST_NUMBER};
 
 use crate::action::Action;
-use crate::commands::{begins, commanded, down_frame, down_tick, kept};
+use crate::commands::{command_begins, commanded, down_frame, down_tick, kept};
 use crate::event::Event;
 use crate::item::Item;
 use crate::lanes::{answers, falls_asleep, keeps, lane_frame, lane_tick, wakes};
 use crate::queue::Queue;
 use crate::settings::{DownFilter, LaneSettings, Settings};
-use crate::sides::{acknowledged, all_again, does, free_id, is_up, next_id, sends, takes};
+use crate::sides::{item_in_flight, all_again, does, free_packet_id, is_broker_up, next_id, sends, takes};
 use crate::state::{
     BROKER_KEEP_ALIVE, Bridge, Doing, Down, LAST_NUMBER, Lane, Moment, Phase, Side,
 };
@@ -163,12 +163,12 @@ fn all_work(
 fn may_listen(bridge: &Bridge) -> bool
     ensures { result ≡ spec.may_listen bridge.now }
 {
-    is_up(bridge.side) || bridge.is_storing
+    is_broker_up(bridge.side) || bridge.is_storing
 }
 
 /// Lanes fall asleep if they may not acknowledge.
-fn rests(alloc: Global, settings: &Settings, bridge: &mut Bridge) -> Result<(), NoMemory>
-    ensures { OnOk result (bridge.new ≡ spec.rests settings.now bridge.old) }
+fn lanes_rest(alloc: Global, settings: &Settings, bridge: &mut Bridge) -> Result<(), NoMemory>
+    ensures { OnOk result (bridge.new ≡ spec.lanes_rest settings.now bridge.old) }
 {
     if may_listen(bridge) {
         return Ok(());
@@ -251,7 +251,7 @@ fn subscribing(
         return up(alloc, settings, m, bridge);
     };
     let filter = entry.filter.copied(alloc)?;
-    let id = free_id(bridge.packet_id, bridge.flight.as_slice());
+    let id = free_packet_id(bridge.packet_id, bridge.flight.as_slice());
     bridge.side = Side::Subscribing { next };
     bridge.due = m.retry;
     bridge.packet_id = next_id(id);
@@ -262,8 +262,8 @@ fn subscribing(
 
 /// The connection is over: what is in flight stays so, and what the broker sent comes again from
 /// it.
-fn ended(alloc: Global, due: u64, bridge: &mut Bridge)
-    ensures { bridge.new ≡ spec.ended due bridge.old }
+fn connection_ended(alloc: Global, due: u64, bridge: &mut Bridge)
+    ensures { bridge.new ≡ spec.connection_ended due bridge.old }
 {
     bridge.side = Side::Closed;
     bridge.due = due;
@@ -274,11 +274,11 @@ fn ended(alloc: Global, due: u64, bridge: &mut Bridge)
 }
 
 /// The connection is over, and lanes fall asleep, if they may not acknowledge.
-fn lost(alloc: Global, settings: &Settings, due: u64, bridge: &mut Bridge) -> Result<(), NoMemory>
-    ensures { OnOk result (bridge.new ≡ spec.lost settings.now due bridge.old) }
+fn connection_lost(alloc: Global, settings: &Settings, due: u64, bridge: &mut Bridge) -> Result<(), NoMemory>
+    ensures { OnOk result (bridge.new ≡ spec.connection_lost settings.now due bridge.old) }
 {
-    ended(alloc, due, bridge);
-    rests(alloc, settings, bridge)
+    connection_ended(alloc, due, bridge);
+    lanes_rest(alloc, settings, bridge)
 }
 
 /// The bridge ends the connection, which is dialled again when it is due.
@@ -290,7 +290,7 @@ fn hangs_up(
 ) -> Result<(), NoMemory>
     ensures { OnOk result (bridge.new ≡ spec.hangs_up settings.now due bridge.old) }
 {
-    lost(alloc, settings, due, bridge)?;
+    connection_lost(alloc, settings, due, bridge)?;
     does(bridge, Action::HangUp)
 }
 
@@ -305,7 +305,7 @@ fn wants_kept(downs: &[DownFilter]) -> bool
 /// it had saved may have lost some. But they are not if the broker knows the session, this run has
 /// subscribed to all of them, and one hands on what the broker had kept, which would come again. Or
 /// the broker does not want us, and is asked again in a minute.
-fn welcomed(
+fn broker_welcomed(
     alloc: Global,
     settings: &Settings,
     session: bool,
@@ -313,7 +313,7 @@ fn welcomed(
     m: Moment,
     bridge: &mut Bridge,
 ) -> Result<(), NoMemory>
-    ensures { OnOk result (bridge.new ≡ spec.welcomed settings.now session code m bridge.old) }
+    ensures { OnOk result (bridge.new ≡ spec.broker_welcomed settings.now session code m bridge.old) }
 {
     if code != 0 {
         return hangs_up(alloc, settings, m.minute, bridge);
@@ -345,7 +345,7 @@ fn answered(
 ) -> Result<(), NoMemory>
     ensures { OnOk result (bridge.new ≡ spec.broker_acked settings.now id bridge.old) }
 {
-    let Some(item) = acknowledged(alloc, id, bridge) else {
+    let Some(item) = item_in_flight(alloc, id, bridge) else {
         return Ok(());
     };
     let number = item.number;
@@ -357,8 +357,8 @@ fn answered(
 }
 
 /// The packet id of a publication; 0 where it wants no acknowledgement.
-fn id_in(delivery: Delivery) -> u16
-    ensures { result ≡ spec.id_in delivery }
+fn delivery_id(delivery: Delivery) -> u16
+    ensures { result ≡ spec.delivery_id delivery }
 {
     match delivery {
         Delivery::Once => 0,
@@ -367,7 +367,7 @@ fn id_in(delivery: Delivery) -> u16
 }
 
 /// PUBLISH of the broker (MQTT 3.1.1 section 3.3): a command.
-fn publication(
+fn broker_publication(
     alloc: Global,
     settings: &Settings,
     delivery: Delivery,
@@ -377,12 +377,12 @@ fn publication(
     m: Moment,
     bridge: &mut Bridge,
 ) -> Result<(), NoMemory>
-    ensures { OnOk result (bridge.new ≡ spec.publication settings.now delivery retain topic.now
+    ensures { OnOk result (bridge.new ≡ spec.broker_publication settings.now delivery retain topic.now
         body.now m bridge.old) }
 {
     let downs = settings.downs.as_slice();
-    commanded(alloc, downs, id_in(delivery), retain, topic, body, bridge)?;
-    begins(alloc, m, bridge)
+    commanded(alloc, downs, delivery_id(delivery), retain, topic, body, bridge)?;
+    command_begins(alloc, m, bridge)
 }
 
 /// A packet of the broker while publications go both ways.
@@ -402,7 +402,7 @@ fn up_packet(
             retain,
             topic,
             body,
-        } => publication(alloc, settings, *delivery, *retain, topic, body, m, bridge),
+        } => broker_publication(alloc, settings, *delivery, *retain, topic, body, m, bridge),
         _ => Ok(()),
     }
 }
@@ -473,7 +473,7 @@ fn new_packet(
 {
     match packet {
         Packet::ConnAck { session, code } => {
-            welcomed(alloc, settings, *session, *code, m, bridge)
+            broker_welcomed(alloc, settings, *session, *code, m, bridge)
         }
         _ => hangs_up(alloc, settings, m.retry, bridge),
     }
@@ -481,8 +481,8 @@ fn new_packet(
 
 /// What comes shows that the broker is there: the next sign of life is due later, if one was asked
 /// for.
-fn heard(m: Moment, bridge: &mut Bridge)
-    ensures { bridge.new ≡ spec.heard m bridge.old }
+fn broker_heard(m: Moment, bridge: &mut Bridge)
+    ensures { bridge.new ≡ spec.broker_heard m bridge.old }
 {
     if bridge.tries != 0 {
         bridge.tries = 0;
@@ -507,7 +507,7 @@ fn packet_in(
         Side::Connecting => new_packet(alloc, settings, m, packet, bridge),
         Side::Subscribing { next } => naming_packet(alloc, settings, next, m, packet, bridge),
         Side::Up => {
-            heard(m, bridge);
+            broker_heard(m, bridge);
             up_packet(alloc, settings, m, packet, bridge)
         }
     }
@@ -552,13 +552,13 @@ fn login_of(alloc: Global, login: &Option<Login>) -> Result<Option<Login>, NoMem
 }
 
 /// The connection is there: CONNECT (MQTT 3.1.1 section 3.1), and the broker keeps the session.
-fn opened(
+fn connection_opened(
     alloc: Global,
     settings: &Settings,
     m: Moment,
     bridge: &mut Bridge,
 ) -> Result<(), NoMemory>
-    ensures { OnOk result (bridge.new ≡ spec.opened settings.now m bridge.old) }
+    ensures { OnOk result (bridge.new ≡ spec.connection_opened settings.now m bridge.old) }
 {
     let packet = Packet::Connect {
         clean: false,
@@ -635,22 +635,22 @@ fn counts_on(number: u64, bridge: &mut Bridge)
 }
 
 /// Whether a reading that the spool has kept comes in its order.
-fn is_next(item: &Item, bridge: &Bridge) -> bool
-    ensures { result ≡ spec.is_next item.now bridge.now }
+fn comes_in_order(item: &Item, bridge: &Bridge) -> bool
+    ensures { result ≡ spec.comes_in_order item.now bridge.now }
 {
     bridge.number <= item.number && item.number < LAST_NUMBER
 }
 
 /// A reading that came before the bridge began goes on its way again.
-fn found(
+fn reading_found(
     alloc: Global,
     settings: &Settings,
     item: &Item,
     bridge: &mut Bridge,
 ) -> Result<(), NoMemory>
-    ensures { OnOk result (bridge.new ≡ spec.found settings.now item.now bridge.old) }
+    ensures { OnOk result (bridge.new ≡ spec.reading_found settings.now item.now bridge.old) }
 {
-    if !is_next(item, bridge) {
+    if !comes_in_order(item, bridge) {
         return Ok(());
     }
     bridge.number = item.number + 1;
@@ -687,7 +687,7 @@ fn store_failed(alloc: Global, settings: &Settings, bridge: &mut Bridge) -> Resu
     ensures { OnOk result (bridge.new ≡ spec.store_failed settings.now bridge.old) }
 {
     bridge.is_storing = false;
-    rests(alloc, settings, bridge)
+    lanes_rest(alloc, settings, bridge)
 }
 
 /// Time goes by.
@@ -718,14 +718,14 @@ pub fn step(
         Event::Field { lane, frame } => frame_at(alloc, settings, *lane, m, frame, bridge),
         Event::Commands { frame } => down_frame(alloc, m, frame, bridge),
         Event::Broker { packet } => packet_in(alloc, settings, m, packet, bridge),
-        Event::BrokerOpen => opened(alloc, settings, m, bridge),
-        Event::BrokerLost => lost(alloc, settings, m.soon, bridge),
+        Event::BrokerOpen => connection_opened(alloc, settings, m, bridge),
+        Event::BrokerLost => connection_lost(alloc, settings, m.soon, bridge),
         Event::Kept { line } => kept(alloc, *line, m, bridge),
         Event::Resumed { number } => {
             counts_on(*number, bridge);
             Ok(())
         }
-        Event::Found { item } => found(alloc, settings, item, bridge),
+        Event::Found { item } => reading_found(alloc, settings, item, bridge),
         Event::Stored { below } => stored(alloc, settings, *below, bridge),
         Event::StoreFailed => store_failed(alloc, settings, bridge),
         Event::Tick => ticks(alloc, settings, m, bridge),

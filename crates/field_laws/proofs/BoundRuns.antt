@@ -23,7 +23,7 @@ use Rattle.gw_world.specs.declared.event.Call.TheVariants as calls
 use Rattle.gw_world.specs.declared.event.Answer.{Answer}
 use Rattle.gw_world.specs.declared.event.Answer.TheVariants.{Node, Row, Views, Records, Nothing}
 use Rattle.gw_event.specs.Gateways.{Gateway, new_gateway}
-use Rattle.gw_world.specs.Field.{Field, new_field, IsAt, failing, TogetherAt, After, Run}
+use Rattle.gw_world.specs.Field.{Field, new_field, IsAt, failing_gateway, TogetherAt, After, Run}
 use Rattle.gw_world.proofs.InRows.{Answers, CallAt}
 use Rattle.gw_world.specs.Steady.{IsKnown}
 use Rattle.gw_world.specs.Steps.{restarted}
@@ -128,7 +128,7 @@ compact-up old next (Err refusals.Memory) up h = absurd h
 restart-up : (kept : ℕ) (old : Gateway) → GatewayUp (restarted kept old)
 restart-up kept old = tt
 
-failing-up : (bytes : ℕ) (sync : Bool) (old : Gateway) → GatewayUp old → GatewayUp (failing bytes sync old)
+failing-up : (bytes : ℕ) (sync : Bool) (old : Gateway) → GatewayUp old → GatewayUp (failing_gateway bytes sync old)
 failing-up bytes sync old up = up
 
 abbrev UpField : Field → Type 0
@@ -156,7 +156,7 @@ after-up old (Take number delta) (Node answer) new h s w all = call-up old new n
 after-up old (AtOnce number calls) (Row answers) new h s w all = row-up old new number calls (map said answers) h s w all
 after-up old (Asks number peer) (Node answer) new h s w all = subst UpField (sym h.8) all
 after-up old (WriteFails number bytes sync) Nothing new h s w all =
-    subst UpField (sym h.3) (set-up h.0 old.gateways (failing bytes sync h.1) all (failing-up bytes sync h.1 (all h.0 h.1 h.2.1)))
+    subst UpField (sym h.3) (set-up h.0 old.gateways (failing_gateway bytes sync h.1) all (failing-up bytes sync h.1 (all h.0 h.1 h.2.1)))
 after-up old (Compact number) (Node answer) new h s w all =
     subst UpField (sym h.5) (set-up h.0 old.gateways h.2 all (compact-up h.1 h.2 (said answer) (all h.0 h.1 h.3.1) h.4))
 after-up old (Restart number kept) (Records count) new h s w all =

@@ -19,7 +19,7 @@ use Rattle.gw_event.proofs.Turns.{turn_one, turn_append, together_told, together
 use Rattle.gw_node.specs.Standing.{fated}
 use Rattle.gw_world.specs.declared.event.Call.{Call}
 use Rattle.gw_world.specs.declared.event.Call.TheVariants as calls
-use Rattle.gw_world.specs.Field.{Field, IsAt, changed, IsStepOf, AreStepsOf, AreFed, TogetherAt}
+use Rattle.gw_world.specs.Field.{Field, IsAt, field_changed, IsStepOf, AreStepsOf, AreFed, TogetherAt}
 use Rattle.gw_world.proofs.Consistency.{FlushField, WholeField, IsAtPeace, none-back, call-sound}
 use Rattle.gw_world.proofs.Failures.{can-write}
 use Rattle.gw_world.proofs.InRows.{Answers, at-changed, step-later, steps-later, one-call, turn-fed}
@@ -41,13 +41,13 @@ agreed answer peace = λ client e. subst IsAtPeace e peace
 pub peace-along : (field : Field) (s : FlushField field) (w : WholeField field) (n i : ℕ) (g : Gateway) (at : IsAt field n i g) (called : List Call) (more : List Step) → AreStepsOf field called more → PeaceAlong g more
 peace-along field s w n i g at [] [] given = tt
 peace-along field s w n i g at (call ∷ called) (step ∷ more) given = λ fate answer next made does.
-    let f = changed field i (fated fate g) [] in
+    let f = field_changed field i (fated fate g) [] in
     let here = none-back field s w n i g at (fated fate g) (record { config = refl; taken = refl; none = refl }) in
     let there = at-changed field n i g (fated fate g) [] at refl in
     let one = one-call f n i (fated fate g) next call step answer made there (step-later field i (fated fate g) [] call step given.0) does in
-    let sound = call-sound f (changed f i next made) n call answer one.0 here.0 here.1 in (
+    let sound = call-sound f (field_changed f i next made) n call answer one.0 here.0 here.1 in (
       agreed answer sound.peace.0,
-      peace-along (changed f i next made) sound.flush sound.whole n i next (at-changed f n i (fated fate g) next made there one.1) called more
+      peace-along (field_changed f i next made) sound.flush sound.whole n i next (at-changed f n i (fated fate g) next made there one.1) called more
           (steps-later f i next made called more (steps-later field i (fated fate g) [] called more given.1)),
     )
 peace-along field s w n i g at [] (step ∷ more) given = absurd given
@@ -285,4 +285,4 @@ row-same old s w number called a b new next room at-one h k =
     let given : h.4 ≡ k.4 = all-given old called h.4 k.4 h.6 k.6 in
     let moved : Together h.1 h.4 b k.2 k.3 = subst (λ (x : Gateway). Together x h.4 b k.2 k.3) (sym at.1) (subst (λ (xs : List Step). Together k.1 xs b k.2 k.3) (sym given) k.7) in
     let one = together-same h.1 h.4 a b h.2 k.2 h.3 k.3 (all-write old called h.4 h.6) h.8 k.8 (peace-along old s w number h.0 h.1 h.5 called h.4 h.6) (room h.0 h.1 h.5) h.7 moved in
-    (one.0, h.9 ∙ (λ t. changed old (at.0 t) (one.1 t) (one.2 t)) ∙ sym k.9)
+    (one.0, h.9 ∙ (λ t. field_changed old (at.0 t) (one.1 t) (one.2 t)) ∙ sym k.9)

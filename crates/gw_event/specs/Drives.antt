@@ -8,7 +8,7 @@ use Rattle.jr_disk.specs.Disk.{Slots, Image, at, after_crash}
 use Rattle.jr_journal.specs.Records.{written, written_all, base_bytes, slot_content, generation_in, records}
 use Rattle.jr_journal.specs.Crashes.{recovered}
 use Rattle.jr_journal.specs.Arranged.{after_append}
-use Rattle.jr_journal.specs.Journals.{other, emptied}
+use Rattle.jr_journal.specs.Journals.{other_slot, emptied}
 use Rattle.jr_journal.specs.Opening.{slot_read}
 
 -- the disk under a gateway: its two slots, the one that the journal writes, whether a write has
@@ -69,15 +69,15 @@ generation gateway drive = generation_in (slot_content gateway (at drive.slots d
 -- next generation, the base and the seal
 abbrev pub compacted : ℕ → List (List Op) → Drive → Drive
 compacted gateway base drive = record drive {
-  slots = after_append None (emptied drive.slots (other drive.slot)) (other drive.slot)
+  slots = after_append None (emptied drive.slots (other_slot drive.slot)) (other_slot drive.slot)
       (base_bytes gateway (generation gateway drive + 1) base);
-  slot = other drive.slot;
+  slot = other_slot drive.slot;
 }
 
 -- the disk if this failure comes as the base of a compaction is written: the journal is halted
 abbrev pub torn_base : Plan → ℕ → List (List Op) → Drive → Drive
 torn_base plan gateway base drive = record drive {
-  slots = after_append (Some plan) (emptied drive.slots (other drive.slot)) (other drive.slot)
+  slots = after_append (Some plan) (emptied drive.slots (other_slot drive.slot)) (other_slot drive.slot)
       (base_bytes gateway (generation gateway drive + 1) base);
   halted = true;
   plan = None;

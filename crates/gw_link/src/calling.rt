@@ -2,7 +2,7 @@
 
 ghost use Rattle.std.specs.Prelude.{◌≡◌, ◌≢◌, ◌≤◌, ℕ, Bool, true, IfOk, IfErr, MatchResult, Err, map};
 ghost use Rattle.std.specs.Arc.{arc_value};
-ghost use Rattle.gw_answer.specs.Answers.{said, told};
+ghost use Rattle.gw_answer.specs.Answers.{said, refusal_of_fault};
 ghost use Rattle.gw_answer.specs.declared.step.Step.{Step as AnyStep};
 ghost use Rattle.gw_shift.specs.Calling.{Made, MadeInRow};
 ghost use Rattle.gw_link.specs.Adding.{Adds};
@@ -177,8 +177,8 @@ fn reached(fault: CallFault) -> Result<NodeFault, End>
 /// What a refusal of the gateway means for what it was asked: that is dropped. Only want of memory
 /// ends anything.
 pub fn dropped(fault: &NodeFault) -> Result<(), NoMemory>
-    ensures { MatchResult result (λ _. told fault.now ≢ refusals.Memory)
-        (λ _. told fault.now ≡ refusals.Memory) }
+    ensures { MatchResult result (λ _. refusal_of_fault fault.now ≢ refusals.Memory)
+        (λ _. refusal_of_fault fault.now ≡ refusals.Memory) }
 {
     match fault {
         NodeFault::Memory => Err(NoMemory),
@@ -197,7 +197,7 @@ pub(crate) fn drop_refusal(fault: NodeFault) -> Result<(), End> {
 
 /// Whether the gateway refused since it is halted.
 pub fn is_halted(fault: &NodeFault) -> bool
-    ensures { result ≡ says_halted (Err (told fault.now)) }
+    ensures { result ≡ says_halted (Err (refusal_of_fault fault.now)) }
 {
     matches!(fault, NodeFault::Halted)
 }

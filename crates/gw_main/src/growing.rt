@@ -22,8 +22,8 @@ pub fn is_grown(base: u64, growth: u64) -> bool
 /// How many octets a journal has that was just written anew. Its two files had these lengths before
 /// and after that. It is the file whose length changed, or the longer one if both changed, or
 /// neither.
-pub fn base_of(before: (u64, u64), after: (u64, u64)) -> u64
-    ensures { result ≡ spec.base_of before after }
+pub fn changed_length(before: (u64, u64), after: (u64, u64)) -> u64
+    ensures { result ≡ spec.changed_length before after }
 {
     if before.0 == after.0 && before.1 != after.1 {
         return after.1;

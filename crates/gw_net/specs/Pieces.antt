@@ -11,8 +11,8 @@ pub record Pending : Type 0 where
   pub failed : Bool
 
 -- a link from which nothing has come yet
-abbrev pub nothing : Pending
-nothing = record { waiting = []; failed = false }
+abbrev pub nothing_yet : Pending
+nothing_yet = record { waiting = []; failed = false }
 
 -- the octets that came, or none
 abbrev pub octets_of : Option (Vec ℕ) → List ℕ

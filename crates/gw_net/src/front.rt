@@ -7,7 +7,7 @@ ghost use Rattle.rep_ops.specs.Reading as reading;
 ghost use Rattle.rep_digest.specs.Reading as digests;
 ghost use Rattle.gw_net.specs.declared.message.LinkMessage.TheVariants.{Digest as OfDigest, Delta as OfDelta};
 ghost use Rattle.gw_net.specs.Messages.{hello_at, read_or_none, message_at};
-ghost use Rattle.gw_net.specs.Streams.{sized_at};
+ghost use Rattle.gw_net.specs.Streams.{front_sized};
 ghost use Rattle.gw_net.specs.Streams as spec;
 ghost use Rattle.gw_net.specs.inner.Streams.{IsFront, IsBody};
 
@@ -38,7 +38,7 @@ pub fn front(alloc: Global, bytes: &[u8]) -> Result<Option<(LinkMessage, &[u8])>
 
 /// The message after its kind.
 fn sized(alloc: Global, kind: u8, bytes: &[u8]) -> Result<Option<(LinkMessage, &[u8])>, LinkFault>
-    ensures { IsFront (λ x. (x.0, x.1.now)) result (sized_at kind (number_at w32 bytes.now)) }
+    ensures { IsFront (λ x. (x.0, x.1.now)) result (front_sized kind (number_at w32 bytes.now)) }
 {
     match size_at(bytes) {
         None => Ok(None),
@@ -64,7 +64,7 @@ fn whole(
     size: u32,
     bytes: &[u8],
 ) -> Result<Option<(LinkMessage, &[u8])>, LinkFault>
-    ensures { IsFront (λ x. (x.0, x.1.now)) result (sized_at kind (Ok (size, bytes.now))) }
+    ensures { IsFront (λ x. (x.0, x.1.now)) result (front_sized kind (Ok (size, bytes.now))) }
 {
     if size as usize > MAX_OCTETS {
         return Err(LinkFault::TooLong);
@@ -103,7 +103,7 @@ fn read_hello(body: &[u8]) -> Result<LinkMessage, LinkFault>
 
 /// A digest.
 fn read_digest(alloc: Global, body: &[u8]) -> Result<LinkMessage, LinkFault>
-    ensures { IsBody result (read_or_none (λ d. OfDigest d) (digests.reading body.now)) }
+    ensures { IsBody result (read_or_none (λ d. OfDigest d) (digests.digest_reading body.now)) }
 {
     match Digest::decode(alloc, body) {
         Ok(digest) => Ok(LinkMessage::Digest(digest)),
@@ -114,7 +114,7 @@ fn read_digest(alloc: Global, body: &[u8]) -> Result<LinkMessage, LinkFault>
 
 /// A delta.
 fn read_delta(alloc: Global, body: &[u8]) -> Result<LinkMessage, LinkFault>
-    ensures { IsBody result (read_or_none (λ d. OfDelta d) (reading.reading body.now)) }
+    ensures { IsBody result (read_or_none (λ d. OfDelta d) (reading.delta_reading body.now)) }
 {
     match Delta::decode(alloc, body) {
         Ok(delta) => Ok(LinkMessage::Delta(delta)),

@@ -37,11 +37,11 @@ impl Model for LinkIn {
 }
 
 impl LinkIn {
-    ghost use Rattle.gw_net.specs.Pieces.{nothing, IsFed};
+    ghost use Rattle.gw_net.specs.Pieces.{nothing_yet, IsFed};
 
     /// The begin of a link.
     pub fn new() -> LinkIn
-        ensures { result ≡ nothing }
+        ensures { result ≡ nothing_yet }
     {
         LinkIn {
             waiting: None,

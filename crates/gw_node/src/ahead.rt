@@ -9,7 +9,7 @@ ghost use Rattle.gw_answer.specs.declared.step.Step.TheVariants as steps;
 ghost use Rattle.gw_event.specs.Together.{if_any, put_by};
 ghost use Rattle.gw_node.specs.Parts.{state_of};
 ghost use Rattle.gw_node.specs.Parts as parts;
-ghost use Rattle.gw_node.specs.inner.Ahead.{CarriedAhead, TakeAhead, made_by};
+ghost use Rattle.gw_node.specs.inner.Ahead.{CarriedAhead, TakeAhead, made_in};
 ghost use Rattle.gw_node.specs.inner.Rows.{CarriedAlong, WentAhead, made_if, put_if, IsFor};
 
 use super::carrying::{make_ready, ops_of, prepare};
@@ -160,7 +160,7 @@ pub(crate) fn carry_ahead<R: Replica, D: Disk + Drop>(
     requires some { plan.ops ≢ [] }
     requires can { R.can_go_back node.old.replica aside.old }
     ensures call { CarriedAhead (state_of R.kept node.old) plan result (state_of R.kept node.new) }
-    ensures records { records.new ≡ records.old ++ made_by result }
+    ensures records { records.new ≡ records.old ++ made_in result }
     ensures can { R.can_go_back node.new.replica aside.new }
     ensures back { R.back node.new.replica aside.new ≡ R.back node.old.replica aside.old }
 {

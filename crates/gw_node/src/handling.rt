@@ -1,7 +1,7 @@
 //! What the calls of a node do, up to the answer.
 
 ghost use Rattle.std.specs.Prelude.{◌≡◌, Some, [], false, IfOk, IfErr, IsTrue};
-ghost use Rattle.rep_digest.specs.Spelling.{IsWithinLimit};
+ghost use Rattle.rep_digest.specs.Spelling.{IsDigestWithinLimit};
 ghost use Rattle.sn_frame.specs.Bodies.{IsMessage, IsValue};
 ghost use Rattle.sn_frame.specs.Grammar.{Spells};
 ghost use Rattle.gw_event.specs.Occasions.{Datagram, Clock};
@@ -254,7 +254,7 @@ pub(crate) fn handle_view<R: Replica, D: Disk>(
 
 /// An answer that gives a digest, of which its type promises that it is not too long.
 fn give_digest(alloc: Global, digest: Digest) -> Result<Shares, NoMemory>
-    ensures size { IsWithinLimit digest }
+    ensures size { IsDigestWithinLimit digest }
     ensures ok { IfOk result (λ out. out ≡ record (only_sends []) { digest = Some digest }) }
 {
     let _entries = digest.clients();

@@ -11,7 +11,7 @@ ghost use Rattle.jr_journal.specs.Faults.{fault_of};
 ghost use Rattle.rep_op.specs.declared.op.Subject.{Subject};
 ghost use Rattle.gw_answer.specs.declared.refusal.Refusal.{Refusal};
 ghost use Rattle.gw_answer.specs.declared.refusal.Refusal.TheVariants as refusals;
-ghost use Rattle.gw_node.specs.Taking.{IsBetween, IsWhole, StandsFor};
+ghost use Rattle.gw_node.specs.Taking.{IsBetween, IsWhole, RecoversTo};
 ghost use Rattle.gw_node.specs.Opening.{FitInTurn, HasMisfit, IsOpenFault, IsDiskFault};
 
 /// An image that stands for what a gateway had taken is opened again: each of its records fits to
@@ -21,16 +21,16 @@ ghost use Rattle.gw_node.specs.Opening.{FitInTurn, HasMisfit, IsOpenFault, IsDis
 /// function does nothing; its contract is the law.
 pub fn opening_laws()
     ensures room { (gateway : ℕ) (S : List Op) (refused : List (List Op)) (i : Image)
-        → StandsFor gateway S refused i → HasMisfit (records gateway i) refusals.Full → ⊥ }
+        → RecoversTo gateway S refused i → HasMisfit (records gateway i) refusals.Full → ⊥ }
     ensures agreement { (gateway : ℕ) (S : List Op) (refused : List (List Op)) (i : Image)
-        (of : Subject) → StandsFor gateway S refused i → HasMisfit (records gateway i)
+        (of : Subject) → RecoversTo gateway S refused i → HasMisfit (records gateway i)
         (refusals.Conflict of) → ⊥ }
     ensures memory { (gateway : ℕ) (S : List Op) (refused : List (List Op)) (i : Image)
-        (refusal : Refusal) → StandsFor gateway S refused i → IsOpenFault gateway i refusal
+        (refusal : Refusal) → RecoversTo gateway S refused i → IsOpenFault gateway i refusal
         → (IsDiskFault refusal → ⊥) → refusal ≡ refusals.Memory }
     ensures begins { (gateway : ℕ) (i : Image) → fault_of gateway i ≡ None
         → FitInTurn [] (records gateway i) → IsConsistent (all_of (records gateway i))
-        → StandsFor gateway (all_of (records gateway i)) [] i }
+        → RecoversTo gateway (all_of (records gateway i)) [] i }
 {}
 
 /// A call by itself is refused one delta. What stands for a set with it counts as the set, or as

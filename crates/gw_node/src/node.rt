@@ -64,15 +64,15 @@ impl<R: Replica, D: Disk + Drop> Node<R, D> {
     ghost use Rattle.jr_journal.specs.Records.{records};
     ghost use Rattle.jr_journal.specs.Faults.{is_fresh, fault_of};
     ghost use Rattle.jr_journal.specs.Crashes.{recovered, LeavesNoMore};
-    ghost use Rattle.jr_journal.specs.Arranged.{is_quiet};
+    ghost use Rattle.jr_journal.specs.Arranged.{misses_failure};
     ghost use Rattle.gw_answer.specs.declared.step.Step.TheVariants as steps;
     ghost use Rattle.gw_event.specs.Occasions.{Datagram, Clock};
     ghost use Rattle.gw_node.specs.Parts.{state_of, disk_of, records_of};
     ghost use Rattle.gw_node.specs.Parts as spec;
-    ghost use Rattle.gw_answer.specs.Answers.{told, said};
+    ghost use Rattle.gw_answer.specs.Answers.{refusal_of_fault, said};
     ghost use Rattle.gw_node.specs.Calls.{OwnCall, TakeCall, ViewCall, DigestCall, AnswerCall, CompactCall, StepCall};
     ghost use Rattle.gw_node.specs.Keeping.{Keeps};
-    ghost use Rattle.gw_node.specs.Taking.{StandsFor, HasTaken};
+    ghost use Rattle.gw_node.specs.Taking.{RecoversTo, HasTaken};
     ghost use Rattle.gw_node.specs.Opening.{IsStarted, FitInTurn, MayRefuse, IsDiskFault, IsOpenFault, LeavesSlots, GoesOnIn, ReopenCall};
     ghost use Rattle.gw_node.specs.Carrying.{CarriesOn, OwnCarriesOn, TakesNothing, ReopenCarriesOn, StepCarriesOn};
     ghost use Rattle.gw_node.specs.Standing.{EventOn, EventsOn};
@@ -91,10 +91,10 @@ impl<R: Replica, D: Disk + Drop> Node<R, D> {
     /// left before.
     pub fn open(alloc: Global, config: Config, disk: D) -> Result<Node<R, D>, (D, NodeFault)>
         ensures starts { IfOk result (λ node. IsStarted config (state_of R.kept node)) }
-        ensures may { IfErr result (λ refused. MayRefuse (told refused.1)) }
+        ensures may { IfErr result (λ refused. MayRefuse (refusal_of_fault refused.1)) }
         ensures counts { MatchResult result (λ node. D.failures disk ≤ D.failures (disk_of node))
             (λ refused. D.failures disk ≤ D.failures refused.0) }
-        ensures cause { IfErr result (λ refused. IsDiskFault (told refused.1)
+        ensures cause { IfErr result (λ refused. IsDiskFault (refusal_of_fault refused.1)
             → D.failures disk < D.failures refused.0) }
         ensures starved { D.starved disk ≡ true
             → MatchResult result (λ node. D.starved (disk_of node) ≡ true)
@@ -116,12 +116,12 @@ impl<R: Replica, D: Disk + Drop> Node<R, D> {
             (FitInTurn [] (records config.gateway (image (D.slots disk)))) }
         // beside whatever set it had taken before it stopped.
         ensures restarts { D.honest → IfOk result (λ node. (S : List Op) (refused : List (List Op))
-            → StandsFor config.gateway S refused (image (D.slots disk)) →
+            → RecoversTo config.gateway S refused (image (D.slots disk)) →
             HasTaken (S ++ all_of (records config.gateway (image (D.slots disk)))) []
             (state_of R.kept node)) }
         // Where nothing was refused, that is the set itself.
         ensures durable { D.honest → IfOk result (λ node. (S : List Op)
-            → StandsFor config.gateway S [] (image (D.slots disk))
+            → RecoversTo config.gateway S [] (image (D.slots disk))
             → HasTaken S [] (state_of R.kept node)) }
         // Its journal goes on in the slot that is read.
         ensures place { D.honest → IfOk result (λ node. GoesOnIn (state_of R.kept node)
@@ -133,23 +133,23 @@ impl<R: Replica, D: Disk + Drop> Node<R, D> {
         ensures found { D.honest → OnOk result
             (fault_of config.gateway (image (D.slots disk)) ≡ None) }
         ensures fault { D.honest → IfErr result (λ refused. IsOpenFault config.gateway
-            (image (D.slots disk)) (told refused.1)) }
+            (image (D.slots disk)) (refusal_of_fault refused.1)) }
         // Refused for another cause than the disk, it leaves the slots as they were, synced, or as
         // an opening leaves them.
         ensures slots { D.honest → IfErr result (λ refused. LeavesSlots config.gateway
-            (D.slots disk) (told refused.1) (D.slots refused.0)) }
+            (D.slots disk) (refusal_of_fault refused.1) (D.slots refused.0)) }
         // Whatever refused it, no crash leaves what it could not have left before.
         ensures leaves { D.honest → IfErr result (λ refused. LeavesNoMore config.gateway
             (D.slots disk) (D.slots refused.0)) }
         // A failure that is arranged for an append stays arranged, unless a journal is begun.
-        ensures quiet { D.honest → IsTrue (is_quiet (D.outlook disk)
+        ensures quiet { D.honest → IsTrue (misses_failure (D.outlook disk)
             (is_fresh (image (D.slots disk)))) →
             IfOk result (λ node. D.starved (disk_of node) ≡ false
             → D.outlook (disk_of node) ≡ D.outlook disk) }
         ensures blameless { D.honest → IsTrue
-            (is_quiet (D.outlook disk) (is_fresh (image (D.slots disk)))) →
+            (misses_failure (D.outlook disk) (is_fresh (image (D.slots disk)))) →
             IfErr result (λ refused. D.starved refused.0 ≡ false
-            → (IsDiskFault (told refused.1) → ⊥) × (D.outlook refused.0 ≡ D.outlook disk)) }
+            → (IsDiskFault (refusal_of_fault refused.1) → ⊥) × (D.outlook refused.0 ≡ D.outlook disk)) }
     {
         let Ok(replica) = R::empty(alloc) else {
             return Err((disk, NodeFault::Memory));

@@ -14,7 +14,7 @@ ghost use Rattle.gw_node.specs.Parts.{state_of};
 ghost use Rattle.gw_node.specs.Parts as parts;
 ghost use Rattle.gw_node.specs.inner.Ahead.{IsWriter};
 ghost use Rattle.gw_node.specs.inner.Rows.{WrittenAllAs, OneMore, WentOn, excused, EndedAs, IsFinished, RowCall};
-ghost use Rattle.jr_journal.specs.Parts.{is_halted as is_stopped};
+ghost use Rattle.jr_journal.specs.Parts.{is_stopped};
 
 use super::ahead::{Most, carry_ahead, go_ahead, take_ahead};
 use super::carrying::{carry_out, take_in};

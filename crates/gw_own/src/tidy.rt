@@ -27,8 +27,8 @@ fn is_stranger(dialogs: &Dialogs, client: &ClientId) -> bool
 }
 
 /// Whether the gateway owns the client, or the client has neither an address nor a timer.
-fn is_left<R: Replica>(gateway: u8, replica: &R, dialogs: &Dialogs, client: &ClientId) -> bool
-    ensures { result ≡ spec.is_left gateway (seen_of (R.kept replica.now)) dialogs.now.local
+fn stays_bound<R: Replica>(gateway: u8, replica: &R, dialogs: &Dialogs, client: &ClientId) -> bool
+    ensures { result ≡ spec.stays_bound gateway (seen_of (R.kept replica.now)) dialogs.now.local
         client.now }
 {
     is_owned(gateway, replica, client) || is_stranger(dialogs, client)
@@ -44,7 +44,7 @@ fn leaves_all<R: Replica>(gateway: u8, replica: &R, dialogs: &Dialogs, op: &Op) 
             client,
             counter,
             ..
-        } => *counter != 0 || is_left(gateway, replica, dialogs, client),
+        } => *counter != 0 || stays_bound(gateway, replica, dialogs, client),
         Op::Put { .. } | Op::Ack { .. } | Op::Retain { .. } => true,
     }
 }

@@ -16,7 +16,7 @@ use Rattle.gw_answer.specs.declared.refusal.Refusal.{Refusal}
 use Rattle.gw_shift.specs.Calling.{NoneMade, MadeInRow}
 use Rattle.gw_shift.specs.declared.fault.CallFault.TheVariants as faults
 use Rattle.gw_serve.specs.declared.row.End.TheVariants.{Failed}
-use Rattle.gw_serve.specs.inner.Rows.{IsCalled, IsEnd, numbers_from}
+use Rattle.gw_serve.specs.inner.Rows.{AreCalled, IsEnd, numbers_from}
 use Rattle.gw_serve.specs.Serving.{is_frame, Gains}
 use Rattle.gw_serve.proofs.Gaining.{gains_row, gains_more, only_memory, memory_is_not_behind}
 
@@ -35,7 +35,7 @@ both_maps f (c ∷ called) = ap (λ (ns : List ℕ). f c.taken ∷ ns) (both_map
 
 -- the first became calls, and the others are left; memory may have run out at the gateway
 pub row_rest : (before : Holder) (numbers : List ℕ) (called : List Called) (taken all : List Taken) (left rest : List ℕ) (trouble : Option Trouble) (after : Holder) → IfSome trouble (λ t. t ≡ troubles.Memory)
-    → IsCalled before numbers called after → all ≡ taken ++ map taken_of called → rest ≡ left ++ drop (length called) numbers → IsHandled before numbers taken left trouble all rest after
+    → AreCalled before numbers called after → all ≡ taken ++ map taken_of called → rest ≡ left ++ drop (length called) numbers → IsHandled before numbers taken left trouble all rest after
 row_rest before numbers called taken all left rest trouble after only made noted kept =
     let more : List Taken = map taken_of called in
     let steps : Gains before (map step_of more) after =
@@ -55,7 +55,7 @@ row_rest before numbers called taken all left rest trouble after only made noted
 
 -- all became calls
 pub row_all : (before : Holder) (numbers : List ℕ) (called : List Called) (taken all : List Taken) (left : List ℕ) (trouble : Option Trouble) (after : Holder) → IfSome trouble (λ t. t ≡ troubles.Memory)
-    → IsCalled before numbers called after → length called ≡ length numbers → all ≡ taken ++ map taken_of called → IsHandled before numbers taken left trouble all left after
+    → AreCalled before numbers called after → length called ≡ length numbers → all ≡ taken ++ map taken_of called → IsHandled before numbers taken left trouble all left after
 row_all before numbers called taken all left trouble after only made whole noted =
     let none : drop (length called) numbers ≡ [] = drop_all (length called) numbers (omega (arith, whole)) in
     row_rest before numbers called taken all left left trouble after only made noted
@@ -63,7 +63,7 @@ row_all before numbers called taken all left trouble after only made whole noted
 
 -- the worker must end
 pub row_failed : (before : Holder) (numbers : List ℕ) (called : List Called) (taken all : List Taken) (left rest : List ℕ) (trouble : Trouble) (after : Holder)
-    → IsCalled before numbers called after → (trouble ≡ troubles.Behind → 0 < seen_by after) → IsHandled before numbers taken left (Some trouble) all rest after
+    → AreCalled before numbers called after → (trouble ≡ troubles.Behind → 0 < seen_by after) → IsHandled before numbers taken left (Some trouble) all rest after
 row_failed before numbers called taken all left rest trouble after made behind = record {
   gains = (map (λ (c : Called). c.taken.step) called, made.gains);
   done = λ none. absurd (true≢false (ap is_some none));

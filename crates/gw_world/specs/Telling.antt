@@ -19,9 +19,9 @@ pub data Told : Type 0 where
   Silent : Told
 
 -- an answer by its value, whoever has a share of it
-abbrev pub told : Answer → Told
-told (Node answer) = Said (said answer)
-told (Row answers) = AllSaid (map said answers)
-told (Views views topics) = Shown views topics
-told (Records count) = Read count
-told Nothing = Silent
+abbrev pub answer_value : Answer → Told
+answer_value (Node answer) = Said (said answer)
+answer_value (Row answers) = AllSaid (map said answers)
+answer_value (Views views topics) = Shown views topics
+answer_value (Records count) = Read count
+answer_value Nothing = Silent

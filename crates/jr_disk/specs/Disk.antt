@@ -111,7 +111,7 @@ StaysArranged None after = Unit {0}
 StaysArranged (Some plan) after = after ≡ Some plan
 
 -- memory was refused in the call: it failed, nothing went out, and what is arranged still is
-abbrev pub IsWanting : {T E : Type 0} → Result T E → Slots → Slots → Option (Option Plan)
+abbrev pub WantsMemory : {T E : Type 0} → Result T E → Slots → Slots → Option (Option Plan)
     → Option (Option Plan)
     → Type 0
-IsWanting result old new before after = IsErr result × (new ≡ old) × (after ≡ before)
+WantsMemory result old new before after = IsErr result × (new ≡ old) × (after ≡ before)

@@ -40,12 +40,12 @@ AppendedAs (Some plan) old slot bytes (Err Halted) new after = Unit {0}
 -- ---- an opening
 
 -- an opening does not meet the failure that is arranged: it appends only if the journal is new
-abbrev pub is_quiet : Option (Option Plan) → Bool → Bool
-is_quiet None fresh = false
-is_quiet (Some None) fresh = true
-is_quiet (Some (Some (Stop k))) fresh = not fresh
-is_quiet (Some (Some KeepBack)) fresh = not fresh
-is_quiet (Some (Some FailSync)) fresh = false
+abbrev pub misses_failure : Option (Option Plan) → Bool → Bool
+misses_failure None fresh = false
+misses_failure (Some None) fresh = true
+misses_failure (Some (Some (Stop k))) fresh = not fresh
+misses_failure (Some (Some KeepBack)) fresh = not fresh
+misses_failure (Some (Some FailSync)) fresh = false
 
 -- the disk is not to blame, and the same failure is arranged as before
 abbrev pub IsUnhurt : {T : Type 0} → Result T JournalFault → Option (Option Plan)

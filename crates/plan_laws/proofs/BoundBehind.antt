@@ -7,13 +7,13 @@ use Rattle.sn_tables.proofs.Ascending.{all_with}
 use Rattle.sn_session.specs.declared.session.Session.{Session}
 use Rattle.sn_session.specs.declared.change.SessionOp.{SessionOp}
 use Rattle.sn_session.specs.declared.change.SessionOp.TheVariants.{Take, Presence as SetPresence}
-use Rattle.sn_session.specs.Session.{empty_session, is_full, changed as session_changed, applied}
+use Rattle.sn_session.specs.Session.{empty_session, is_full, session_changed, applied}
 use Rattle.sn_frame.specs.declared.frame.Frame.{Frame}
 use Rattle.rep_op.specs.declared.op.Stamp.{Stamp}
 use Rattle.rep_op.specs.declared.op.Op.{Op}
 use Rattle.rep_op.specs.Orders.{name_of, stamp_cmp}
 use Rattle.rep_op.specs.Sets.{Same, same_client, operation_at}
-use Rattle.rep_model.specs.Views.{view, visible, gapless, session_of as session_made}
+use Rattle.rep_model.specs.Views.{view, visible, gapless, session_made}
 use Rattle.rep_model.proofs.Lookup.{or_else}
 use Rattle.rep_model.proofs.Greatest.{has, same_greatest}
 use Rattle.rep_model.proofs.Readers.{stamp_total, stamp_exact, same_client-true, operation_at_both, takes, has_take}
@@ -28,13 +28,13 @@ use Rattle.sn_plan.specs.declared.plan.Plan.{Plan}
 use Rattle.sn_plan.specs.declared.row.Row.{Row}
 use Rattle.sn_plan.specs.declared.row.Follow.{Follow}
 use Rattle.sn_plan.specs.declared.row.Follow.TheVariants as follows
-use Rattle.sn_local.specs.Bindings.{same_address, binding_cmp, is_apart, bound, is_of_other, unbound, binding_change, bindings_after, client_at, address_of, is_stamp_of, is_owned, has_owned, owned_bindings}
+use Rattle.sn_local.specs.Bindings.{same_address, binding_cmp, is_other_binding, bound, is_of_other, unbound, binding_change, bindings_after, client_at, address_of, is_stamp_of, is_owned, has_owned, owned_bindings}
 use Rattle.sn_plan.specs.Bound.{session_of}
 use Rattle.sn_plan.specs.Drafts.{Drafted, nothing, acked, lasting, moved}
 use Rattle.sn_plan.specs.Flush.{stamp_of, IsFlush, AreFlush, session_with}
 use Rattle.sn_local.specs.Lifetimes.{expires_at}
 use Rattle.sn_local.specs.Locals.{Local, after_all, owned}
-use Rattle.sn_plan.specs.Numbering.{planned, plan_with, rest_of, numbered, written, start_of, ack_of}
+use Rattle.sn_plan.specs.Numbering.{planned, plan_with, rest_of, numbered, changes_written, start_of, ack_of}
 use Rattle.sn_plan.specs.Others.{is_up, can_wake}
 use Rattle.sn_plan.specs.Own.{AddsNone}
 use Rattle.sn_local.specs.Seen.{Seen, seen_of}
@@ -74,7 +74,7 @@ module _ (P : Binding → Type 0) where
   -- a binding that is there after a new one is the new one, or was there
   all-bound : (a : Addr) (c : List ℕ) (bindings : List Binding) → P (record { address = a; client = c }) → AllByRecursion P bindings → AllByRecursion P (bound a c bindings)
   all-bound a c bindings new all =
-      all_with binding_cmp P (record { address = a; client = c }) (filter (is_apart a c) bindings) new (all-kept (is_apart a c) bindings all)
+      all_with binding_cmp P (record { address = a; client = c }) (filter (is_other_binding a c) bindings) new (all-kept (is_other_binding a c) bindings all)
 
   -- one that is there after the end of a client's binding was there, and is of another
   all-unbound : (c : List ℕ) (bindings : List Binding) → AllByRecursion P bindings → AllByRecursion (λ (b : Binding). P b × (is_of_other c b ≡ true)) (unbound c bindings)
@@ -224,7 +224,7 @@ module _ (g : ℕ) (c : List ℕ) (S : List Op) (d : Drafted) (plan : Plan) (pla
   unfolding planned
   plan-local =
       let seen : Seen = seen_of S in
-      let m = and_then-some (rest_of g c (λ e. seen.seq e g) seen.clock d) (written c g d.changes (start_of g (seen.of c) (seen.epoch c))) plan planned_so in
+      let m = and_then-some (rest_of g c (λ e. seen.seq e g) seen.clock d) (changes_written c g d.changes (start_of g (seen.of c) (seen.epoch c))) plan planned_so in
       let n = map-some (plan_with d) (numbered g c (λ e. seen.seq e g) seen.clock d (m.0.ops ++ map (ack_of c) d.acks)) plan m.2 in
       ap (λ (p : Plan). p.local) (sym n.2)
 

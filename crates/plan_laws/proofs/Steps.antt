@@ -14,7 +14,7 @@ use Rattle.sn_frame.specs.declared.frame.Frame.TheVariants as frames
 use Rattle.sn_frame.specs.FlagBits.{qos_of}
 use Rattle.rep_op.specs.declared.op.Op.{Op}
 use Rattle.rep_op.specs.declared.op.Put.{Put}
-use Rattle.rep_ops.specs.Making.{AreWellMade, AreApart}
+use Rattle.rep_ops.specs.Making.{AreWellMade, HaveOwnNames}
 use Rattle.sn_tables.specs.Levels.{is_qos}
 use Rattle.rep_op.specs.Ranges.{is_message, is_will}
 use Rattle.rep_op.specs.Sets.{Same}
@@ -36,7 +36,7 @@ use Rattle.sn_plan.specs.Bound.{session_of}
 use Rattle.sn_plan.specs.Drafts.{Drafted, nothing, changed, put_all, lasting, sent, moved}
 use Rattle.sn_plan.specs.Flush.{AreFlush}
 use Rattle.sn_local.specs.Locals.{Local, no_local, after_all, owned}
-use Rattle.sn_plan.specs.Numbering.{planned, plan_with, rest_of, numbered as numbered_all, written, start_of, ack_of}
+use Rattle.sn_plan.specs.Numbering.{planned, plan_with, rest_of, numbered as numbered_all, changes_written, start_of, ack_of}
 use Rattle.sn_plan.specs.Others.{other}
 use Rattle.sn_plan.specs.Own.{IsOfDraft, AreFresh, AddsNone}
 use Rattle.sn_local.specs.Seen.{Seen, seen_of}
@@ -72,7 +72,7 @@ use Rattle.plan_laws.proofs.Serving.{among-fine, kept-fine, publish_in-sound, pu
 -- ---- what a plan makes: operations that make a delta, and dialogs in range
 
 pub record Makes (plan : Plan) : Type 0 where
-  pub apart : AreApart plan.ops
+  pub apart : HaveOwnNames plan.ops
   pub moves : AllByRecursion IsMove plan.local
 
 module _ (g : ℕ) (S : List Op) (plan : Plan) (numbered : 1 ≤ g) (flush : AreFlush g S) (made : AreWellMade S) (drafted : IsOfDraft g (seen_of S) plan) where
@@ -83,7 +83,7 @@ module _ (g : ℕ) (S : List Op) (plan : Plan) (numbered : 1 ≤ g) (flush : Are
   unfolding planned
   plan-local c d e =
       let seen : Seen = seen_of S in
-      let m = and_then-some (rest_of g c (λ e. seen.seq e g) seen.clock d) (written c g d.changes (start_of g (seen.of c) (seen.epoch c))) plan e in
+      let m = and_then-some (rest_of g c (λ e. seen.seq e g) seen.clock d) (changes_written c g d.changes (start_of g (seen.of c) (seen.epoch c))) plan e in
       let n = map-some (plan_with d) (numbered_all g c (λ e. seen.seq e g) seen.clock d (m.0.ops ++ map (ack_of c) d.acks)) plan m.2 in
       ap (λ (p : Plan). p.local) (sym n.2)
 

@@ -16,14 +16,14 @@ use Rattle.rep_op.specs.declared.op.Put.{Put}
 use Rattle.rep_op.specs.declared.op.Op.{Op}
 use Rattle.rep_op.specs.declared.op.Op.TheVariants.{Session as OfSession, Put as OfPut, Ack, Retain as OfRetain}
 use Rattle.rep_op.specs.Orders.{ShareName, HasTwice, put_cmp, clock_of}
-use Rattle.rep_ops.specs.Making.{AreWellMade, AreApart}
+use Rattle.rep_ops.specs.Making.{AreWellMade, HaveOwnNames}
 use Rattle.rep_op.specs.Ranges.{is_change, is_session}
 use Rattle.rep_op.specs.Sets.{operation_at, put_at, retain_at}
 use Rattle.rep_op.specs.WellMade.{is_stamp, is_counted, is_put, is_well_made}
 use Rattle.rep_ops.proofs.Rising.{all_at}
 use Rattle.rep_model.specs.declared.view.ClientView.{ClientView}
 use Rattle.rep_model.specs.Fresh.{one_more, next_epoch, next_seq, next_clock, greatest_epoch, largest, seq_of, clock_in}
-use Rattle.rep_model.specs.Views.{visible, history, session_of, view}
+use Rattle.rep_model.specs.Views.{visible, history, session_made, view}
 use Rattle.rep_model.proofs.Lookup.{or_else}
 use Rattle.rep_model.proofs.Readers.{put_total, operation_at_both, put_at_both, retain_at_both}
 use Rattle.sn_plan.proofs.Standing.{retain-alone}
@@ -32,7 +32,7 @@ use Rattle.sn_plan.specs.declared.draft.Posted.{Posted}
 use Rattle.sn_plan.specs.declared.plan.Plan.{Plan}
 use Rattle.sn_plan.specs.Drafts.{Drafted}
 use Rattle.sn_plan.specs.Flush.{IsFlush, stamp_of}
-use Rattle.sn_plan.specs.Numbering.{Written, another, taken_at, taken, counted, write, written, own_counter, epoch_of, start_of, put_at_seq, with_puts, handed_to, handed_at_seq, with_handed, retain_at_clock, with_retain, ack_of}
+use Rattle.sn_plan.specs.Numbering.{Written, another, taken_at, taken, counted, write, changes_written, own_counter, epoch_of, start_of, put_at_seq, with_puts, handed_to, handed_at_seq, with_handed, retain_at_clock, with_retain, ack_of}
 use Rattle.sn_plan.specs.Own.{IsFresh, AreFresh}
 use Rattle.sn_local.specs.Seen.{seen_of}
 use Rattle.sn_plan.specs.Plans.{plan_of}
@@ -122,10 +122,10 @@ module _ (c : List ℕ) (g : ℕ) (numbered : nat_le 1 g ≡ true) where
   write-gives (Released id) w x h r e = counted-gives (Released id) w x refl h r e
   write-gives (SetOutbound exchange next_id) w x h r e = counted-gives (SetOutbound exchange next_id) w x refl h r e
 
-  written-ready : (changes : List SessionOp) (w x : Written) → AllByRecursion IsChange changes → Ready w → written c g changes w ≡ Some x → Ready x
+  written-ready : (changes : List SessionOp) (w x : Written) → AllByRecursion IsChange changes → Ready w → changes_written c g changes w ≡ Some x → Ready x
   written-ready [] w x all r e = subst Ready (same_Some w x e) r
   written-ready (change ∷ rest) w x all r e =
-      let m = and_then-some (written c g rest) (write c g change w) x e in
+      let m = and_then-some (changes_written c g rest) (write c g change w) x e in
       written-ready rest m.0 x all.1 (write-gives change w m.0 all.0 r m.1) m.2
 
   -- ---- acknowledgements and messages
@@ -332,7 +332,7 @@ module _ (g : ℕ) (c : List ℕ) (S : List Op) (d : Drafted) (plan : Plan) (pla
   abbrev acks : List Op
   acks = map (ack_of c) d.acks
 
-  begun : (h : List SessionOp) → is_some (session_of h) ≡ true → 1 ≤ length h
+  begun : (h : List SessionOp) → is_some (session_made h) ≡ true → 1 ≤ length h
   begun [] e = absurd (true≢false (sym e))
   begun (x ∷ h) e = omega arith
 
@@ -379,7 +379,7 @@ module _ (g : ℕ) (c : List ℕ) (S : List Op) (d : Drafted) (plan : Plan) (pla
       (no-ack-pairs b.0 more)
       (all-given (λ x. AllByRecursion (ApartIfAck x) b.0) (λ x. all-weaken IsNoAck (ApartIfAck x) (no-ack-second x) b.0 more) (cut.w.ops ++ acks)))
 
-  pub plan-apart : AreFresh S plan.ops → AreApart plan.ops
+  pub plan-apart : AreFresh S plan.ops → HaveOwnNames plan.ops
   plan-apart fresh = record {
     well_made = plan-made;
     once = λ t. both-apart t.2 t.3

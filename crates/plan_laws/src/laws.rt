@@ -7,7 +7,7 @@ ghost use Rattle.sn_session.specs.declared.session.Session.{Session};
 ghost use Rattle.sn_frame.specs.declared.frame.Frame.{Frame};
 ghost use Rattle.rep_op.specs.declared.op.Op.{Op};
 ghost use Rattle.rep_op.specs.Sets.{Same};
-ghost use Rattle.rep_ops.specs.Making.{AreApart, AreWellMade, IsDeltaOf};
+ghost use Rattle.rep_ops.specs.Making.{HaveOwnNames, AreWellMade, IsDeltaOf};
 ghost use Rattle.rep_model.specs.Views.{view};
 ghost use Rattle.sn_local.specs.declared.config.Addr.{Addr};
 ghost use Rattle.sn_plan.specs.declared.plan.Plan.{Plan};
@@ -27,11 +27,11 @@ ghost use Rattle.plan_laws.specs.BoundUp.{IsUp};
 pub fn every_plan()
     ensures steps { (g lifetime : ℕ) (predefined : Entries) (S : List Op) (local : Local)
         (a : Addr) (frame : Frame) (now : ℕ) (plan : Plan) → KeepsWell g S local
-        → step g lifetime predefined (seen_of S) local a frame now ≡ Some plan → AreApart plan.ops }
+        → step g lifetime predefined (seen_of S) local a frame now ≡ Some plan → HaveOwnNames plan.ops }
     ensures ticks { (g lifetime advertise : ℕ) (field : List Addr) (predefined : Entries)
         (S : List Op) (local : Local) (now : ℕ) (plan : Plan) → KeepsWell g S local
         → tick g lifetime advertise field predefined (seen_of S) local now ≡ Some plan
-        → AreApart plan.ops }
+        → HaveOwnNames plan.ops }
 {}
 
 /// A gateway keeps well, from its start on: when it takes what a step or a tick of its own made,

@@ -22,7 +22,7 @@ use Rattle.sn_plan.specs.declared.row.Row.{Row}
 use Rattle.sn_plan.specs.declared.row.Follow.TheVariants as follows
 use Rattle.sn_plan.specs.Bound.{session_of}
 use Rattle.sn_plan.specs.Drafts.{Drafted, nothing, lasting, moved}
-use Rattle.sn_plan.specs.Numbering.{Written, another, taken_at, taken, counted, write, written, start_of, ack_of, planned}
+use Rattle.sn_plan.specs.Numbering.{Written, another, taken_at, taken, counted, write, changes_written, start_of, ack_of, planned}
 use Rattle.sn_plan.specs.Plans.{plan_of, plan_of_puts, plan_without}
 use Rattle.sn_plan.specs.Rows.{row_of, row_lasting, plan_for}
 use Rattle.sn_plan.proofs.Lists.{and_then-some, map-some, all-append, all-weaken, all-map}
@@ -83,10 +83,10 @@ module _ (seen : Seen) (A : List ℕ → ℕ → Type 0) where
     write-gives (Take session) w x h r e = taken-gives session w x h r e
     write-gives change w x h r e = counted-gives change w x h r e
 
-    written-ready : (changes : List SessionOp) (w x : Written) → AllByRecursion (IsCarried seen A c) changes → Ready w → written c g changes w ≡ Some x → Ready x
+    written-ready : (changes : List SessionOp) (w x : Written) → AllByRecursion (IsCarried seen A c) changes → Ready w → changes_written c g changes w ≡ Some x → Ready x
     written-ready [] w x all r e = subst Ready (same_Some w x e) r
     written-ready (change ∷ rest) w x all r e =
-        let m = and_then-some (written c g rest) (write c g change w) x e in
+        let m = and_then-some (changes_written c g rest) (write c g change w) x e in
         written-ready rest m.0 x all.1 (write-gives change w m.0 all.0 r m.1) m.2
 
   numbered-settled : (g : ℕ) (seq clock : List ℕ → Option ℕ) (op : Op) → IsNumbered g seq clock op → IsSettled op

@@ -30,8 +30,8 @@ use Rattle.sn_flow.specs.declared.accept.GivenWill.TheVariants.{AsItIs, Deleted,
 use Rattle.sn_flow.specs.Accept.{cleared, accept, has_no_room}
 use Rattle.sn_flow.specs.Connection.{has_bit, request_of, refusal_of, connect_row, connect}
 use Rattle.sn_flow.specs.WillUpdate.{topic_asked}
-use Rattle.sn_flow.specs.Wills.{congestion, not_supported, will_of, dismissed, concluded, topic_given, topic_row, topic_in, topic_at, message_row, message_in, message_at}
-use Rattle.put_laws.specs.Causes.{by_topic, gives_topic, by_message, gives_message, IsWelcome, BeganClean, IsCause}
+use Rattle.sn_flow.specs.Wills.{congestion, not_supported, will_of, dismissed, concluded, topic_given, topic_row, will_topic_in, topic_at, message_row, message_in, message_at}
+use Rattle.put_laws.specs.Causes.{client_by_topic, gives_topic, by_message, gives_message, IsWelcome, BeganClean, IsCause}
 use Rattle.put_laws.proofs.Acked.{none-there}
 use Rattle.put_laws.proofs.Quiet.{QuietRow, stray-quiet}
 use Rattle.put_laws.proofs.Fitting.{Cause, FitsRow, quiet-fits, heard-fits, choose-fits}
@@ -149,7 +149,7 @@ module _ (seen : Seen) (local : Local) (a : Addr) (now : ℕ) (frame : Frame)
     topic_row-fits None = concluded-fits Deleted
     topic_row-fits (Some will) = given-fits (topic_asked will)
 
-    topic_in-fits : (bound : Option (List ℕ)) (will : Option Will) (awaited : Awaited) → ByFrame (by_topic bound dialog awaited) (topic_in seen a bound dialog will now awaited)
+    topic_in-fits : (bound : Option (List ℕ)) (will : Option Will) (awaited : Awaited) → ByFrame (client_by_topic bound dialog awaited) (will_topic_in seen a bound dialog will now awaited)
     topic_in-fits bound will Topic =
         heard-fits seen (IsCause seen local a frame) (Some dialog.request.client) bound now (topic_row seen dialog will now) (topic_row-fits will)
     topic_in-fits bound will (Message topic) = stray-fits bound

@@ -37,7 +37,7 @@ use Rattle.sn_publish.specs.declared.meaning.Meant.TheVariants.{Topic, Refused}
 use Rattle.sn_publish.specs.Publishing.{publication_meant, publish_at, publish_meant, release}
 use Rattle.sn_exchange.specs.Exchanges.{is_served}
 use Rattle.sn_deliver.specs.Serving.{publish_of, publish_in_at, pubrel_of}
-use Rattle.sn_deliver.specs.Waking.{claimed, answered, has_nothing, woken_by, woken_if, woken, wake_of, wake}
+use Rattle.sn_deliver.specs.Waking.{claimed, ping_answered, has_nothing, woken_by, woken_if, woken, wake_of, wake}
 use Rattle.sn_plan.proofs.Lists.{fold_one_more}
 use Rattle.row_laws.proofs.Keeping.{of_register, of_subscribe, of_unsubscribe, of_will_topic_update, of_will_msg_update}
 use Rattle.put_laws.proofs.Grown.{IsServed}
@@ -160,9 +160,9 @@ module _ (seen : Seen) (a : Addr) (now : ℕ) where
     woken_by-quiet : (state : State) → s.presence ≡ state → QuietRow seen (Some c) (woken_by a c s idle d state)
     woken_by-quiet Active is = (refl, none, tt)
     woken_by-quiet Asleep is =
-        choose-row seen idle (Some c) (row_of follows.Nothing c (answered a d)) (row_of follows.Resend c (changed (Presence Awake s.duration) d)) (refl, none, tt) (refl, none, awake-served)
+        choose-row seen idle (Some c) (row_of follows.Nothing c (ping_answered a d)) (row_of follows.Resend c (changed (Presence Awake s.duration) d)) (refl, none, tt) (refl, none, awake-served)
     woken_by-quiet Awake is =
-        choose-row seen idle (Some c) (row_of follows.Nothing c (answered a (changed (Presence Asleep s.duration) d))) (row_of follows.Resend c d) (refl, none, tt)
+        choose-row seen idle (Some c) (row_of follows.Nothing c (ping_answered a (changed (Presence Asleep s.duration) d))) (row_of follows.Resend c d) (refl, none, tt)
         (refl, none, ap (λ (x : Session). is_served x.presence) kept ∙ ap is_served is)
     woken_by-quiet Disconnected is = tt
     woken_by-quiet Lost is = tt

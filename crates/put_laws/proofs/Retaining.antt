@@ -7,7 +7,7 @@ use Rattle.sn_session.specs.declared.session.Session.{Session}
 use Rattle.sn_session.specs.declared.change.SessionOp.{SessionOp}
 use Rattle.sn_session.specs.Session.{empty_session}
 use Rattle.sn_tables.specs.Received.{is_received, id_has_no_room}
-use Rattle.sn_tables.specs.Subscriptions.{qos_of as subscribed_at, filter_has_no_room}
+use Rattle.sn_tables.specs.Subscriptions.{filter_qos, filter_has_no_room}
 use Rattle.sn_frame.specs.declared.flags.Qos.{Qos}
 use Rattle.sn_frame.specs.declared.flags.Qos.TheVariants as levels
 use Rattle.sn_frame.specs.declared.frame.Frame.{Frame}
@@ -58,7 +58,7 @@ use Rattle.row_laws.proofs.Retaining.{plan-wins, plan-others}
 use Rattle.row_laws.proofs.Waiting.{plan-handed, plan-retained}
 use Rattle.step_laws.proofs.Drafting.{followed_for_made, pubrel_of_made, ack_of_made, wake_made, cleaned_made, expired_made}
 use Rattle.put_laws.specs.Puts.{IsOfGateway}
-use Rattle.put_laws.specs.Retained.{kept_meant, kept_at, kept_bound, kept_by_level, kept_of, kept_lost, kept_due, kept_by_tick, handed_with, handed_asked, handed_at, handed_bound, handed_of}
+use Rattle.put_laws.specs.Retained.{kept_meant, kept_at, kept_bound, kept_by_level, kept_of, kept_lost, kept_due, kept_by_tick, handed_with, handed_asked, handed_at, handed_bound, handed_by}
 use Rattle.put_laws.proofs.Putting.{of-draft}
 
 -- ---- the row of a PUBLISH
@@ -139,7 +139,7 @@ module _ (predefined : Entries) (seen : Seen) (waiting : ℕ) (a : Addr) (s : Se
   granted-handed filter qos None = refl
   granted-handed filter qos (Some named) =
       ap (λ xs. xs ++ handed_for seen filter qos waiting)
-      (changed_if-bare (subscribe_change filter qos (subscribed_at filter s.subscriptions)) (changed_if named.change nothing) (changed_if-bare named.change nothing refl))
+      (changed_if-bare (subscribe_change filter qos (filter_qos filter s.subscriptions)) (changed_if named.change nothing) (changed_if-bare named.change nothing refl))
 
   asked-handed : (asked : Asked) (qos : ℕ) → (subscribe_asked seen waiting a s bits msg_id field asked qos).handed ≡ handed_asked seen waiting s bits field asked qos
   asked-handed (askings.Refused code) qos = refl
@@ -174,7 +174,7 @@ made-nothing row h = (no_retain row.draft h, hands-none row.client row.draft.han
 abbrev IsRow : ℕ → Entries → Seen → Local → Addr → Frame → ℕ → Type 0
 IsRow g predefined seen local a frame now =
     ((row_for g predefined seen local a frame now).draft.retain ≡ kept_of predefined seen local a frame)
-    × (hands (row_for g predefined seen local a frame now).client (row_for g predefined seen local a frame now).draft.handed ≡ handed_of predefined seen local a frame)
+    × (hands (row_for g predefined seen local a frame now).client (row_for g predefined seen local a frame now).draft.handed ≡ handed_by predefined seen local a frame)
 
 row-is : (g : ℕ) (predefined : Entries) (seen : Seen) (local : Local) (a : Addr) (frame : Frame) (now : ℕ) → IsRow g predefined seen local a frame now
 row-is g predefined seen local a (frames.Connect flags protocol duration client) now = made-nothing (row_for g predefined seen local a (frames.Connect flags protocol duration client) now) (connect-made seen local a flags.bits protocol duration client now)
@@ -228,7 +228,7 @@ module _ (g lifetime : ℕ) (predefined : Entries) (seen : Seen) (local : Local)
   unfolding step
   step-retained = next-retained g seen predefined a now (row_lasting (expires_at lifetime now) (row_for g predefined seen local a frame now)) plan is ∙ ap option_to_list (row-is g predefined seen local a frame now).0
 
-  pub step-handed : handed_in plan.ops ≡ handed_of predefined seen local a frame
+  pub step-handed : handed_in plan.ops ≡ handed_by predefined seen local a frame
   unfolding step
   step-handed = next-handed g seen predefined a now (row_lasting (expires_at lifetime now) (row_for g predefined seen local a frame now)) plan is ∙ (row-is g predefined seen local a frame now).1
 

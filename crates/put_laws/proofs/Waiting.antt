@@ -5,7 +5,7 @@ use Rattle.rep_op.specs.declared.op.Op.{Op}
 use Rattle.rep_op.specs.declared.op.Op.TheVariants.{Session as OfSession, Put as OfPut, Ack, Retain as OfRetain}
 use Rattle.rep_op.specs.declared.op.Put.{Put}
 use Rattle.rep_op.specs.Orders.{name_of}
-use Rattle.rep_op.specs.Sets.{put_at, is_acknowledged, Stands}
+use Rattle.rep_op.specs.Sets.{put_at, is_acknowledged, HasOperation}
 use Rattle.rep_model.specs.Views.{pending}
 use Rattle.rep_model.proofs.Lookup.{or_else}
 use Rattle.rep_model.proofs.Pending.{pending-listed}
@@ -20,7 +20,7 @@ use Rattle.sn_plan.proofs.Standing.{fresh-stand}
 use Rattle.row_laws.proofs.Freshness.{IsUnacknowledged, plan-fresh, plan-unacked}
 use Rattle.put_laws.proofs.Stepping.{step-cause}
 use Rattle.put_laws.proofs.Timely.{tick-timely}
-use Rattle.put_laws.specs.Puts.{IsOfGateway, IsKept}
+use Rattle.put_laws.specs.Puts.{IsOfGateway, IsWaiting}
 use Rattle.put_laws.proofs.Putting.{of-draft}
 
 -- ---- the set has no message under the name of a new one
@@ -78,7 +78,7 @@ module _ (g : ℕ) (S : List Op) (plan : Plan) (is : IsOfGateway g S plan) where
   abbrev IsNew : Op → Type 0
   IsNew op = IsUnacknowledged S op × IsUnput S op
 
-  waits : (op : Op) → Stands (S ++ plan.ops) op → IsNew op → IsKept (S ++ plan.ops) op
+  waits : (op : Op) → HasOperation (S ++ plan.ops) op → IsNew op → IsWaiting (S ++ plan.ops) op
   waits (OfSession c stamp counter change) stands new = tt
   waits (OfPut c put) stands new =
       let name : ℕ × ℕ = (put.seq, put.origin) in
@@ -92,11 +92,11 @@ module _ (g : ℕ) (S : List Op) (plan : Plan) (is : IsOfGateway g S plan) where
   waits (Ack c origin first last) stands new = tt
   waits (OfRetain topic kept) stands new = tt
 
-  pub gateway-kept : AreFlush g S → AllByRecursion (IsKept (S ++ plan.ops)) plan.ops
+  pub gateway-kept : AreFlush g S → AllByRecursion (IsWaiting (S ++ plan.ops)) plan.ops
   gateway-kept flush =
       let h = of-draft g S plan is in
       let fresh : AreFresh S plan.ops = plan-fresh g h.client S h.draft plan h.is (flush h.client) h.apart in
-      all-both (Stands (S ++ plan.ops)) IsNew (IsKept (S ++ plan.ops)) waits plan.ops
+      all-both (HasOperation (S ++ plan.ops)) IsNew (IsWaiting (S ++ plan.ops)) waits plan.ops
       (fresh-stand S plan.ops fresh)
       (all-both (IsUnacknowledged S) (IsUnput S) IsNew (λ op a b. (a, b)) plan.ops
       (plan-unacked g h.client S h.draft plan h.is)

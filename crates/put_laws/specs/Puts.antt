@@ -111,8 +111,8 @@ puts_by_tick g advertise field seen local now =
     else puts_due seen (first_due g seen local now seen.all)
 
 -- this frame goes to the address
-abbrev pub IsAnswered : Addr → Frame → List Send → Type 0
-IsAnswered a answer sends = Contains sends (record { to = a; bytes = spelling answer })
+abbrev pub IsReplyTo : Addr → Frame → List Send → Type 0
+IsReplyTo a answer sends = Contains sends (record { to = a; bytes = spelling answer })
 
 -- the client that is bound to the address publishes to a topic, and these are the messages for the
 -- recipients at this quality of service
@@ -139,8 +139,8 @@ IsOfGateway g S plan =
     × (tick g lifetime advertise field predefined (seen_of S) local now ≡ Some plan))
 
 -- a message of these operations waits for its client in the set
-abbrev pub IsKept : List Op → Op → Type 0
-IsKept S (OfSession c stamp counter change) = Unit {0}
-IsKept S (OfPut c put) = pending_at c S (put.seq, put.origin) ≡ Some put
-IsKept S (Ack c origin first last) = Unit {0}
-IsKept S (OfRetain topic kept) = Unit {0}
+abbrev pub IsWaiting : List Op → Op → Type 0
+IsWaiting S (OfSession c stamp counter change) = Unit {0}
+IsWaiting S (OfPut c put) = pending_at c S (put.seq, put.origin) ≡ Some put
+IsWaiting S (Ack c origin first last) = Unit {0}
+IsWaiting S (OfRetain topic kept) = Unit {0}

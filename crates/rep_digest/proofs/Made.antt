@@ -14,7 +14,7 @@ use Rattle.rep_op.specs.Orders.{client_cmp, operation_cmp, put_cmp, stamp_cmp}
 use Rattle.rep_op.specs.Sets.{same_client, operation_of, operation_at, put_of, put_at, acknowledges, is_acknowledged}
 use Rattle.rep_ops.specs.Making.{AreWellMade}
 use Rattle.rep_op.specs.WellMade.{is_well_made}
-use Rattle.rep_op.specs.Values.{AreValues, IsValue}
+use Rattle.rep_op.specs.Values.{AreValues, IsOpValue}
 use Rattle.rep_model.specs.Views.{gapless, then_more, visible, history_at, history, pending, clients, names_client, is_named}
 use Rattle.rep_model.specs.Limits.{acknowledged}
 use Rattle.rep_model.specs.Ranges.{in_ranges, is_within, AreApartFrom, AreApart}
@@ -25,7 +25,7 @@ use Rattle.rep_model.proofs.Ranges.{apart-joined}
 use Rattle.rep_model.proofs.Greatest.{has, greatest-has}
 use Rattle.rep_model.proofs.Named.{clients-named, clients-ascend}
 use Rattle.rep_model.proofs.Limits.{in-acknowledged, apart-acknowledged}
-use Rattle.rep_digest.specs.Digests.{number_of, waiting, origin_entry, has_ranges, numbers_from, origin_entries, client_entry, client_entries, digest}
+use Rattle.rep_digest.specs.Digests.{number_as_range, waiting, origin_entry, has_ranges, numbers_from, origin_entries, client_entry, client_entries, digest}
 use Rattle.rep_digest.specs.WellMade.{IsRange, IsOrigin, IsSeen, IsEntry, ClientsAscend, AreClients, IsDigest}
 use Rattle.rep_digest.proofs.Waiting.{waiting_there}
 use Rattle.rep_digest.proofs.Said.{are_numbers}
@@ -42,7 +42,7 @@ abbrev IsNumber : ℕ → Type 0
 IsNumber n = (1 ≤ n) × (n < 2 ^ 64)
 
 module _ (c : List ℕ) where
-  one_stamp : (op : Op) → IsTrue (is_well_made op) → IsValue op → IfSome (operation_of c op) (λ e. IsStampValue e.0.0)
+  one_stamp : (op : Op) → IsTrue (is_well_made op) → IsOpValue op → IfSome (operation_of c op) (λ e. IsStampValue e.0.0)
   one_stamp (OfSession d s i change) m v =
       let w = and_parts _ _ m in
       let x = and_parts _ _ w.0 in
@@ -55,7 +55,7 @@ module _ (c : List ℕ) where
   one_stamp (Ack d o f l) m v = tt
   one_stamp (OfRetain t k) m v = tt
 
-  one_put : (op : Op) → IsTrue (is_well_made op) → IsValue op → IfSome (put_of c op) (λ e. IsNumber e.0.0)
+  one_put : (op : Op) → IsTrue (is_well_made op) → IsOpValue op → IfSome (put_of c op) (λ e. IsNumber e.0.0)
   one_put (OfSession d s i change) m v = tt
   one_put (OfPut d p) m v =
       let u = and_parts _ _ m in
@@ -68,7 +68,7 @@ module _ (c : List ℕ) where
   one_put (Ack d o f l) m v = tt
   one_put (OfRetain t k) m v = tt
 
-  one_ack : (name : ℕ × ℕ) (op : Op) → IsTrue (is_well_made op) → IsValue op → acknowledges c name op ≡ true → IsNumber name.0
+  one_ack : (name : ℕ × ℕ) (op : Op) → IsTrue (is_well_made op) → IsOpValue op → acknowledges c name op ≡ true → IsNumber name.0
   one_ack name (OfSession d s i change) m v e = absurd (true≢false (sym e))
   one_ack name (OfPut d p) m v e = absurd (true≢false (sym e))
   one_ack name (OfRetain t k) m v e = absurd (true≢false (sym e))
@@ -94,12 +94,12 @@ module _ (W : List Op) (made : AreWellMade W) (values : AreValues W) where
   stamp_there : (c : List ℕ) (name : Stamp × ℕ) → is_some (operation_at c W name) ≡ true → IsStampValue name.0
   stamp_there c name e = found_value (operation_at c W name) (IsStampValue name.0)
       (find-all operation_cmp operation_exact (operation_of c) (λ n _. IsStampValue n.0) W
-      (paired (λ op. IsTrue (is_well_made op)) IsValue (λ op. IfSome (operation_of c op) (λ e. IsStampValue e.0.0)) (one_stamp c) W made values) name) e
+      (paired (λ op. IsTrue (is_well_made op)) IsOpValue (λ op. IfSome (operation_of c op) (λ e. IsStampValue e.0.0)) (one_stamp c) W made values) name) e
 
   put_there : (c : List ℕ) (name : ℕ × ℕ) → is_some (put_at c W name) ≡ true → IsNumber name.0
   put_there c name e = found_value (put_at c W name) (IsNumber name.0)
       (find-all put_cmp put_exact (put_of c) (λ n _. IsNumber n.0) W
-      (paired (λ op. IsTrue (is_well_made op)) IsValue (λ op. IfSome (put_of c op) (λ e. IsNumber e.0.0)) (one_put c) W made values) name) e
+      (paired (λ op. IsTrue (is_well_made op)) IsOpValue (λ op. IfSome (put_of c op) (λ e. IsNumber e.0.0)) (one_put c) W made values) name) e
 
   ack_there : (c : List ℕ) (name : ℕ × ℕ) (V : List Op) → AreWellMade V → AreValues V → is_acknowledged c V name ≡ true → IsNumber name.0
   ack_there c name [] m v e = absurd (true≢false (sym e))
@@ -110,7 +110,7 @@ module _ (W : List Op) (made : AreWellMade W) (values : AreValues W) where
       ] refl e
 
   apart-waiting : (c : List ℕ) (o : ℕ) → AreApart (waiting c o W)
-  apart-waiting c o = apart-joined (filter_map (number_of o) (pending c W)) (are_numbers o (pending c W))
+  apart-waiting c o = apart-joined (filter_map (number_as_range o) (pending c W)) (are_numbers o (pending c W))
 
   -- ---- ranges
 
@@ -170,7 +170,7 @@ module _ (W : List Op) (made : AreWellMade W) (values : AreValues W) where
       one : (c d : List ℕ) → same_client c d ≡ true → IsClientId d → IsClientId c
       one c d e h = subst IsClientId (sym (same_client-true c d e)) h
 
-      client_value : (c : List ℕ) (op : Op) → IsValue op → names_client c op ≡ true → IsClientId c
+      client_value : (c : List ℕ) (op : Op) → IsOpValue op → names_client c op ≡ true → IsClientId c
       client_value c (OfSession d s i change) v e = one c d e v.0
       client_value c (OfPut d p) v e = one c d e v.0
       client_value c (Ack d o f l) v e = one c d (and_parts (same_client c d) (nat_le f l) e).0 v.0

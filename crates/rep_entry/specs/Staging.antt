@@ -15,7 +15,7 @@ use Rattle.rep_shared.specs.Rows.{own}
 use Rattle.rep_shared.specs.Steps.{capped}
 use Rattle.rep_log.specs.declared.log.Log.{Log}
 use Rattle.rep_entry.specs.declared.change.Change.{Change}
-use Rattle.rep_log.specs.Logs.{IsFolded, all_of, whole_of}
+use Rattle.rep_log.specs.Logs.{IsFolded, all_in_log, whole_of}
 use Rattle.rep_log.specs.Mail.{Range, Rising, NoneCovered, InOne, weave}
 use Rattle.rep_entry.specs.Spans.{AreFreeOutside}
 use Rattle.rep_log.specs.Origins.{AreOrigins, ranges_on}
@@ -36,11 +36,11 @@ pub record IsChange (change : Change) : Type 0 where
 -- ---- what contracts see of a client: its operations
 
 -- the origin and the range of an acknowledgement; none of any other operation
-abbrev pub range_of : Op → Option Range
-range_of (OfSession c stamp counter change) = None
-range_of (OfPut c put) = None
-range_of (Ack c origin first last) = Some (origin, (first, last))
-range_of (OfRetain topic kept) = None
+abbrev pub acked_range : Op → Option Range
+acked_range (OfSession c stamp counter change) = None
+acked_range (OfPut c put) = None
+acked_range (Ack c origin first last) = Some (origin, (first, last))
+acked_range (OfRetain topic kept) = None
 
 -- what a change builds on, among a client's operations
 abbrev pub base_in : List ℕ → List Op → Base
@@ -48,7 +48,7 @@ base_in c ops =
     record {
       known = operations c ops;
       waiting = messages (puts c ops);
-      ranges = filter_map range_of ops;
+      ranges = filter_map acked_range ops;
     }
 
 -- the operations that are kept of a client with the change
@@ -64,8 +64,8 @@ abbrev pub IsLogFit : List ((Stamp × ℕ) × SessionOp) → Option Log → ℕ 
 IsLogFit known None room = ⊤
 IsLogFit known (Some log) room =
     IsFolded (whole_of known log)
-    × T (is_sorted operation_cmp (all_of known log))
-    × AreChanges (all_of known log)
+    × T (is_sorted operation_cmp (all_in_log known log))
+    × AreChanges (all_in_log known log)
     × (log.anew ≡ false → length known + length log.more ≤ room)
 
 -- no acknowledgements are staged, or ranges of origins that ascend

@@ -23,14 +23,14 @@ const FEW: usize = 8;
 
 /// Whether the message is not acknowledged.
 fn is_left(acks: &Acks, put: &Put) -> bool
-    ensures { result ≡ mail.is_left (ranges_in acks.now) put.now }
+    ensures { result ≡ mail.is_uncovered (ranges_in acks.now) put.now }
 {
     !acks.covers(put.seq, put.origin)
 }
 
 /// Drops the messages that are acknowledged. All are asked.
 fn drop_any(all: &mut Vec<Put>, acks: &Acks)
-    ensures { all.new.items ≡ filter (mail.is_left (ranges_in acks.now)) all.old.items }
+    ensures { all.new.items ≡ filter (mail.is_uncovered (ranges_in acks.now)) all.old.items }
 {
     all.retain(|put| is_left(acks, put));
 }
@@ -53,7 +53,7 @@ fn drop_each(all: &mut Vec<Put>, from: usize, count: usize, acks: &Acks)
     requires bound { from + count ≤ length all.old.items }
     requires front { NoneCovered (ranges_in acks.now) (take from all.old.items) }
     requires back { NoneCovered (ranges_in acks.now) (drop count (drop from all.old.items)) }
-    ensures { all.new.items ≡ filter (mail.is_left (ranges_in acks.now)) all.old.items }
+    ensures { all.new.items ≡ filter (mail.is_uncovered (ranges_in acks.now)) all.old.items }
 {
     let mut at = from + count;
     while from < at {
@@ -67,7 +67,7 @@ fn drop_each(all: &mut Vec<Put>, from: usize, count: usize, acks: &Acks)
 fn drop_covered(all: &mut Vec<Put>, span: Span, acks: &Acks)
     requires rising { Rising all.old.items }
     requires free { AreFreeOutside span (ranges_in acks.now) all.old.items }
-    ensures { all.new.items ≡ filter (mail.is_left (ranges_in acks.now)) all.old.items }
+    ensures { all.new.items ≡ filter (mail.is_uncovered (ranges_in acks.now)) all.old.items }
 {
     let (from, count) = between(all.as_slice(), span);
     if count > FEW {
@@ -162,7 +162,7 @@ pub(crate) fn wait_on(
     requires rising { Rising waiting }
     requires woven { Rising (weave waiting news.items) }
     requires free { AreFreeOutside span (ranges_in acks.now) (weave waiting news.items) }
-    ensures { result ≡ filter (mail.is_left (ranges_in acks.now)) (weave waiting news.items) }
+    ensures { result ≡ filter (mail.is_uncovered (ranges_in acks.now)) (weave waiting news.items) }
 {
     let soonest = waiting.soonest_with(news.as_slice());
     let count = waiting.len().saturating_add(news.len());
@@ -180,7 +180,7 @@ fn settled(room: Vec<Put>, waiting: Vec<Put>, news: Vec<Put>, span: Span, acks: 
     requires rising { Rising waiting.items }
     requires woven { Rising (weave waiting.items news.items) }
     requires free { AreFreeOutside span (ranges_in acks.now) (weave waiting.items news.items) }
-    ensures { result.items ≡ filter (mail.is_left (ranges_in acks.now))
+    ensures { result.items ≡ filter (mail.is_uncovered (ranges_in acks.now))
         (weave waiting.items news.items) }
 {
     let mut all = joined(room, waiting, news);
@@ -190,7 +190,7 @@ fn settled(room: Vec<Put>, waiting: Vec<Put>, news: Vec<Put>, span: Span, acks: 
 
 /// How many of the messages are not acknowledged. All are asked.
 fn count_each(puts: &[Put], acks: &Acks) -> usize
-    ensures count { result ≡ count_by (mail.is_left (ranges_in acks.now)) puts.now }
+    ensures count { result ≡ count_by (mail.is_uncovered (ranges_in acks.now)) puts.now }
     ensures bound { result ≤ length puts.now }
 {
     puts.iter().filter(|put| is_left(acks, *put)).count()
@@ -200,7 +200,7 @@ fn count_each(puts: &[Put], acks: &Acks) -> usize
 fn count_left(puts: &[Put], span: Span, acks: &Acks) -> usize
     ensures { Rising puts.now
         → AreFreeOutside span (ranges_in acks.now) puts.now
-        → result ≡ count_by (mail.is_left (ranges_in acks.now)) puts.now }
+        → result ≡ count_by (mail.is_uncovered (ranges_in acks.now)) puts.now }
 {
     let (from, count) = between(puts, span);
     let asked = puts.split_at(from).1.split_at(count).0;
@@ -220,7 +220,7 @@ pub(crate) fn count_settled(
         → AreFreeOutside span (ranges_in acks.now) waiting.now
         → AreFreeOutside span (ranges_in acks.now) news.now
         → IfOk result (λ count. count
-        ≡ length (filter (mail.is_left (ranges_in acks.now)) (weave waiting.now news.now))) }
+        ≡ length (filter (mail.is_uncovered (ranges_in acks.now)) (weave waiting.now news.now))) }
 {
     sum(
         count_left(waiting, span, acks),

@@ -16,7 +16,7 @@ use Rattle.rep_model.proofs.Readers.{client_total, client_exact}
 use Rattle.rep_model.proofs.Joins.{all-both, all-weaker}
 use Rattle.rep_plain.specs.declared.entry.Entry.{Entry}
 use Rattle.rep_shared.specs.Steps.{capped}
-use Rattle.rep_shared.specs.Rows.{flat, own, or_nothing, moved, has_any, count_named, CanGoBack, AreSaved, IsOwn}
+use Rattle.rep_shared.specs.Rows.{flat, own, or_nothing, rows_with, has_any, count_named, CanGoBack, AreSaved, IsOwn}
 use Rattle.rep_plain.specs.Tables.{rows_of, IsEntry, AreEntries, IsTable, HaveRoom}
 use Rattle.rep_plain.specs.inner.Tables.{AreMovable, IsSaving}
 use Rattle.rep_shared.proofs.Flat.{all_put, count_put, head_count, one_if}
@@ -78,7 +78,7 @@ module _ (es new : Entries) (c : List ℕ) (e : Entry) (S : List Op) (is : new �
       let row : rows_of new ≡ put client_cmp c (own c rows) (rows_of es) = with_row ∙ sym (ap (λ (ops : List Op). put client_cmp c ops (rows_of es)) own_is) in
       record {
         can = λ can. subst (CanGoBack rows) (sym row) (save_back rows (rows_of es) c sorted there none can).0;
-        same = ap (moved rows) row ∙ moved_saved rows (rows_of es) c sorted there none;
+        same = ap (rows_with rows) row ∙ moved_saved rows (rows_of es) c sorted there none;
         found = λ q h. subst (λ (rs : Rows). IsSome (find client_cmp q rs)) (sym row) (room_put q c (own c rows) (rows_of es) h);
       }
 
@@ -120,8 +120,8 @@ pub saving_can : (rows now old aside new : Rows) → rows ≡ now → old ≡ as
 saving_can rows now old aside new p q s can =
     subst (λ (rs : Rows). CanGoBack rs new) p (s.can (subst (CanGoBack rows) (sym q) (subst (λ (rs : Rows). CanGoBack rs aside) (sym p) can)))
 
-pub saving_same : (rows now old aside new : Rows) → rows ≡ now → old ≡ aside → IsSaving rows old new → flat (moved now new) ≡ flat (moved now aside)
-saving_same rows now old aside new p q s = sym (ap (λ (rs : Rows). flat (moved rs new)) p) ∙ ap flat s.same ∙ (λ i. flat (moved (p i) (q i)))
+pub saving_same : (rows now old aside new : Rows) → rows ≡ now → old ≡ aside → IsSaving rows old new → flat (rows_with now new) ≡ flat (rows_with now aside)
+saving_same rows now old aside new p q s = sym (ap (λ (rs : Rows). flat (rows_with rs new)) p) ∙ ap flat s.same ∙ (λ i. flat (rows_with (p i) (q i)))
 
 -- ---- the way back
 
@@ -132,11 +132,11 @@ module _ (es new all rest : Entries) (c : List ℕ) (e : Entry) (steps : all ≡
   row_at : rows_of new ≡ put client_cmp c e.ops.items (rows_of es)
   row_at = ap rows_of put_at ∙ rows_put c e es
 
-  pub back_first : T (is_sorted client_cmp (rows_of es)) → T (is_sorted client_cmp (rows_of all)) → moved (rows_of new) (rows_of rest) ≡ moved (rows_of es) (rows_of all)
+  pub back_first : T (is_sorted client_cmp (rows_of es)) → T (is_sorted client_cmp (rows_of all)) → rows_with (rows_of new) (rows_of rest) ≡ rows_with (rows_of es) (rows_of all)
   back_first h s =
-      ap (λ (rs : Rows). moved rs (rows_of rest)) row_at
+      ap (λ (rs : Rows). rows_with rs (rows_of rest)) row_at
       ∙ moved_first (rows_of es) (rows_of rest) c e.ops.items h (subst (λ (xs : Entries). T (is_sorted client_cmp (rows_of xs))) steps s)
-      ∙ sym (ap (λ (xs : Entries). moved (rows_of es) (rows_of xs)) steps)
+      ∙ sym (ap (λ (xs : Entries). rows_with (rows_of es) (rows_of xs)) steps)
 
   pub back_room : HaveRoom (rows_of es) (rows_of all) → HaveRoom (rows_of new) (rows_of rest)
   back_room h =

@@ -16,7 +16,7 @@ use Rattle.rep_model.proofs.Named.{find_clients}
 use Rattle.rep_plain.specs.declared.entry.Entry.{Entry}
 use Rattle.rep_shared.specs.Steps.{capped}
 use Rattle.rep_plain.specs.Entries.{IsWorkedOut}
-use Rattle.rep_shared.specs.Rows.{flat, own, or_nothing, moved, has_any, count_named, IsOwn}
+use Rattle.rep_shared.specs.Rows.{flat, own, or_nothing, rows_with, has_any, count_named, IsOwn}
 use Rattle.rep_shared.specs.inner.Rows.{count_new, AreRows, of_client}
 use Rattle.rep_plain.specs.Tables.{rows_of, IsEntry, AreEntries}
 use Rattle.rep_shared.specs.inner.Tables.{passed_of}
@@ -97,7 +97,7 @@ pub record AreFresh (fresh : List (List ℕ × Entry)) : Type 0 where
 
 module _ (es fs : List (List ℕ × Entry)) (are : AreRows (rows_of es)) (each : AreEntries es) (h : AreFresh fs) where
   abbrev after : List (List ℕ × List Op)
-  after = moved (rows_of es) (rows_of fs)
+  after = rows_with (rows_of es) (rows_of fs)
 
   are_after : AreRows after
   are_after = rows_moved (rows_of es) (rows_of fs) are h.owned

@@ -18,7 +18,7 @@ use Rattle.rep_model.proofs.Readers.{client_total, client_exact}
 use Rattle.rep_model.proofs.Joins.{all-both, all-weaker}
 use Rattle.rep_plain.specs.declared.entry.Entry.{Entry}
 use Rattle.rep_plain.specs.Entries.{IsWorkedOut}
-use Rattle.rep_shared.specs.Rows.{flat, own, or_nothing, moved, has_any, count_named, CanGoBack, IsOwn}
+use Rattle.rep_shared.specs.Rows.{flat, own, or_nothing, rows_with, has_any, count_named, CanGoBack, IsOwn}
 use Rattle.rep_plain.specs.Tables.{rows_of, IsEntry, AreEntries, IsTable, HaveRoom}
 use Rattle.rep_plain.specs.inner.Tables.{IsRoomier, AreMovable}
 use Rattle.rep_shared.proofs.Maps.{insert_is_put, lookup_is_find}
@@ -93,7 +93,7 @@ roomier_place es new c e is absent ops entry =
             few = t.few;
           };
       found = λ q h. subst (λ rows. IsSome (find client_cmp q rows)) (sym rows) (found_put q c [] (rows_of es) h);
-      back = λ count t aside can. subst (λ (rs : List (List ℕ × List Op)). CanGoBack rs aside × (flat (moved rs aside) ≡ flat (moved (rows_of es) aside))) (sym rows) (place_back (rows_of es) aside c (table_rows es count t).sorted none can);
+      back = λ count t aside can. subst (λ (rs : List (List ℕ × List Op)). CanGoBack rs aside × (flat (rows_with rs aside) ≡ flat (rows_with (rows_of es) aside))) (sym rows) (place_back (rows_of es) aside c (table_rows es count t).sorted none can);
     }
 
 pub place_there : (es new : List (List ℕ × Entry)) (c : List ℕ) (e : Entry) → new ≡ insert_entry client_cmp es c e → IsSome (find client_cmp c (rows_of new))
@@ -121,11 +121,11 @@ all_front P [] x h = (tt, h.0)
 all_front P (y ∷ xs) x h = let rest = all_front P xs x h.1 in ((h.0, rest.0), rest.1)
 
 -- the last of the fresh entries goes to its place
-pub move_last : (es new fs rest : List (List ℕ × Entry)) (c : List ℕ) (e : Entry) → fs ≡ rest ++ (c, e) ∷ [] → new ≡ insert_entry client_cmp es c e → moved (rows_of new) (rows_of rest) ≡ moved (rows_of es) (rows_of fs)
+pub move_last : (es new fs rest : List (List ℕ × Entry)) (c : List ℕ) (e : Entry) → fs ≡ rest ++ (c, e) ∷ [] → new ≡ insert_entry client_cmp es c e → rows_with (rows_of new) (rows_of rest) ≡ rows_with (rows_of es) (rows_of fs)
 move_last es new fs rest c e all is =
-    ap (λ es. moved (rows_of es) (rows_of rest)) (is ∙ insert_is_put client_cmp c e es)
-    ∙ ap (λ rows. moved rows (rows_of rest)) (rows_put c e es)
-    ∙ sym (ap (λ fs. moved (rows_of es) (rows_of fs)) all ∙ ap (moved (rows_of es)) (rows_last rest (c, e)) ∙ moved_last (rows_of es) (rows_of rest) (c, e.ops.items))
+    ap (λ es. rows_with (rows_of es) (rows_of rest)) (is ∙ insert_is_put client_cmp c e es)
+    ∙ ap (λ rows. rows_with rows (rows_of rest)) (rows_put c e es)
+    ∙ sym (ap (λ fs. rows_with (rows_of es) (rows_of fs)) all ∙ ap (rows_with (rows_of es)) (rows_last rest (c, e)) ∙ moved_last (rows_of es) (rows_of rest) (c, e.ops.items))
 
 pub room_left : (es new fs rest : List (List ℕ × Entry)) (c : List ℕ) (e : Entry) → fs ≡ rest ++ (c, e) ∷ [] → new ≡ insert_entry client_cmp es c e → HaveRoom (rows_of es) (rows_of fs) → HaveRoom (rows_of new) (rows_of rest)
 room_left es new fs rest c e all is h =

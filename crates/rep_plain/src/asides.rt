@@ -7,7 +7,7 @@ ghost use Rattle.std.specs.BTreeMap.{is_at};
 ghost use Rattle.rep_op.specs.declared.op.Op.{Op};
 ghost use Rattle.rep_op.specs.Orders.{client_cmp};
 ghost use Rattle.rep_model.specs.declared.fault.TheConstants.{MOST_CLIENTS};
-ghost use Rattle.rep_shared.specs.Rows.{own, moved, count_named, CanGoBack, AreSaved};
+ghost use Rattle.rep_shared.specs.Rows.{own, rows_with, count_named, CanGoBack, AreSaved};
 ghost use Rattle.rep_plain.specs.Tables.{rows_of, IsEntry, AreEntries, IsTable, HaveRoom};
 ghost use Rattle.rep_plain.specs.inner.Tables.{AreMovable, IsSaving};
 
@@ -120,7 +120,7 @@ pub(crate) fn put_all_back(table: &mut Table, aside: Table)
     requires movable { AreMovable table.old.entries aside.entries }
     requires sorted { T (is_sorted client_cmp (rows_of aside.entries)) }
     requires room { HaveRoom (rows_of table.old.entries) (rows_of aside.entries) }
-    ensures rows { rows_of table.new.entries ≡ moved (rows_of table.old.entries)
+    ensures rows { rows_of table.new.entries ≡ rows_with (rows_of table.old.entries)
         (rows_of aside.entries) }
     ensures movable { AreMovable table.new.entries [] }
 {

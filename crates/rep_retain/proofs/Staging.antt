@@ -1,6 +1,6 @@
 -- What is staged of one operation whose topic has a place, and what follows for the table.
 use Rattle.std.proofs.Common.{◌≡◌, ℕ, ◌<◌, ◌≤◌, true, false, List, [], ◌∷◌, ◌++◌, length, length-set, get_or, set, sym, ap, ◌∙◌, subst, is_lt}
-use Rattle.sn_tables.specs.inner.Tables.{IsAt}
+use Rattle.sn_tables.specs.inner.Tables.{IsFoundAt}
 use Rattle.sn_tables.proofs.Ascending.{Ascends, from_test}
 use Rattle.rep_op.specs.declared.op.Retained.{Retained}
 use Rattle.rep_op.specs.declared.op.Op.{Op}
@@ -13,14 +13,14 @@ use Rattle.rep_retain.specs.declared.staged.TopicsStaged.TheVariants.{Nothing, E
 use Rattle.rep_retain.specs.Tables.{IsTable, entry_cmp, ops_of}
 use Rattle.rep_retain.specs.inner.Tables.{by_topic, with_kept, with_ops}
 use Rattle.rep_retain.specs.Refusals.{AreFew}
-use Rattle.rep_retain.specs.Staging.{moved, IsReady}
+use Rattle.rep_retain.specs.Staging.{topics_moved, IsReady}
 use Rattle.rep_retain.specs.inner.Steps.{IsStagedOf}
 use Rattle.rep_retain.proofs.Found.{entry_total}
 use Rattle.rep_retain.proofs.Keeping.{kept_of}
 use Rattle.rep_retain.proofs.Placing.{stays, set_is, ascending_ops}
 use Rattle.rep_retain.proofs.Ready.{made_ops, few_ops}
 
-module _ (t : List ℕ) (k : Retained) (es : List (List ℕ × Retained)) (i : ℕ) (d : List ℕ × Retained) (place : IsAt (by_topic t) es i) where
+module _ (t : List ℕ) (k : Retained) (es : List (List ℕ × Retained)) (i : ℕ) (d : List ℕ × Retained) (place : IsFoundAt (by_topic t) es i) where
   -- what stands there is as late
   pub nothing_staged : is_lt (clock_cmp (clock_of (get_or es i d).1) (clock_of k)) ≡ false → IsStagedOf es (OfRetain t k ∷ []) Nothing
   nothing_staged late =
@@ -43,7 +43,7 @@ module _ (es : List (List ℕ × Retained)) (ops : List Op) (table : IsTable es)
   pub staged_few : (staged : TopicsStaged) → IsStagedOf es ops staged → AreFew (ops_of es ++ ops)
   staged_few staged s = few_ops es ops up (short staged s)
 
-  pub staged_kept : (staged : TopicsStaged) → IsStagedOf es ops staged → AreOfTopics ops → IsKeptOf (ops_of es ++ ops) (ops_of (moved es staged))
+  pub staged_kept : (staged : TopicsStaged) → IsStagedOf es ops staged → AreOfTopics ops → IsKeptOf (ops_of es ++ ops) (ops_of (topics_moved es staged))
   staged_kept staged s topics = subst (λ xs. IsKeptOf (ops_of es ++ ops) (ops_of xs)) (sym s.moves) (kept_of es ops up topics)
 
   pub staged_ready : (staged : TopicsStaged) → IsStagedOf es ops staged → AreWellMade ops → IsReady es staged

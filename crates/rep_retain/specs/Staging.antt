@@ -6,10 +6,10 @@ use Rattle.rep_retain.specs.declared.staged.TopicsStaged.TheVariants.{Nothing, E
 use Rattle.rep_retain.specs.Tables.{IsTable}
 
 -- the table once what is staged is in its place; if nothing is staged, it stays
-abbrev pub moved : List (List ℕ × Retained) → TopicsStaged → List (List ℕ × Retained)
-moved es Nothing = es
-moved es (Entry at e) = slice_set es at e
-moved es (Table next) = next
+abbrev pub topics_moved : List (List ℕ × Retained) → TopicsStaged → List (List ℕ × Retained)
+topics_moved es Nothing = es
+topics_moved es (Entry at e) = slice_set es at e
+topics_moved es (Table next) = next
 
 -- whether nothing is staged
 abbrev pub is_nothing : TopicsStaged → Bool

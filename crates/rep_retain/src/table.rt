@@ -8,7 +8,7 @@ ghost use Rattle.rep_op.specs.Sets.{retain_at, Agrees};
 ghost use Rattle.rep_ops.specs.Making.{AreWellMade};
 ghost use Rattle.sn_topic.specs.Levels.{has_wildcard};
 ghost use Rattle.sn_tables.specs.Tables.{is_ascending};
-ghost use Rattle.sn_tables.specs.inner.Tables.{IsPlace, IsAt, IsGap};
+ghost use Rattle.sn_tables.specs.inner.Tables.{IsPlace, IsFoundAt, IsGap};
 ghost use Rattle.rep_model.specs.Taking.{AllAgree};
 ghost use Rattle.rep_model.specs.Keep.{keep, IsKeptOf};
 ghost use Rattle.rep_model.specs.Topics as topics;
@@ -140,7 +140,7 @@ fn put_at(
     kept: &Retained,
 ) -> Result<(), NoMemory>
     requires bound { at < vec_len entries.old }
-    requires place { IsAt (by_topic topic.now) entries.old.items at }
+    requires place { IsFoundAt (by_topic topic.now) entries.old.items at }
     ensures { OnOk result (entries.new.items ≡ with_kept topic.now kept.now entries.old.items) }
 {
     if !is_later(&entries[at].1, kept) {
@@ -311,7 +311,7 @@ fn is_offered(asked: &Filter, topic: &TopicName, kept: &Retained) -> bool
 }
 
 impl Topics {
-    ghost use Rattle.rep_retain.specs.Staging.{moved, IsReady};
+    ghost use Rattle.rep_retain.specs.Staging.{topics_moved, IsReady};
 
     /// The table of no topic.
     pub fn empty(alloc: Global) -> Topics
@@ -342,7 +342,7 @@ impl Topics {
         requires topics { AreOfTopics ops.now }
         ensures few { OnOk result (AreFew (ops_of self.now ++ ops.now)) }
         ensures kept { IfOk result (λ staged. IsKeptOf (ops_of self.now ++ ops.now)
-            (ops_of (moved self.now staged))) }
+            (ops_of (topics_moved self.now staged))) }
         ensures ready { IfOk result (λ staged. IsReady self.now staged) }
         ensures fault { IfErr result (IsFull (ops_of self.now ++ ops.now)) }
     {
@@ -381,7 +381,7 @@ impl Topics {
     /// Takes what the latest `prepare` made ready.
     pub fn commit(&mut self, staged: TopicsStaged)
         requires { IsReady self.old staged }
-        ensures { self.new ≡ moved self.old staged }
+        ensures { self.new ≡ topics_moved self.old staged }
     {
         match staged {
             TopicsStaged::Nothing => {}

@@ -34,14 +34,14 @@ impl<C: ClientSet> Replica for Whole<C> {
     ghost use Rattle.std.specs.Prelude.{◌++◌};
     ghost use Rattle.rep_op.specs.Orders.{AreOfClients};
     ghost use Rattle.rep_retain.specs.Tables.{ops_of};
-    ghost use Rattle.rep_retain.specs.Staging.{moved, IsReady};
+    ghost use Rattle.rep_retain.specs.Staging.{topics_moved, IsReady};
     ghost use Rattle.rep_retain.specs.Asides.{topics_back, AreTopicsSaved};
 
     type Staged = WholeStaged<C::Staged>;
 
     ghost kept = { λ w. C.kept w.clients ++ ops_of w.topics };
 
-    ghost after = { λ w s. C.after w.clients s.clients ++ ops_of (moved w.topics s.topics) };
+    ghost after = { λ w s. C.after w.clients s.clients ++ ops_of (topics_moved w.topics s.topics) };
 
     ghost ready = { λ w s. C.ready w.clients s.clients
         × AreOfClients (C.after w.clients s.clients)

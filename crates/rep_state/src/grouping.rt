@@ -11,7 +11,7 @@ ghost use Rattle.rep_entry.specs.Entries.{IsEntry, IsFresh, fresh_row};
 ghost use Rattle.rep_state.specs.Tables.{by_client, rows_of, AreKept};
 ghost use Rattle.rep_entry.specs.Staging.{staged_of};
 ghost use Rattle.rep_state.specs.inner.Staging.{future, AreWorkedOut};
-ghost use Rattle.rep_state.specs.inner.Groups.{held_of, IsBegun, AreGroups, fresh_rows};
+ghost use Rattle.rep_state.specs.inner.Groups.{held_of, IsFirstChange, AreGroups, fresh_rows};
 ghost use Rattle.rep_entry.specs.Applied.{nothing_held};
 
 use super::table::{Table, copy_octets, entry_of};
@@ -106,7 +106,7 @@ fn begun(alloc: Global, entry: &Entry, op: &Op) -> Result<Group, NoMemory>
     requires client { is_of_client op.now ≡ true }
     requires made { IsTrue (is_well_made op.now) }
     ensures client { IfOk result (λ group. group.0 ≡ client_of op.now) }
-    ensures fresh { IfOk result (λ group. IsBegun (client_of op.now) entry.now group.1 op.now) }
+    ensures fresh { IfOk result (λ group. IsFirstChange (client_of op.now) entry.now group.1 op.now) }
 {
     let client = op.client().copied(alloc)?;
     let mut fresh = Fresh::new(alloc);

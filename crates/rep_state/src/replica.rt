@@ -72,19 +72,19 @@ impl Model for Staged {
 
 impl ClientSet for FoldedClients {
     ghost use Rattle.std.specs.Prelude.{◌≡◌};
-    ghost use Rattle.rep_shared.specs.Rows.{flat, moved, count_named, CanGoBack, AreSaved};
+    ghost use Rattle.rep_shared.specs.Rows.{flat, rows_with, count_named, CanGoBack, AreSaved};
     ghost use Rattle.rep_entry.specs.Staging.{planned, AreReady};
 
     type Staged = Staged;
 
     ghost kept = { λ rows. flat rows };
 
-    ghost after = { λ rows staged. flat (moved rows (planned rows staged.0)) };
+    ghost after = { λ rows staged. flat (rows_with rows (planned rows staged.0)) };
 
     ghost ready = { λ rows staged. AreReady rows staged.0
-        × (staged.1 ≡ count_named (moved rows (planned rows staged.0))) };
+        × (staged.1 ≡ count_named (rows_with rows (planned rows staged.0))) };
 
-    ghost back = { λ rows aside. flat (moved rows aside) };
+    ghost back = { λ rows aside. flat (rows_with rows aside) };
 
     ghost can_go_back = { λ rows aside. CanGoBack rows aside };
 

@@ -28,7 +28,7 @@ use Rattle.sn_plan.specs.Bound.{session_of}
 use Rattle.sn_plan.specs.Rows.{row_of, heard_row, plan_for, plan_of_row, stray}
 use Rattle.sn_flow.specs.Accept.{accept, has_no_room}
 use Rattle.sn_flow.specs.Connection.{has_bit, request_of, refusal_of, ask_topic, connect_row, connect, leave, fall_asleep, disconnect_draft, disconnect_of, disconnect}
-use Rattle.sn_flow.specs.Wills.{congestion, not_supported, will_of, dismissed, concluded, topic_given, topic_row, message_row, topic_in, topic_at, will_topic, message_in, message_at, will_msg, topic_update_of, will_topic_update as update_topic, message_update_of, will_msg_update as update_message}
+use Rattle.sn_flow.specs.Wills.{congestion, not_supported, will_of, dismissed, concluded, topic_given, topic_row, message_row, will_topic_in, topic_at, will_topic, message_in, message_at, will_msg, topic_update_of, will_topic_update as update_topic, message_update_of, will_msg_update as update_message}
 use Rattle.sn_flow.specs.WillUpdate.{topic_asked}
 use Rattle.sn_subscribe.specs.Handing.{waiting_for}
 use Rattle.sn_subscribe.specs.TopicRows.{register_of, register as register_topic, subscribe_of, subscribe as subscribe_topics, unsubscribe_of, unsubscribe as unsubscribe_topics}
@@ -132,7 +132,7 @@ message-made seen request topic message now =
     either (nat_lt 4096 (length message)) (dismissed request not_supported) (concluded seen request (Replaced (will_of topic message)) now) refl (concluded-made seen request (Replaced (will_of topic message)) now)
 
 module _ (seen : Seen) (a : Addr) (now : ℕ) where
-  topic_in-made : (bound : Option (List ℕ)) (dialog : WillDialog) (will : Option Will) (awaited : Awaited) → MakesNothing (topic_in seen a bound dialog will now awaited)
+  topic_in-made : (bound : Option (List ℕ)) (dialog : WillDialog) (will : Option Will) (awaited : Awaited) → MakesNothing (will_topic_in seen a bound dialog will now awaited)
   topic_in-made bound dialog will Topic = heard-made bound now (topic_row seen dialog will now) (topic-made seen dialog will now)
   topic_in-made bound dialog will (Message topic) = stray-made a bound now
 

@@ -27,10 +27,10 @@ ghost use Rattle.sn_flow.specs.Connection.{connect, disconnect};
 ghost use Rattle.sn_flow.specs.Wills.{will_topic, will_msg, will_topic_update, will_msg_update};
 ghost use Rattle.sn_subscribe.specs.TopicRows.{register, subscribe, unsubscribe};
 ghost use Rattle.sn_plan.specs.Others.{other};
-ghost use Rattle.sn_plan.specs.Numbering.{Written, start_of, written, handed_to, kept_as};
+ghost use Rattle.sn_plan.specs.Numbering.{Written, start_of, changes_written, handed_to, kept_as};
 ghost use Rattle.sn_local.specs.Seen.{Seen, seen_of};
 ghost use Rattle.sn_plan.specs.Plans.{plan_of};
-ghost use Rattle.sn_plan.specs.Own.{IsOwn, HasNoneOf, AddsNone, AreFresh, IsApart, HasMoment, Waits, messages, handed_in, retained_in, IsOfDraft, PublishesNothing, MakesNoMessage};
+ghost use Rattle.sn_plan.specs.Own.{IsOwnWrite, HasNoneOf, AddsNone, AreFresh, IsApart, HasMoment, WaitsOrIsAcked, new_messages, handed_in, retained_in, IsOfDraft, PublishesNothing, MakesNoMessage};
 ghost use Rattle.sn_plan.specs.Flush.{IsFlush, AreFlush, Shows, session_with};
 
 /// A gateway writes under names of its own: the session operations of a plan are of the client that
@@ -39,7 +39,7 @@ ghost use Rattle.sn_plan.specs.Flush.{IsFlush, AreFlush, Shows, session_with};
 /// under a stamp of another.
 pub fn own_names()
     ensures own { (g : ℕ) (c : List ℕ) (seen : Seen) (d : Drafted) (plan : Plan)
-        → plan_of g c seen d ≡ Some plan → AllByRecursion (IsOwn g c) plan.ops }
+        → plan_of g c seen d ≡ Some plan → AllByRecursion (IsOwnWrite g c) plan.ops }
     ensures apart { (g : ℕ) (c : List ℕ) (seen : Seen) (d : Drafted) (plan : Plan)
         → plan_of g c seen d ≡ Some plan → (other : ℕ) (e : List ℕ) → ¬ (other ≡ g)
         → HasNoneOf other e plan.ops }
@@ -68,7 +68,7 @@ pub fn only_acknowledged()
 pub fn reads_back()
     ensures written { (g : ℕ) (c : List ℕ) (S : List Op) (d : Drafted) (plan : Plan) → IsFlush g c S
         → plan_of g c (seen_of S) d ≡ Some plan → ¬ (d.changes ≡ []) → (w : Written)
-        × (written c g d.changes (start_of g (view c S) (next_epoch c S)) ≡ Some w)
+        × (changes_written c g d.changes (start_of g (view c S) (next_epoch c S)) ≡ Some w)
         × Shows g w (view c (S ++ plan.ops)) }
     ensures session { (g : ℕ) (c : List ℕ) (S : List Op) (d : Drafted) (plan : Plan) → IsFlush g c S
         → plan_of g c (seen_of S) d ≡ Some plan
@@ -104,7 +104,7 @@ pub fn fresh_names()
 /// retains is written, and then it is what is retained of its topic.
 pub fn messages_wait()
     ensures all { (g : ℕ) (c : List ℕ) (seen : Seen) (d : Drafted) (plan : Plan)
-        → plan_of g c seen d ≡ Some plan → messages plan.ops ≡ d.puts }
+        → plan_of g c seen d ≡ Some plan → new_messages plan.ops ≡ d.puts }
     ensures handed { (g : ℕ) (c : List ℕ) (seen : Seen) (d : Drafted) (plan : Plan)
         → plan_of g c seen d ≡ Some plan → handed_in plan.ops ≡ map (handed_to c) d.handed }
     ensures moments { (g : ℕ) (c : List ℕ) (seen : Seen) (d : Drafted) (plan : Plan)
@@ -120,7 +120,7 @@ pub fn messages_wait()
         → retained t (S ++ plan.ops) ≡ retained t S }
     ensures waiting { (g : ℕ) (c : List ℕ) (S : List Op) (d : Drafted) (plan : Plan) → IsFlush g c S
         → IsApart d → plan_of g c (seen_of S) d ≡ Some plan
-        → AllByRecursion (Waits (S ++ plan.ops) c d.acks) plan.ops }
+        → AllByRecursion (WaitsOrIsAcked (S ++ plan.ops) c d.acks) plan.ops }
 {}
 
 /// A gateway stays flush: it is at the start, after each step of its own, for the client of the

@@ -28,25 +28,25 @@ abbrev pub has_nothing : Session → List Put → Bool
 has_nothing s pending = (length pending == 0) && is_none (open_exchange s [] pending)
 
 -- and then PINGRESP
-abbrev pub answered : Addr → Drafted → Drafted
-answered a d = sent a frames.PingResp d
+abbrev pub ping_answered : Addr → Drafted → Drafted
+ping_answered a d = sent a frames.PingResp d
 
 -- a client that is Asleep wakes, if there is something for it
 abbrev pub from_sleep : Addr → List ℕ → Session → Bool → Drafted → Row
 from_sleep a c s idle d =
-    if idle then row_of follows.Nothing c (answered a d)
+    if idle then row_of follows.Nothing c (ping_answered a d)
     else row_of follows.Resend c (changed (Presence Awake s.duration) d)
 
 -- a client that is Awake goes back to sleep, if there is nothing for it
 abbrev pub from_wake : Addr → List ℕ → Session → Bool → Drafted → Row
 from_wake a c s idle d =
-    if idle then row_of follows.Nothing c (answered a (changed (Presence Asleep s.duration) d))
+    if idle then row_of follows.Nothing c (ping_answered a (changed (Presence Asleep s.duration) d))
     else row_of follows.Resend c d
 
 -- By what the client is. One that is Active gets PINGRESP, and then what waits for it. One that is
 -- Disconnected or Lost cannot wake, and is turned away.
 abbrev pub woken_by : Addr → List ℕ → Session → Bool → Drafted → State → Row
-woken_by a c s idle d Active = row_of follows.Delivery c (answered a d)
+woken_by a c s idle d Active = row_of follows.Delivery c (ping_answered a d)
 woken_by a c s idle d Asleep = from_sleep a c s idle d
 woken_by a c s idle d Awake = from_wake a c s idle d
 woken_by a c s idle d Disconnected = turned_away a

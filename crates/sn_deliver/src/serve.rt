@@ -5,7 +5,7 @@ ghost use Rattle.sn_local.specs.Seen.{seen_of};
 ghost use Rattle.sn_local.specs.Bindings as bindings;
 ghost use Rattle.sn_plan.specs.Bound.{session_of};
 ghost use Rattle.sn_publish.specs.Publishing as publishing;
-ghost use Rattle.sn_deliver.specs.Serving.{publish_of, pubrel_of, ack_of};
+ghost use Rattle.sn_deliver.specs.Serving.{publish_of, pubrel_of, ack_row};
 ghost use Rattle.sn_deliver.specs.Serving as spec;
 
 use super::acknowledging::acknowledge;
@@ -181,14 +181,14 @@ pub fn pubrel_in<R: Replica>(
 }
 
 /// What an acknowledgement of the client does, by its view.
-fn acknowledged<R: Replica>(
+fn ack_draft<R: Replica>(
     alloc: Global,
     config: &Config,
     replica: &R,
     peer: &Peer,
     frame: &Frame,
 ) -> Result<Draft, NoMemory>
-    ensures { IfOk result (λ draft. draft ≡ spec.acknowledged config.now.predefined
+    ensures { IfOk result (λ draft. draft ≡ spec.ack_draft config.now.predefined
         (seen_of (R.kept replica.now)) peer.now frame.now) }
 {
     let empty = Session::empty(alloc);
@@ -218,11 +218,11 @@ fn ack_bound<R: Replica>(
     frame: &Frame,
     now: u64,
 ) -> Result<Row, NoMemory>
-    ensures { IfOk result (λ row. row ≡ ack_of config.now.predefined
+    ensures { IfOk result (λ row. row ≡ ack_row config.now.predefined
         (seen_of (R.kept replica.now)) from (Some client.now) frame.now now) }
 {
     let peer = peer_at(alloc, from, client, now)?;
-    let draft = acknowledged(alloc, config, replica, &peer, frame)?;
+    let draft = ack_draft(alloc, config, replica, &peer, frame)?;
     served(alloc, client, now, draft)
 }
 

@@ -73,7 +73,7 @@ fn has_nothing(session: &Session, pending: &[Put]) -> bool
 
 /// And then PINGRESP.
 fn answer(alloc: Global, to: Addr, draft: &mut Draft) -> Result<(), NoMemory>
-    ensures { OnOk result (draft.new ≡ spec.answered to draft.old) }
+    ensures { OnOk result (draft.new ≡ spec.ping_answered to draft.old) }
 {
     match draft.send(alloc, to, Frame::PingResp) {
         Ok(()) => Ok(()),
@@ -82,8 +82,8 @@ fn answer(alloc: Global, to: Addr, draft: &mut Draft) -> Result<(), NoMemory>
 }
 
 /// The draft, with PINGRESP.
-fn answered(alloc: Global, to: Addr, draft: Draft) -> Result<Draft, NoMemory>
-    ensures { IfOk result (λ made. made ≡ spec.answered to draft) }
+fn ping_answered(alloc: Global, to: Addr, draft: Draft) -> Result<Draft, NoMemory>
+    ensures { IfOk result (λ made. made ≡ spec.ping_answered to draft) }
 {
     let mut draft = draft;
     let done = answer(alloc, to, &mut draft);
@@ -118,7 +118,7 @@ fn from_sleep(
     ensures { IfOk result (λ row. row ≡ spec.from_sleep to client.now session.now idle draft) }
 {
     if idle {
-        let draft = answered(alloc, to, draft)?;
+        let draft = ping_answered(alloc, to, draft)?;
         return Row::new(alloc, Follow::Nothing, client, draft);
     }
     let draft = in_presence(session, Presence::Awake, draft)?;
@@ -140,15 +140,15 @@ fn from_wake(
         return Row::new(alloc, Follow::Resend, client, draft);
     }
     let draft = in_presence(session, Presence::Asleep, draft)?;
-    let draft = answered(alloc, to, draft)?;
+    let draft = ping_answered(alloc, to, draft)?;
     Row::new(alloc, Follow::Nothing, client, draft)
 }
 
 /// A client that is Active gets PINGRESP, and then what waits for it.
 fn from_activity(alloc: Global, to: Addr, client: &ClientId, draft: Draft) -> Result<Row, NoMemory>
-    ensures { IfOk result (λ row. row ≡ row_of Delivery client.now (spec.answered to draft)) }
+    ensures { IfOk result (λ row. row ≡ row_of Delivery client.now (spec.ping_answered to draft)) }
 {
-    let draft = answered(alloc, to, draft)?;
+    let draft = ping_answered(alloc, to, draft)?;
     Row::new(alloc, Follow::Delivery, client, draft)
 }
 

@@ -2,7 +2,7 @@
 
 ghost use Rattle.std.specs.Prelude.{◌≡◌, IfOk, OnOk};
 ghost use Rattle.sn_local.specs.Seen.{seen_of};
-ghost use Rattle.sn_plan.specs.Plans.{Gives};
+ghost use Rattle.sn_plan.specs.Plans.{GivesPlan};
 ghost use Rattle.sn_plan.specs.Bound.{session_of};
 ghost use Rattle.sn_exchange.specs.Following as spec;
 
@@ -141,7 +141,7 @@ pub fn deliver_next<R: Replica>(
     now: u64,
     row: Row,
 ) -> Result<Plan, StepFault>
-    ensures { Gives result (spec.deliver_next config.now.gateway config.now.predefined
+    ensures { GivesPlan result (spec.deliver_next config.now.gateway config.now.predefined
         (seen_of (R.kept replica.now)) address now row) }
 {
     let row = followed(alloc, &config.predefined, replica, address, now, row)?;

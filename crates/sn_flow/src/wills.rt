@@ -134,7 +134,7 @@ fn topic_row<R: Replica>(
 }
 
 /// A WILLTOPIC at an address with a dialog.
-fn topic_in<R: Replica>(
+fn will_topic_in<R: Replica>(
     alloc: Global,
     replica: &R,
     from: Addr,
@@ -143,7 +143,7 @@ fn topic_in<R: Replica>(
     will: &Option<Will>,
     now: u64,
 ) -> Result<Row, NoMemory>
-    ensures { IfOk result (λ row. row ≡ spec.topic_in (seen_of (R.kept replica.now)) from
+    ensures { IfOk result (λ row. row ≡ spec.will_topic_in (seen_of (R.kept replica.now)) from
         (option_copied bound.entry) dialog.now will.now now dialog.now.awaited) }
 {
     match &dialog.awaited {
@@ -171,7 +171,7 @@ pub fn will_topic<R: Replica>(
     let bound = dialogs.client_at(from);
     match dialogs.dialog_at(from) {
         None => stray(alloc, from, bound, now),
-        Some(dialog) => topic_in(alloc, replica, from, bound, dialog, will, now),
+        Some(dialog) => will_topic_in(alloc, replica, from, bound, dialog, will, now),
     }
 }
 

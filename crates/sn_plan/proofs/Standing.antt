@@ -12,7 +12,7 @@ use Rattle.rep_op.specs.declared.op.Op.{Op}
 use Rattle.rep_op.specs.declared.op.Op.TheVariants.{Session as OfSession, Put as OfPut, Ack, Retain as OfRetain}
 use Rattle.rep_op.specs.declared.op.Retained.{Retained}
 use Rattle.rep_op.specs.Orders.{operation_cmp, put_cmp, clock_of, clock_cmp}
-use Rattle.rep_op.specs.Sets.{same_client, same_topic, operation_of, operation_at, put_of, put_at, acknowledges, is_acknowledged, retain_of, retain_at, Stands, IsConsistent, Agrees, Same}
+use Rattle.rep_op.specs.Sets.{same_client, same_topic, operation_of, operation_at, put_of, put_at, acknowledges, is_acknowledged, retain_of, retain_at, HasOperation, IsConsistent, Agrees, Same}
 use Rattle.rep_model.specs.Views.{visible}
 use Rattle.rep_model.specs.Topics.{latest}
 use Rattle.rep_model.specs.Keep.{is_below, is_outdone, keep}
@@ -26,7 +26,7 @@ use Rattle.sn_local.proofs.Entries.{same_client-itself, none_or, at_own}
 
 -- ---- what stands
 
-stands-more : (A B : List Op) (op : Op) → Stands A op → Stands (A ++ B) op
+stands-more : (A B : List Op) (op : Op) → HasOperation A op → HasOperation (A ++ B) op
 stands-more A B (OfSession c stamp counter change) h = operation_at_both c A B (stamp, counter) ∙ ap (λ a. or_else a (operation_at c B (stamp, counter))) h
 stands-more A B (OfPut c p) h = put_at_both c A B (p.seq, p.origin) ∙ ap (λ a. or_else a (put_at c B (p.seq, p.origin))) h
 stands-more A B (Ack c origin first last) h = λ seq lower upper. is_acknowledged_both c A B (seq, origin) ∙ ap (λ a. a || is_acknowledged c B (seq, origin)) (h seq lower upper)
@@ -42,7 +42,7 @@ retain-alone t k =
     ap (λ b. find clock_cmp (clock_of k) (cons_option (if b then Some (clock_of k, k) else None) [])) (same_client-itself t)
     ∙ ap (λ r. cond (is_eq r) (Some k) None) (tied_itself clock_total (clock_of k))
 
-stands-new : (S : List Op) (op : Op) → IsFresh S op → Stands (S ++ op ∷ []) op
+stands-new : (S : List Op) (op : Op) → IsFresh S op → HasOperation (S ++ op ∷ []) op
 stands-new S (OfSession c stamp counter change) h = at_own c S stamp counter change h
 stands-new S (OfPut c p) h = put_at_both c S (OfPut c p ∷ []) (p.seq, p.origin) ∙ none_or (put_at c S (p.seq, p.origin)) (put_at c (OfPut c p ∷ []) (p.seq, p.origin)) h ∙ put-alone c p
 stands-new S (OfRetain t k) h = retain_at_both t S (OfRetain t k ∷ []) (clock_of k) ∙ none_or (retain_at t S (clock_of k)) (retain_at t (OfRetain t k ∷ []) (clock_of k)) h ∙ retain-alone t k
@@ -53,15 +53,15 @@ stands-new S (Ack c origin first last) h = λ seq lower upper.
     ∙ or_right (is_acknowledged c S (seq, origin)) (is_acknowledged c (Ack c origin first last ∷ []) (seq, origin))
     (or_left (acknowledges c (seq, origin) (Ack c origin first last)) false (and_from (same_client c c && (origin == origin) && nat_le first seq) (nat_le seq last) from (le-leb seq last upper)))
 
-pub fresh-stand : (S ops : List Op) → AreFresh S ops → AllByRecursion (Stands (S ++ ops)) ops
+pub fresh-stand : (S ops : List Op) → AreFresh S ops → AllByRecursion (HasOperation (S ++ ops)) ops
 fresh-stand S [] f = tt
 fresh-stand S (op ∷ ops) f = (
-  subst (λ T. Stands T op) (append_assoc S (op ∷ []) ops) (stands-more (S ++ op ∷ []) ops op (stands-new S op f.0)),
-  subst (λ T. AllByRecursion (Stands T) ops) (append_assoc S (op ∷ []) ops) (fresh-stand (S ++ op ∷ []) ops f.1),
+  subst (λ T. HasOperation T op) (append_assoc S (op ∷ []) ops) (stands-more (S ++ op ∷ []) ops op (stands-new S op f.0)),
+  subst (λ T. AllByRecursion (HasOperation T) ops) (append_assoc S (op ∷ []) ops) (fresh-stand (S ++ op ∷ []) ops f.1),
 )
 
 pub plan-consistent : (S ops : List Op) → AreFresh S ops → IsConsistent S → IsConsistent (S ++ ops)
-plan-consistent S ops f h = all-append (Stands (S ++ ops)) S ops (all-weaken (Stands S) (Stands (S ++ ops)) (stands-more S ops) S h) (fresh-stand S ops f)
+plan-consistent S ops f h = all-append (HasOperation (S ++ ops)) S ops (all-weaken (HasOperation S) (HasOperation (S ++ ops)) (stands-more S ops) S h) (fresh-stand S ops f)
 
 -- ---- what agrees
 

@@ -19,11 +19,11 @@ use Rattle.sn_plan.specs.Flush.{stamp_of}
 
 -- a session operation of the client under a stamp of the gateway; a message that the gateway made;
 -- an acknowledgement by the client; what the gateway retained
-abbrev pub IsOwn : ℕ → List ℕ → Op → Type 0
-IsOwn g c (OfSession d stamp counter change) = (d ≡ c) × (stamp.gateway ≡ g)
-IsOwn g c (OfPut d put) = put.origin ≡ g
-IsOwn g c (Ack d origin first last) = d ≡ c
-IsOwn g c (OfRetain t kept) = kept.gateway ≡ g
+abbrev pub IsOwnWrite : ℕ → List ℕ → Op → Type 0
+IsOwnWrite g c (OfSession d stamp counter change) = (d ≡ c) × (stamp.gateway ≡ g)
+IsOwnWrite g c (OfPut d put) = put.origin ≡ g
+IsOwnWrite g c (Ack d origin first last) = d ≡ c
+IsOwnWrite g c (OfRetain t kept) = kept.gateway ≡ g
 
 -- none of the client's session operations in the set is under a stamp of the gateway
 abbrev pub HasNoneOf : ℕ → List ℕ → List Op → Type 0
@@ -65,15 +65,15 @@ abbrev pub unnamed : List ℕ → Put → NewPut
 unnamed c put = record { client = c; topic = put.topic; qos = put.qos; body = put.body }
 
 -- the message of an operation, as the draft has it, but not where it was retained
-abbrev pub message_of : Op → Option NewPut
-message_of (OfSession c stamp counter change) = None
-message_of (OfPut c put) = if put.retain then None else Some (unnamed c put)
-message_of (Ack c origin first last) = None
-message_of (OfRetain t kept) = None
+abbrev pub new_message_of : Op → Option NewPut
+new_message_of (OfSession c stamp counter change) = None
+new_message_of (OfPut c put) = if put.retain then None else Some (unnamed c put)
+new_message_of (Ack c origin first last) = None
+new_message_of (OfRetain t kept) = None
 
 -- the messages of the operations, in their order
-abbrev pub messages : List Op → List NewPut
-messages ops = filter_map message_of ops
+abbrev pub new_messages : List Op → List NewPut
+new_messages ops = filter_map new_message_of ops
 
 -- the message by which the operation hands a client what was retained
 abbrev pub handed_of : Op → Option NewPut
@@ -105,13 +105,13 @@ HasMoment moment (Ack c origin first last) = Unit {0}
 HasMoment moment (OfRetain t kept) = Unit {0}
 
 -- the message waits for its client; or the client acknowledges it by one of these names
-abbrev pub Waits : List Op → List ℕ → List (ℕ × ℕ) → Op → Type 0
-Waits S c acks (OfSession d stamp counter change) = Unit {0}
-Waits S c acks (OfPut d put) =
+abbrev pub WaitsOrIsAcked : List Op → List ℕ → List (ℕ × ℕ) → Op → Type 0
+WaitsOrIsAcked S c acks (OfSession d stamp counter change) = Unit {0}
+WaitsOrIsAcked S c acks (OfPut d put) =
     (pending_at d S (put.seq, put.origin) ≡ Some put)
     ⊎ ((d ≡ c) × Contains acks (put.seq, put.origin))
-Waits S c acks (Ack d origin first last) = Unit {0}
-Waits S c acks (OfRetain t kept) = Unit {0}
+WaitsOrIsAcked S c acks (Ack d origin first last) = Unit {0}
+WaitsOrIsAcked S c acks (OfRetain t kept) = Unit {0}
 
 -- the plan is that of a draft for a client, with at most one message for each client, or what was
 -- retained for its own

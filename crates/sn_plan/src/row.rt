@@ -3,7 +3,7 @@
 ghost use Rattle.std.specs.Prelude.{◌≡◌, IfOk};
 ghost use Rattle.std.specs.Option.{option_copied};
 ghost use Rattle.sn_local.specs.Seen.{seen_of};
-ghost use Rattle.sn_plan.specs.Plans.{Gives};
+ghost use Rattle.sn_plan.specs.Plans.{GivesPlan};
 ghost use Rattle.sn_plan.specs.Rows.{turned_away};
 ghost use Rattle.sn_plan.specs.Rows as spec;
 
@@ -111,7 +111,7 @@ pub fn plan_of_row<R: Replica>(
     replica: &R,
     row: Row,
 ) -> Result<Plan, StepFault>
-    ensures { Gives result (spec.plan_of_row gateway (seen_of (R.kept replica.now)) row) }
+    ensures { GivesPlan result (spec.plan_of_row gateway (seen_of (R.kept replica.now)) row) }
 {
     let Row {
         client,

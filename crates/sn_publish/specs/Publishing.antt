@@ -1,7 +1,7 @@
 -- The rows of PUBLISH and PUBREL from a client (MQTT-SN 1.2 sections 6.6, 6.8 and 6.10).
 use Rattle.std.specs.Prelude.{ℕ, Bool, ◌/◌, ◌%◌, if◌then◌else◌, List, [], ◌∷◌, Option, Some, None}
 use Rattle.std.specs.Option.{option_map}
-use Rattle.sn_topic.specs.Table.{Entries, name_of}
+use Rattle.sn_topic.specs.Table.{Entries, name_of_id}
 use Rattle.sn_topic.specs.Topics.{name_asked}
 use Rattle.sn_session.specs.declared.session.Session.{Session}
 use Rattle.sn_tables.specs.declared.topics.TopicEntry.{TopicEntry}
@@ -27,9 +27,9 @@ use Rattle.sn_publish.specs.Recipients.{puts_for}
 use Rattle.sn_publish.specs.Retaining.{retained_of}
 
 -- the topic of this name; code 2, invalid topic id, if there is none
-abbrev pub named : Option (List ℕ) → Meant
-named None = Refused 2
-named (Some name) = Topic name
+abbrev pub topic_or_refused : Option (List ℕ) → Meant
+topic_or_refused None = Refused 2
+topic_or_refused (Some name) = Topic name
 
 -- the name in the two octets of a topic field
 abbrev pub short_name : ℕ → List ℕ
@@ -44,9 +44,9 @@ entry_name entry = entry.name
 -- the type has no meaning.
 abbrev pub topic_meant : Entries → Session → TopicIdType → ℕ → Meant
 topic_meant predefined s kinds.Normal topic =
-    named (option_map entry_name (topic_of topic s.topics))
-topic_meant predefined s kinds.Predefined topic = named (name_of topic predefined)
-topic_meant predefined s kinds.Short topic = named (name_asked (short_name topic))
+    topic_or_refused (option_map entry_name (topic_of topic s.topics))
+topic_meant predefined s kinds.Predefined topic = topic_or_refused (name_of_id topic predefined)
+topic_meant predefined s kinds.Short topic = topic_or_refused (name_asked (short_name topic))
 topic_meant predefined s kinds.Reserved topic = Refused 3
 
 -- the topic of a PUBLISH; code 3, not supported, if the message has more than 4,096 octets

@@ -7,7 +7,7 @@ ghost use Rattle.sn_local.specs.declared.local.LocalChange.TheVariants.{Heard, R
 ghost use Rattle.sn_plan.specs.Drafts.{moved};
 ghost use Rattle.sn_plan.specs.Others.{can_wake};
 ghost use Rattle.sn_local.specs.Seen.{seen_of};
-ghost use Rattle.sn_plan.specs.Plans.{Gives};
+ghost use Rattle.sn_plan.specs.Plans.{GivesPlan};
 ghost use Rattle.sn_plan.specs.Plans as plans;
 ghost use Rattle.sn_plan.specs.Bound as bound;
 ghost use Rattle.sn_exchange.specs.Following as following;
@@ -368,7 +368,7 @@ fn plan_expiry<R: Replica>(
     mut draft: Draft,
     client: &ClientId,
 ) -> Result<Plan, StepFault>
-    ensures { Gives result (plans.plan_of config.now.gateway client.now
+    ensures { GivesPlan result (plans.plan_of config.now.gateway client.now
         (seen_of (R.kept replica.now)) (expiry.expire_all (seen_of (R.kept replica.now))
         dialogs.now.local now client.now draft)) }
 {
@@ -385,7 +385,7 @@ fn plan_loss<R: Replica>(
     mut draft: Draft,
     client: &ClientId,
 ) -> Result<Plan, StepFault>
-    ensures { Gives result (plans.plan_of config.now.gateway client.now
+    ensures { GivesPlan result (plans.plan_of config.now.gateway client.now
         (seen_of (R.kept replica.now)) (spec.lost (seen_of (R.kept replica.now)) client.now
         (bound.session_of (seen_of (R.kept replica.now)) client.now) draft)) }
 {
@@ -427,7 +427,7 @@ fn plan_retry<R: Replica>(
     client: &ClientId,
     address: Addr,
 ) -> Result<Plan, StepFault>
-    ensures { Gives result (following.deliver_next config.now.gateway config.now.predefined
+    ensures { GivesPlan result (following.deliver_next config.now.gateway config.now.predefined
         (seen_of (R.kept replica.now)) address now (spec.retried now draft client.now)) }
 {
     let row = retried(alloc, now, draft, client)?;
@@ -445,7 +445,7 @@ fn plan_due<R: Replica>(
     client: &ClientId,
     due: Due,
 ) -> Result<Plan, StepFault>
-    ensures { Gives result (spec.plan_due config.now.gateway config.now.predefined
+    ensures { GivesPlan result (spec.plan_due config.now.gateway config.now.predefined
         (seen_of (R.kept replica.now)) dialogs.now.local now draft client.now due) }
 {
     match due {
@@ -469,7 +469,7 @@ fn plan_if_due<R: Replica>(
     draft: Draft,
     found: Option<(ClientId, Due)>,
 ) -> Result<Plan, StepFault>
-    ensures { Gives result (spec.plan_if_due config.now.gateway config.now.predefined
+    ensures { GivesPlan result (spec.plan_if_due config.now.gateway config.now.predefined
         (seen_of (R.kept replica.now)) dialogs.now.local now draft found) }
 {
     match found {
@@ -487,7 +487,7 @@ fn plan_advertisement(
     now: u64,
     draft: Draft,
 ) -> Result<Plan, StepFault>
-    ensures { Gives result (Some (plans.plan_without (spec.advertised config.now.gateway
+    ensures { GivesPlan result (Some (plans.plan_without (spec.advertised config.now.gateway
         config.now.advertise config.now.field now draft))) }
 {
     let field = config.field.as_slice();
@@ -504,7 +504,7 @@ fn plan_first<R: Replica>(
     now: u64,
     draft: Draft,
 ) -> Result<Plan, StepFault>
-    ensures { Gives result (spec.plan_if_due config.now.gateway config.now.predefined
+    ensures { GivesPlan result (spec.plan_if_due config.now.gateway config.now.predefined
         (seen_of (R.kept replica.now)) dialogs.now.local now draft (dues.first_due config.now.gateway
         (seen_of (R.kept replica.now)) dialogs.now.local now (seen_of (R.kept replica.now)).all)) }
 {
@@ -526,7 +526,7 @@ fn one_thing<R: Replica>(
     now: u64,
     draft: Draft,
 ) -> Result<Plan, StepFault>
-    ensures { Gives result (spec.one_thing config.now.gateway config.now.advertise config.now.field
+    ensures { GivesPlan result (spec.one_thing config.now.gateway config.now.advertise config.now.field
         config.now.predefined (seen_of (R.kept replica.now)) dialogs.now.local now draft) }
 {
     let field = config.field.as_slice();
@@ -547,7 +547,7 @@ pub fn tick<R: Replica>(
     dialogs: &Dialogs,
     now: u64,
 ) -> Result<Plan, StepFault>
-    ensures { Gives result (spec.tick config.now.gateway config.now.lifetime config.now.advertise
+    ensures { GivesPlan result (spec.tick config.now.gateway config.now.lifetime config.now.advertise
         config.now.field config.now.predefined (seen_of (R.kept replica.now)) dialogs.now.local
         now) }
 {

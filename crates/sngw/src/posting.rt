@@ -100,8 +100,8 @@ fn is_disconnect(bytes: &[u8]) -> bool
 }
 
 /// The kind of a message: its second octet, or its fourth after a length of three (5.2.1).
-fn kind_of(bytes: &[u8]) -> u8
-    ensures { result ≡ spec.kind_of bytes.now }
+fn octet_of_kind(bytes: &[u8]) -> u8
+    ensures { result ≡ spec.octet_of_kind bytes.now }
 {
     if bytes.len() > 3 && bytes[0] == 1 {
         bytes[3]
@@ -117,7 +117,7 @@ fn kind_of(bytes: &[u8]) -> u8
 fn is_try(bytes: &[u8]) -> bool
     ensures { result ≡ spec.is_try bytes.now }
 {
-    let kind = kind_of(bytes);
+    let kind = octet_of_kind(bytes);
     kind == 0x0A || kind == 0x0C || kind == 0x10
 }
 

@@ -13,7 +13,7 @@ use crate::watcher::show_all;
 use crate::working::{Worked, work};
 use gw_link::{Phase, Stage};
 use gw_main::options::Settings;
-use gw_main::{Tended, number_of, tend};
+use gw_main::{Tended, begin_fault_number, tend};
 use gw_node::Node;
 use gw_run::Pool;
 use gw_wire::{Socket, address, millisecond};
@@ -761,7 +761,7 @@ where
             keeper.note_tended(rt, alloc, before, tended);
             Ok(tended)
         }
-        Err(fault) => Err(Stop::Reopening(number_of(&fault))),
+        Err(fault) => Err(Stop::Reopening(begin_fault_number(&fault))),
     }
 }
 

@@ -63,10 +63,10 @@ use Rattle.sn_publish.specs.Recipients.{puts_among, puts_for, is_another, qos_fo
 use Rattle.sn_publish.specs.Publishing.{publication_meant, spread_twice, publish_at, publish_meant, spread_meant, release}
 use Rattle.sn_exchange.specs.Delivery.{Stop, id_to_tell, register_first, deliver_by, none_left, and_then, deliver, deliver_left, deliver_if}
 use Rattle.sn_exchange.specs.Resending.{register_by, register_again, publish_by, publish_again, resend_in, resend_if}
-use Rattle.sn_deliver.specs.Acknowledging.{entry_published, forgotten, puback_of, put_awaiting, awaiting, awaiting_pubrec, pubrec_again, pubrec_of, pubcomp_of, registered, regack_of, acknowledge}
+use Rattle.sn_deliver.specs.Acknowledging.{entry_published, forgotten, puback_of, put_awaiting, awaiting, awaiting_pubrec, pubrec_again, pubrec_of, pubcomp_of, id_known, regack_of, acknowledge}
 use Rattle.sn_tables.specs.Topics.{topic_named}
 use Rattle.sn_exchange.specs.Following.{peer_at, followed_by, followed_for, followed, deliver_next}
-use Rattle.sn_deliver.specs.Serving.{publish_of, publish_in_at, pubrel_of, ack_of}
+use Rattle.sn_deliver.specs.Serving.{publish_of, publish_in_at, pubrel_of, ack_row}
 use Rattle.sn_deliver.specs.Waking.{claimed, has_nothing, woken_by, woken_if, woken, wake_of, wake}
 use Rattle.sn_deliver.specs.Steps.{row_for, step}
 use Rattle.sn_tick.specs.Expiry.{under_way, is_expired, expiry_acked, expire_all}
@@ -356,7 +356,7 @@ pubcomp_puts : (s : Session) (x : Option Exchange) → MakesNone (pubcomp_of s x
 pubcomp_puts s None = refl
 pubcomp_puts s (Some x) = refl
 
-registered_puts : (s : Session) (entry : Option TopicEntry) → MakesNone (registered s entry)
+registered_puts : (s : Session) (entry : Option TopicEntry) → MakesNone (id_known s entry)
 registered_puts s None = refl
 registered_puts s (Some entry) = refl
 
@@ -376,7 +376,7 @@ pub pubrel_of_made : (seen : Seen) (a : Addr) (bound : Option (List ℕ)) (msg_i
 pubrel_of_made seen a None msg_id now = refl
 pubrel_of_made seen a (Some c) msg_id now = changed_puts (release (session_of seen c) msg_id) nothing
 
-pub ack_of_made : (predefined : Entries) (seen : Seen) (a : Addr) (bound : Option (List ℕ)) (frame : Frame) (now : ℕ) → MakesNone (ack_of predefined seen a bound frame now).draft
+pub ack_of_made : (predefined : Entries) (seen : Seen) (a : Addr) (bound : Option (List ℕ)) (frame : Frame) (now : ℕ) → MakesNone (ack_row predefined seen a bound frame now).draft
 ack_of_made predefined seen a None frame now = refl
 ack_of_made predefined seen a (Some c) frame now = acknowledge_puts predefined (peer_at a c now) (session_of seen c) (seen.of c).pending frame
 

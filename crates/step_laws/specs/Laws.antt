@@ -128,8 +128,8 @@ ResentWithDup =
     }) form.topic x.msg_id put.body) d).sends
 
 -- a plan that makes no operation and sends no frame
-abbrev pub IsQuiet : Plan → Type 0
-IsQuiet plan = (plan.ops ≡ []) × (plan.sends ≡ [])
+abbrev pub IsQuietPlan : Plan → Type 0
+IsQuietPlan plan = (plan.ops ≡ []) × (plan.sends ≡ [])
 
 -- a tick that finds nothing due makes nothing and sends nothing
 abbrev pub TickIsQuiet : Type 0
@@ -139,14 +139,14 @@ TickIsQuiet =
     → may_advertise advertise field now local.advertised ≡ false
     → first_due g seen local now seen.all ≡ None
     → (plan : Plan) × (tick g lifetime advertise field predefined seen local now ≡ Some plan)
-    × IsQuiet plan
+    × IsQuietPlan plan
 
 -- messages of names that are all different, as those that wait for a client
-abbrev pub AreApart : List Put → Type 0
-AreApart [] = Unit {0}
-AreApart (put ∷ rest) =
+abbrev pub AreNamedApart : List Put → Type 0
+AreNamedApart [] = Unit {0}
+AreNamedApart (put ∷ rest) =
     AllByRecursion (λ (other : Put). same_name (name_of put) (name_of other) ≡ false) rest
-    × AreApart rest
+    × AreNamedApart rest
 
 -- What is due with a client once a draft is carried out, if its address is then a. It goes by the
 -- session and the timer that the draft leaves the client, and by the messages that it leaves
@@ -174,7 +174,7 @@ abbrev pub TickSettles : Type 0
 TickSettles =
     (predefined : Entries) (seen : Seen) (now : ℕ) (c : List ℕ) (timers : List Timer)
     (a b : Option Addr) (d : Drafted) (reason : Due)
-    → AreApart (seen.of c).pending → d.changes ≡ [] → d.acks ≡ []
+    → AreNamedApart (seen.of c).pending → d.changes ≡ [] → d.acks ≡ []
     → due_after now c (session_of seen c) (seen.of c).pending timers a d ≡ Some reason
     → due_after now c (session_of seen c) (seen.of c).pending timers b
     (due_draft predefined seen now c d reason) ≡ None

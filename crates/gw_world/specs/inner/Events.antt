@@ -7,7 +7,7 @@ use Rattle.rep_op.specs.declared.op.Op.{Op}
 use Rattle.rep_ops.specs.Spelling.{max_octets}
 use Rattle.rep_answer.specs.Answers.{IsAnswer}
 use Rattle.rep_digest.specs.Digests.{Digested, digest}
-use Rattle.rep_digest.specs.Spelling.{spelling, IsWithinLimit as IsDigestWithinLimit}
+use Rattle.rep_digest.specs.Spelling.{digest_spelling, IsDigestWithinLimit}
 use Rattle.sn_local.specs.declared.config.Config.{Config}
 use Rattle.jr_disk.specs.declared.disk.Disk.{Ghosts}
 use Rattle.rep_model.specs.Topics.{all_retained}
@@ -22,7 +22,7 @@ use Rattle.jr_disk.specs.declared.disk.Plan.{Plan as Failure}
 use Rattle.gw_event.specs.Gateways.{Gateway}
 use Rattle.gw_node.specs.Parts.{State}
 use Rattle.gw_answer.specs.Answers.{said, only_sends}
-use Rattle.gw_node.specs.Standing.{Agrees, fated}
+use Rattle.gw_node.specs.Standing.{CallAgrees, fated}
 use Rattle.gw_world.specs.declared.event.Event.{Event}
 use Rattle.gw_world.specs.declared.event.Event.TheVariants.{Frame, Tick, Take, Together as AtOnce, Answer as Asks, WriteFails, Compact, Restart, Show}
 use Rattle.gw_world.specs.declared.event.Call.{Call}
@@ -33,7 +33,7 @@ use Rattle.gw_world.specs.declared.world.WorldFault.{WorldFault}
 use Rattle.gw_world.specs.declared.world.WorldFault.TheVariants as stops
 use Rattle.gw_world.specs.Events.{made_of, answered_of}
 use Rattle.gw_world.specs.Whole.{made_of_all}
-use Rattle.gw_world.specs.Field.{Field, new_field, AreStepsOf, AreFed, Run, NamesNoGateway, NamesNoDelta, shown, gateway_of, failing}
+use Rattle.gw_world.specs.Field.{Field, new_field, AreStepsOf, AreFed, Run, NamesNoGateway, NamesNoDelta, shown, gateway_of_event, failing_gateway}
 use Rattle.gw_world.specs.Keeping.{IsShown, AreShown}
 use Rattle.gw_world.specs.Steps.{restarted, records_left}
 
@@ -55,7 +55,7 @@ IsFed (Err (refusals.Journal fault)) = Unit {0}
 abbrev pub GoesOn : {D : Type 0} {G : Ghosts D} → State G → Step → Result Out Refusal → State G
     → Type 0
 GoesOn old step answer new =
-    (gateway : Gateway) → IsShown gateway old → Agrees gateway step
+    (gateway : Gateway) → IsShown gateway old → CallAgrees gateway step
     → (next : Gateway) × (made : List (List Op)) × StepOf gateway step answer next made
     × IsShown next new
 
@@ -69,7 +69,7 @@ IsNoFailure answer = Unit {0}
 abbrev pub AgreeAlong : Gateway → List Step → Type 0
 AgreeAlong gateway [] = Unit {0}
 AgreeAlong gateway (step ∷ rest) =
-    Agrees gateway step
+    CallAgrees gateway step
     × ((fate : Option Failure) (answer : Result Out Refusal) (next : Gateway)
     (made : List (List Op)) → CallEvent (fated fate gateway) step answer next made
     → AgreeAlong next rest)
@@ -107,17 +107,17 @@ StartsAgain old kept count new =
 -- the next write of the node is to fail
 abbrev pub FailsNext : {D : Type 0} {G : Ghosts D} → State G → ℕ → Bool → State G → Type 0
 FailsNext old bytes sync new =
-    (gateway : Gateway) → IsShown gateway old → IsShown (failing bytes sync gateway) new
+    (gateway : Gateway) → IsShown gateway old → IsShown (failing_gateway bytes sync gateway) new
 
 -- the node stands for some gateway
 abbrev pub IsStood : {D : Type 0} {G : Ghosts D} → State G → Type 0
 IsStood state = (gateway : Gateway) × IsShown gateway state
 
 -- what a peer answers to a digest, by what it keeps
-abbrev pub IsAnswered : Digested → List Op → Result Out Refusal → Type 0
-IsAnswered asked kept (Ok out) =
+abbrev pub AnswersDigest : Digested → List Op → Result Out Refusal → Type 0
+AnswersDigest asked kept (Ok out) =
     IsAnswer asked kept out.answer × (out ≡ record (only_sends []) { answer = out.answer })
-IsAnswered asked kept (Err refusal) = ⊥
+AnswersDigest asked kept (Err refusal) = ⊥
 
 -- why a gateway gives no digest: it is too long, or memory ran out
 abbrev pub IsNoDigest : Refusal → Type 0
@@ -133,8 +133,8 @@ IsNoDigest (refusals.Journal fault) = ⊥
 -- what the digest of what is kept comes to at a peer, by what that one keeps
 abbrev pub AskKept : List Op → List Op → Result Out Refusal → Type 0
 AskKept kept other (Ok out) =
-    IsDigestWithinLimit (digest kept) × IsAnswered (digest kept) other (Ok out)
-AskKept kept other (Err refusals.Full) = max_octets < length (spelling (digest kept))
+    IsDigestWithinLimit (digest kept) × AnswersDigest (digest kept) other (Ok out)
+AskKept kept other (Err refusals.Full) = max_octets < length (digest_spelling (digest kept))
 AskKept kept other (Err (refusals.Frame fault)) = ⊥
 AskKept kept other (Err refusals.Halted) = ⊥
 AskKept kept other (Err (refusals.Disk excuse)) = ⊥
@@ -296,7 +296,7 @@ EventAt olds deltas i (Show number) news next answer =
 abbrev pub EventPlayed : {D : Type 0} {G : Ghosts D} → List (State G) → List (List Op) → Event
     → List (State G) → List (List Op) → Answer → Type 0
 EventPlayed olds deltas event news next answer =
-    (i : ℕ) × (place_in (gateway_of event) 0 olds ≡ Some i)
+    (i : ℕ) × (place_in (gateway_of_event event) 0 olds ≡ Some i)
     × EventAt olds deltas i event news next answer
 
 -- ---- events without an answer

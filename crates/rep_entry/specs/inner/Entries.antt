@@ -6,7 +6,7 @@ use Rattle.rep_op.specs.declared.op.Stamp.{Stamp}
 use Rattle.rep_shared.specs.Steps.{capped, waits}
 use Rattle.rep_log.specs.declared.log.Log.{Log}
 use Rattle.rep_entry.specs.declared.entry.Entry.{Entry}
-use Rattle.rep_log.specs.Logs.{all_of, stamp_on, prefix_on, session_on, known_on}
+use Rattle.rep_log.specs.Logs.{all_in_log, stamp_on, prefix_on, session_on, known_on}
 use Rattle.rep_log.specs.Origins.{above_gaps}
 
 -- the entry with the log, if one is staged
@@ -28,7 +28,7 @@ with_log entry log = record {
 abbrev pub parked_on : Entry → Option Log → ℕ
 parked_on entry None = entry.parked
 parked_on entry (Some log) =
-    count_by (waits log.stamp log.prefix) (keys_of (all_of entry.known log))
+    count_by (waits log.stamp log.prefix) (keys_of (all_in_log entry.known log))
 
 -- how many acknowledgements are above a gap; the count stays if none are staged
 abbrev pub exceptions_on : Entry → Option (List (ℕ × List (ℕ × ℕ))) → ℕ

@@ -9,15 +9,15 @@ use Rattle.rep_entry.specs.Entries.{Base, left_on}
 use Rattle.rep_state.specs.Tables.{rows_of}
 use Rattle.rep_state.specs.inner.Groups.{held_of, base_at}
 use Rattle.rep_entry.specs.Staging.{IsChange, IsFit, IsReady}
-use Rattle.rep_entry.specs.Applied.{applied}
+use Rattle.rep_entry.specs.Applied.{entry_applied}
 
 -- the entries that the changes make of those that are there
 abbrev pub future : List (List ℕ × Entry) → List (List ℕ × Change) → List (List ℕ × Entry)
-future es gs = map (λ g. (g.0, applied (held_of g.0 es) g.1)) gs
+future es gs = map (λ g. (g.0, entry_applied (held_of g.0 es) g.1)) gs
 
 -- each of the clients has a place
-abbrev pub HaveRoom : List (List ℕ × Entry) → List (List ℕ × Change) → Type 0
-HaveRoom es gs = AllByRecursion (λ g. IsSome (find client_cmp g.0 (rows_of es))) gs
+abbrev pub HavePlaces : List (List ℕ × Entry) → List (List ℕ × Change) → Type 0
+HavePlaces es gs = AllByRecursion (λ g. IsSome (find client_cmp g.0 (rows_of es))) gs
 
 -- each client has an entry on which its change is ready
 abbrev pub AreMovable : List (List ℕ × Entry) → List (List ℕ × Change) → Type 0

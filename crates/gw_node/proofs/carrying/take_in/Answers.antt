@@ -2,7 +2,7 @@ use Rattle.std.proofs.Common.{◌≡◌, ◌++◌, [], refl, sym, ap, ◌∙◌,
 use Rattle.rep_model.specs.Keep.{IsKeptOf}
 use Rattle.gw_node.specs.Parts.{state_of}
 use Rattle.gw_answer.specs.Answers.{only_sends}
-use Rattle.gw_node.specs.inner.Writing.{refusal_of}
+use Rattle.gw_node.specs.inner.Writing.{refusal_of_journal}
 use Rattle.gw_node.proofs.Calling.{noted, left}
 use Rattle.gw_node.proofs.carrying.take_in.Goals as goal
 
@@ -24,7 +24,7 @@ returns-in-Ok g c = (
 pub returns-in-Err : goal.returns-in-Err
 returns-in-Err g c =
     let nothing : c.in_ok-nothing.nothing ≡ only_sends [] = c.in_ok-nothing.ensures ∙ c.of_sends.ensures ∙ ap only_sends c.empty.ensures in
-    let told : c.refused.result ≡ refusal_of c.in-Err.fault (only_sends []) = c.refused.ensures ∙ ap (refusal_of c.in-Err.fault) nothing in
+    let told : c.refused.result ≡ refusal_of_journal c.in-Err.fault (only_sends []) = c.refused.ensures ∙ ap (refusal_of_journal c.in-Err.fault) nothing in
     rw told
     (left (state_of g.R.Replica.kept c.args.node.now)
     (record { config = c.args.node.now.config; kept = g.R.Replica.kept c.prepare.new.replica; local = c.args.node.now.dialogs.local; journal = c.write_if_any.new.journal; records = c.args.node.now.records })

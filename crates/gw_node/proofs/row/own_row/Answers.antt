@@ -2,7 +2,7 @@ use Rattle.std.proofs.Common.{◌++◌, Err, Ok, map, ap, ◌∙◌}
 use Rattle.std.specs.Arc.{arc_value}
 use Rattle.gw_answer.specs.declared.refusal.Refusal.TheVariants as refusals
 use Rattle.gw_node.specs.Parts.{state_of}
-use Rattle.gw_node.specs.inner.Ahead.{made_by}
+use Rattle.gw_node.specs.inner.Ahead.{made_in}
 use Rattle.gw_node.proofs.Unwritten.{writer_some, writer_sends, writer_alone, writer_puts, writer_begins, writer_carried, told_alone, refused_puts, writer_wanting}
 use Rattle.gw_node.proofs.Finishing.{by_itself, began}
 use Rattle.gw_node.proofs.row.own_row.Goals as goal
@@ -66,5 +66,5 @@ returns-in-Ok-carry_ahead g c =
     c.requires.runs
     (rw excuse (writer_begins old mid c.args.first.now c.args.plan c.args.excuse c.in-Ok-carry_ahead.answer c.requires.writer c.in-Ok-carry_ahead.ensures.call))
     (c.carry_ahead.ensures.back ∙ c.in-Ok.ensures.back) c.in-Ok.ensures.local
-    (c.in-Ok-carry_ahead.ensures.records ∙ ap (λ ds. ds ++ made_by (Ok c.in-Ok-carry_ahead.answer)) c.in-Ok.ensures.records ∙ writer_puts old c.args.first.now c.args.plan c.args.excuse (Ok c.in-Ok-carry_ahead.answer) c.requires.writer)
+    (c.in-Ok-carry_ahead.ensures.records ∙ ap (λ ds. ds ++ made_in (Ok c.in-Ok-carry_ahead.answer)) c.in-Ok.ensures.records ∙ writer_puts old c.args.first.now c.args.plan c.args.excuse (Ok c.in-Ok-carry_ahead.answer) c.requires.writer)
     c.finish.ensures

@@ -3,12 +3,12 @@ use Rattle.rep_op.specs.declared.op.Op.{Op}
 use Rattle.rep_model.proofs.Joins.{all-both}
 use Rattle.rep_entry.specs.declared.entry.Entry.{Entry}
 use Rattle.rep_entry.specs.declared.change.Change.{Change}
-use Rattle.rep_entry.specs.Entries.{IsFresh, fresh_row, row_of, base_of}
+use Rattle.rep_entry.specs.Entries.{IsFresh, fresh_row, entry_row, base_of}
 use Rattle.rep_state.specs.Tables.{by_client, rows_of}
 use Rattle.rep_state.specs.inner.Groups.{held_of, base_at}
 use Rattle.rep_entry.specs.Staging.{staged_of, planned_row}
 use Rattle.rep_state.specs.inner.Staging.{future, IsWorkedOut, AreWorkedOut}
-use Rattle.rep_entry.specs.Applied.{applied}
+use Rattle.rep_entry.specs.Applied.{entry_applied}
 use Rattle.rep_state.proofs.Placing.{rows_last}
 use Rattle.rep_state.proofs.Staging.{staged_last, future_last}
 use Rattle.rep_entry.proofs.Applied.{row_applied}
@@ -26,8 +26,8 @@ returns-in_ok-push-in-Ok-clause-rows c =
     ap (λ xs. rows_of (future es (staged_of xs))) c.in_ok-push-in-Ok.ensures.items
     ∙ ap (λ gs. rows_of (future es gs)) (staged_last c.args.made.now.items (key, change))
     ∙ ap rows_of (future_last es old (key.items, change))
-    ∙ rows_last (future es old) (key.items, applied (held_of key.items es) change)
-    ∙ ap (λ (k : List ℕ). rows_of (future es old) ++ (k, row_of k (applied (held_of k es) change)) ∷ []) octets
+    ∙ rows_last (future es old) (key.items, entry_applied (held_of key.items es) change)
+    ∙ ap (λ (k : List ℕ). rows_of (future es old) ++ (k, entry_row k (entry_applied (held_of k es) change)) ∷ []) octets
     ∙ ap (λ (ops : List Op). rows_of (future es old) ++ (client, ops) ∷ []) row
 
 pub returns-in_ok-push-in-Ok-clause-worked_out : goal.returns-in_ok-push-in-Ok-clause-worked_out

@@ -3,12 +3,12 @@ use Rattle.std.specs.FinMap.{find, put}
 use Rattle.rep_op.specs.Orders.{client_cmp}
 use Rattle.rep_state.specs.Tables.{by_client, ArePlaces}
 use Rattle.rep_state.specs.Interests.{AreMarked}
-use Rattle.rep_state.specs.inner.Interests.{noted}
+use Rattle.rep_state.specs.inner.Interests.{marks_noted}
 use Rattle.rep_state.proofs.Asking.{places_noted, marked_noted}
 use Rattle.rep_state.proofs.Indexed.{places_pass}
 use Rattle.rep_state.specs.inner.Groups.{held_of, base_at}
 use Rattle.rep_entry.specs.Staging.{staged_of, IsReady}
-use Rattle.rep_entry.specs.Applied.{applied}
+use Rattle.rep_entry.specs.Applied.{entry_applied}
 use Rattle.rep_state.proofs.Staging.{staged_last, last_change, last_ready, rest_staged, rest_movable, rest_moved, rest_kept}
 use Rattle.rep_state.proofs.room.move_in.Goals as goal
 
@@ -20,7 +20,7 @@ move_one-requires-clause-change c =
     let client = c.in-Some.client.items in
     let change = c.in-Some.change in
     let all = ap staged_of c.in-Some.ensures.items ∙ staged_last c.pop.new.self.items (c.in-Some.client, change) in
-    last_change es (put client_cmp client (applied (held_of client es) change) es) gs rest client change all refl c.loop-client.invariant.1 c.loop-client.invariant.2
+    last_change es (put client_cmp client (entry_applied (held_of client es) change) es) gs rest client change all refl c.loop-client.invariant.1 c.loop-client.invariant.2
 
 pub move_one-requires-clause-ready : goal.move_one-requires-clause-ready
 move_one-requires-clause-ready c =
@@ -32,7 +32,7 @@ move_one-requires-clause-ready c =
     let all = ap staged_of c.in-Some.ensures.items ∙ staged_last c.pop.new.self.items (c.in-Some.client, change) in
     let value = c.as_slice.ensures.value in
     subst (λ (k : List ℕ). IsReady (is_some (find client_cmp k es)) k (base_at k es) change) (sym value)
-    (last_ready es (put client_cmp client (applied (held_of client es) change) es) gs rest client change all refl c.loop-client.invariant.1 c.loop-client.invariant.2)
+    (last_ready es (put client_cmp client (entry_applied (held_of client es) change) es) gs rest client change all refl c.loop-client.invariant.1 c.loop-client.invariant.2)
 
 pub note_marks-requires : goal.note_marks-requires
 note_marks-requires c = places_pass c.loop-client.table.entries c.loop-client.places.items c.loop-client.invariant.4
@@ -46,7 +46,7 @@ loop-client-preserved c =
     let client = c.in-Some.client.items in
     let change = c.in-Some.change in
     let all = ap staged_of c.in-Some.ensures.items ∙ staged_last c.pop.new.self.items (c.in-Some.client, change) in
-    let is : new ≡ put client_cmp client (applied (held_of client es) change) es = c.move_one.ensures.put ∙ ap (λ (k : List ℕ). put client_cmp k (applied (held_of k es) change) es) c.as_slice.ensures.value in
+    let is : new ≡ put client_cmp client (entry_applied (held_of client es) change) es = c.move_one.ensures.put ∙ ap (λ (k : List ℕ). put client_cmp k (entry_applied (held_of k es) change) es) c.as_slice.ensures.value in
     let staged = c.loop-client.invariant.1 in
     let movable = c.loop-client.invariant.2 in
     let places = c.loop-client.places.items in
@@ -57,6 +57,6 @@ loop-client-preserved c =
       rest_movable es new gs rest client change all is staged movable,
       rest_kept es new gs rest client change all is staged movable kept,
       subst (ArePlaces c.move_one.new.table.entries) (sym c.note_marks.ensures) (places_noted c.move_one.new.table.entries c.as_slice-in-Some.result.now marks places (c.move_one.ensures.places places c.loop-client.invariant.4)),
-      subst (AreMarked new) (sym (c.note_marks.ensures ∙ ap (λ k. noted k marks places) c.as_slice-in-Some.ensures.value))
+      subst (AreMarked new) (sym (c.note_marks.ensures ∙ ap (λ k. marks_noted k marks places) c.as_slice-in-Some.ensures.value))
           (marked_noted es new client change marks places c.loop-client.invariant.5 is c.marks_with-marks.ensures),
     )

@@ -1,5 +1,5 @@
 use Rattle.std.proofs.Common.{◌≡◌, vec_len}
-use Rattle.rep_shared.specs.Rows.{moved}
+use Rattle.rep_shared.specs.Rows.{rows_with}
 use Rattle.rep_state.specs.Tables.{by_client, rows_of, AreKept, ArePlaces}
 use Rattle.rep_entry.specs.Staging.{staged_of, AreStaged}
 use Rattle.rep_state.specs.inner.Staging.{future, AreMovable}
@@ -8,7 +8,7 @@ use Rattle.rep_state.proofs.room.move_in.Given as goal
 
 abbrev pub invariant-loop-client : goal.invariant-loop-client
 invariant-loop-client l =
-    (moved (rows_of (by_client l.table.entries)) (rows_of (future (by_client l.table.entries) (staged_of l.changes.items))) ≡ moved (rows_of (by_client l.fn.table.entries)) (rows_of (future (by_client l.fn.table.entries) (staged_of l.fn.changes.items))))
+    (rows_with (rows_of (by_client l.table.entries)) (rows_of (future (by_client l.table.entries) (staged_of l.changes.items))) ≡ rows_with (rows_of (by_client l.fn.table.entries)) (rows_of (future (by_client l.fn.table.entries) (staged_of l.fn.changes.items))))
     × AreStaged (staged_of l.changes.items)
     × AreMovable (by_client l.table.entries) (staged_of l.changes.items)
     × AreKept (by_client l.table.entries)
