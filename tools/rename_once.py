@@ -109,7 +109,7 @@ def module_of(path):
 
 class Renamer:
     def __init__(self, defs, fns):
-        self.defs, self.fns, self.report = defs, fns, []
+        self.defs, self.fns, self.report, self.passed = defs, fns, [], {}
         self.by_module = collections.defaultdict(dict)
         for (crate, module, old), new in defs.items():
             self.by_module[crate, module][old] = new
@@ -454,6 +454,8 @@ class Renamer:
                     brings = True
                     self.hit["fn", crate, home, old] += 1
             # (another crate names it by the crate; one of this crate by its file, or by a file that passes it on)
+            if where != crate and not self.is_passed_on(where, home, old, new):
+                continue
             paths = [where] if where != crate else [home.replace("/", "::"), *self.passing(crate, home, old)]
             for name in paths:
                 start = r"^\s*(?:pub(?:\([a-z]+\))? )?use " + ("" if where != crate else r"(?:crate::|super::|self::)*")
@@ -478,6 +480,16 @@ class Renamer:
                     self.note(path, f"{text.count(chr(10), 0, found.start()) + 1}: is `{old}` the function?")
             for found in re.finditer(r"\blet (?:mut )?" + w + r"\b", mask):
                 self.note(path, f"{text.count(chr(10), 0, found.start()) + 1}: a variable has the name of the function {old}")
+
+    def is_passed_on(self, crate, home, old, new):
+        """Whether the root of a crate hands on the function of this file."""
+        key = crate, home, old
+        if key not in self.passed:
+            root = CRATES / crate / "src/lib.rt"
+            text = root.read_text(encoding="utf-8") if root.is_file() else ""
+            found = re.search(r"^pub use " + re.escape(home.replace("/", "::")) + r"::(\{[^}]*\}|\w+);", text, re.M)
+            self.passed[key] = bool(found) and bool({old, new} & set(re.findall(r"\w+", found[1])))
+        return self.passed[key]
 
     def passing(self, crate, home, old):
         """Files of a crate that pass a function on by `pub use`, as a path names it."""

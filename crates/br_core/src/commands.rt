@@ -476,7 +476,12 @@ fn answered_first(alloc: Global, code: u8, m: Moment, bridge: &mut Bridge) -> Re
 }
 
 /// The topic id of the first command's name is known.
-fn command_named(alloc: Global, id: u16, command: &Command, bridge: &mut Bridge) -> Result<(), NoMemory>
+fn command_named(
+    alloc: Global,
+    id: u16,
+    command: &Command,
+    bridge: &mut Bridge,
+) -> Result<(), NoMemory>
     ensures { OnOk result (bridge.new ≡ spec.command_named id command.now bridge.old) }
 {
     let topic = command.topic.copied(alloc)?;
@@ -677,7 +682,12 @@ fn again_at(alloc: Global, m: Moment, bridge: &mut Bridge) -> Result<(), NoMemor
 }
 
 /// What is due is sent again.
-fn command_again(alloc: Global, client: &Octets, m: Moment, bridge: &mut Bridge) -> Result<(), NoMemory>
+fn command_again(
+    alloc: Global,
+    client: &Octets,
+    m: Moment,
+    bridge: &mut Bridge,
+) -> Result<(), NoMemory>
     ensures { OnOk result (bridge.new ≡ spec.command_again bridge.old.down.phase client.now m bridge.old) }
 {
     let phase = bridge.down.phase;

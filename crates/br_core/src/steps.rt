@@ -14,7 +14,9 @@ use crate::item::Item;
 use crate::lanes::{answers, falls_asleep, keeps, lane_frame, lane_tick, wakes};
 use crate::queue::Queue;
 use crate::settings::{DownFilter, LaneSettings, Settings};
-use crate::sides::{item_in_flight, all_again, does, free_packet_id, is_broker_up, next_id, sends, takes};
+use crate::sides::{
+    all_again, does, free_packet_id, is_broker_up, item_in_flight, next_id, sends, takes,
+};
 use crate::state::{
     BROKER_KEEP_ALIVE, Bridge, Doing, Down, LAST_NUMBER, Lane, Moment, Phase, Side,
 };
@@ -274,7 +276,12 @@ fn connection_ended(alloc: Global, due: u64, bridge: &mut Bridge)
 }
 
 /// The connection is over, and lanes fall asleep, if they may not acknowledge.
-fn connection_lost(alloc: Global, settings: &Settings, due: u64, bridge: &mut Bridge) -> Result<(), NoMemory>
+fn connection_lost(
+    alloc: Global,
+    settings: &Settings,
+    due: u64,
+    bridge: &mut Bridge,
+) -> Result<(), NoMemory>
     ensures { OnOk result (bridge.new ≡ spec.connection_lost settings.now due bridge.old) }
 {
     connection_ended(alloc, due, bridge);
@@ -381,7 +388,15 @@ fn broker_publication(
         body.now m bridge.old) }
 {
     let downs = settings.downs.as_slice();
-    commanded(alloc, downs, delivery_id(delivery), retain, topic, body, bridge)?;
+    commanded(
+        alloc,
+        downs,
+        delivery_id(delivery),
+        retain,
+        topic,
+        body,
+        bridge,
+    )?;
     command_begins(alloc, m, bridge)
 }
 

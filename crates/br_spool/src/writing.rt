@@ -5,7 +5,7 @@ ghost use Rattle.rep_ops.specs.Making.{IsDeltaOf};
 ghost use Rattle.br_spool.specs.Messages as spec;
 
 use crate::fault::SpoolFault;
-use crate::place::{SPOOL, queue_client, queue_of, number_seq};
+use crate::place::{SPOOL, number_seq, queue_client, queue_of};
 use br_core::Item;
 use rep_op::{Op, OpsFault, Put};
 use rep_ops::Delta;

@@ -29,7 +29,7 @@ mod sizes;
 pub use going::{goes_on, may_link};
 pub use laws::reaches_all;
 pub use name::{Name, name_of};
-pub use news::{brings_news, brings_unnoted, is_covered, is_op_known, is_lost, is_noted};
+pub use news::{brings_news, brings_unnoted, is_covered, is_lost, is_noted, is_op_known};
 pub use pausing::{
     ANSWER_PAUSE, GONE_TIME, LINE_PAUSE, LONGEST_BACKLOG, LONGEST_LISTENING, LONGEST_PAUSE,
     QUIET_MOMENT, QUIET_TIME, is_behind, is_gone, is_quiet, is_to_tell, may_answer, may_serve,

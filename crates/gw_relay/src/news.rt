@@ -223,7 +223,8 @@ pub fn is_lost(digest: &Digest, notes: &[Name], gateway: u8, op: &Op) -> bool
             first: _,
             last,
         } => *origin == gateway && !reaches(digest, client, *origin, *last),
-        Op::Retain { retained, .. } => retained.gateway == gateway && !is_op_known(digest, notes, op),
+        Op::Retain { retained, .. } => retained.gateway == gateway
+            && !is_op_known(digest, notes, op),
     }
 }
 

@@ -72,7 +72,8 @@ fn count(history: &[Entry], kind: CallKind, answer: CallAnswer) -> usize
 fn is_call(entry: &Entry, kind: CallKind, answer: CallAnswer) -> bool
     ensures { result ≡ spec.is_call kind answer entry.now }
 {
-    call_kind(&entry.step).number() == kind.number() && reply_number(&entry.answer) == answer.number()
+    call_kind(&entry.step).number() == kind.number()
+        && reply_number(&entry.answer) == answer.number()
 }
 
 /// The kind of a call.

@@ -8,7 +8,7 @@ use crate::stop::Stop;
 use crate::telling::{
     Refusal, Told, refusal_in_frame, refusal_in_packet, soon_ended, spool_failed,
 };
-use br_core::{Action, Bridge, Command, Event, Item, Moment, Why, command_begun, step};
+use br_core::{Action, Bridge, Command, Event, Item, Moment, Why, begun, step};
 use mio::{Events, Poll, Registry};
 use mq_packet::Packet;
 use octets::Sequence;
@@ -193,7 +193,7 @@ fn opened_with<'a>(
     poll: Poll,
     gates: Gates,
 ) -> Result<Turning<'a>, Stop> {
-    match command_begun(alloc, &setup.settings) {
+    match begun(alloc, &setup.settings) {
         Ok(bridge) => Ok(turning_of(alloc, setup, poll, gates, bridge)),
         Err(_) => {
             drop(poll);

@@ -12,7 +12,7 @@ use crate::stop::Stop;
 use br_core::Item;
 use br_spool::{Held, SPOOL, SpoolFault, delta_of, held_in};
 use file_disk::{FileDisk, FileDiskFault};
-use gw_main::{Tended, changed_length, is_grown, next_try, begin_fault_number, tend};
+use gw_main::{Tended, begin_fault_number, changed_length, is_grown, next_try, tend};
 use gw_node::{Node, NodeFault};
 use jr_disk::{Disk, Slot};
 use octets::Sequence;

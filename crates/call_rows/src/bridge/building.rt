@@ -2,7 +2,7 @@
 
 use crate::sets::words::Words;
 use br_core::{
-    Action, Bridge, DownFilter, Event, LaneSettings, MAX_WAITING, Moment, Settings, UpName, command_begun,
+    Action, Bridge, DownFilter, Event, LaneSettings, MAX_WAITING, Moment, Settings, UpName, begun,
     step,
 };
 use mq_packet::{Packet, Qos};
@@ -294,7 +294,7 @@ fn settings_for(alloc: Global, size: Size) -> Result<Settings, NoMemory> {
 /// A bridge of this size.
 pub(crate) fn new_stage(alloc: Global, size: Size) -> Result<Stage, NoMemory> {
     let settings = settings_for(alloc, size)?;
-    match command_begun(alloc, &settings) {
+    match begun(alloc, &settings) {
         Ok(bridge) => Ok(Stage {
             settings,
             bridge,

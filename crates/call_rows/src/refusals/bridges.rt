@@ -4,7 +4,7 @@ use crate::refusals::calls::{Calls, Made, Shown, beside, given, is_word};
 use crate::refusals::packets::show_or_refuse;
 use crate::refusals::said::Said;
 use crate::refusals::topics::topic;
-use br_core::{Bridge, Command, Event, Item, LaneSettings, Moment, Queue, Settings, command_begun, step};
+use br_core::{Bridge, Command, Event, Item, LaneSettings, Moment, Queue, Settings, begun, step};
 use br_map::{Prefix, PrefixFault, apart_below};
 use br_spool::{Held, SpoolFault, delta_of, held_in};
 use mq_packet::Qos;
@@ -79,7 +79,7 @@ impl Made for Bridges {
 /// All of it.
 fn bridge_parts(alloc: Global) -> Result<Bridges, NoMemory> {
     let settings = settings(alloc)?;
-    match command_begun(alloc, &settings) {
+    match begun(alloc, &settings) {
         Ok(bridge) => parts_beside(alloc, settings, bridge),
         Err(fault) => {
             drop(settings);
@@ -130,7 +130,7 @@ impl Calls for Bridges {
                 show_or_refuse(said, copy);
             }
             "begun" => {
-                let bridge = command_begun(said.alloc, &self.settings);
+                let bridge = begun(said.alloc, &self.settings);
                 show_or_refuse(said, bridge);
             }
             "step" => self.step_once(said),
@@ -161,7 +161,7 @@ impl Bridges {
 
     /// Another bridge begins.
     fn begin(&mut self, said: &mut Said) {
-        let made = command_begun(said.alloc, &self.settings);
+        let made = begun(said.alloc, &self.settings);
         if let Some(bridge) = beside(said, made) {
             drop(mem::replace(&mut self.bridge, bridge));
         }
