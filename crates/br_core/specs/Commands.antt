@@ -75,7 +75,8 @@ queued id from topic body bridge =
 
 -- the broker is told that a publication was taken, if it wants to be
 abbrev pub broker_told : ℕ → Bridge → Bridge
-broker_told id bridge = if id == 0 then bridge else does (actions.ToBroker (packets.PubAck id)) bridge
+broker_told id bridge =
+    if id == 0 then bridge else does (actions.ToBroker (packets.PubAck id)) bridge
 
 -- a publication of the broker waits for its turn. A message that the broker kept is acknowledged at
 -- once, unless the filter hands such messages on.
@@ -196,7 +197,8 @@ begun_by None dup m command down bridge = sent_in down.phase dup m command down 
 
 abbrev pub command_begun : List Command → Bool → Moment → Down → Bridge → Bridge
 command_begun [] dup m down bridge = put_down down bridge
-command_begun (command ∷ more) dup m down bridge = begun_by (obstacle command) dup m command down bridge
+command_begun (command ∷ more) dup m down bridge =
+    begun_by (obstacle command) dup m command down bridge
 
 -- the first command is begun, if none is
 abbrev pub begun_at : Doing → Moment → Bridge → Bridge
@@ -252,10 +254,12 @@ named_first (command ∷ more) topic_id code m bridge =
 abbrev pub command_lane_heard_at : Doing → Moment → Down → Down
 command_lane_heard_at doings.Publishing m down = down
 command_lane_heard_at doings.Registering m down = down
-command_lane_heard_at doing m down = if down.tries == 0 then down else record down { tries = 0; due = m.ping }
+command_lane_heard_at doing m down =
+    if down.tries == 0 then down else record down { tries = 0; due = m.ping }
 
 abbrev pub command_lane_heard : Moment → Bridge → Bridge
-command_lane_heard m bridge = put_down (command_lane_heard_at bridge.down.doing m bridge.down) bridge
+command_lane_heard m bridge =
+    put_down (command_lane_heard_at bridge.down.doing m bridge.down) bridge
 
 -- PUBACK and REGACK are answers to what was sent last, if that was a PUBLISH and a REGISTER
 abbrev pub acked_at : Doing → ℕ → ℕ → Moment → Bridge → Bridge
@@ -330,7 +334,8 @@ down_tick client m bridge =
 
 -- a line is kept: it counts if it is that of the first command
 abbrev pub line_kept : Doing → ℕ → Moment → Bridge → Bridge
-line_kept (doings.Refusing own) line m bridge = if own == line then command_done m bridge else bridge
+line_kept (doings.Refusing own) line m bridge =
+    if own == line then command_done m bridge else bridge
 line_kept doing line m bridge = bridge
 
 abbrev pub kept : ℕ → Moment → Bridge → Bridge

@@ -191,7 +191,8 @@ brings_if (Some held) settings place name up topic_id msg_id body lane bridge =
 -- a reading of quality of service 0 goes on, if the broker is there and there is room; else it
 -- takes no number
 abbrev pub reading_goes_on : Settings → List ℕ → Bridge → Bool
-reading_goes_on settings body bridge = is_broker_up bridge.side && reading_has_room settings body bridge
+reading_goes_on settings body bridge =
+    is_broker_up bridge.side && reading_has_room settings body bridge
 
 abbrev pub passes : Settings → ℕ → UpName → List ℕ → Lane → Bridge → Bridge
 passes settings place up body lane bridge =
@@ -333,7 +334,8 @@ pings place m lane client bridge =
 abbrev pub lane_again : Phase → LaneSettings → ℕ → Moment → Lane → Bridge → Bridge
 lane_again phases.Away own place m lane bridge = connecting own place m lane bridge
 lane_again phases.Connecting own place m lane bridge = connecting own place m lane bridge
-lane_again (phases.Subscribing next) own place m lane bridge = subscribing own place next m lane bridge
+lane_again (phases.Subscribing next) own place m lane bridge =
+    subscribing own place next m lane bridge
 lane_again phases.Listening own place m lane bridge = pings place m lane [] bridge
 lane_again phases.Asleep own place m lane bridge = bridge
 

@@ -71,7 +71,8 @@ sent_under id item bridge =
 -- a reading is sent; without an acknowledgement it is handed on at once
 abbrev pub item_sent : Qos → Item → Bridge → Bridge
 item_sent levels.Zero item bridge = does (actions.Reading item.number (at_once item)) bridge
-item_sent levels.One item bridge = sent_under (free_packet_id bridge.packet_id bridge.flight) item bridge
+item_sent levels.One item bridge =
+    sent_under (free_packet_id bridge.packet_id bridge.flight) item bridge
 
 -- a reading waits behind those that wait
 abbrev pub item_waits : Item → Bridge → Bridge

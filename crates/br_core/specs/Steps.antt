@@ -162,7 +162,8 @@ abbrev pub delivery_id : Delivery → ℕ
 delivery_id deliveries.Once = 0
 delivery_id (deliveries.Acknowledged id dup) = id
 
-abbrev pub broker_publication : Settings → Delivery → Bool → List ℕ → List ℕ → Moment → Bridge → Bridge
+abbrev pub broker_publication : Settings → Delivery → Bool → List ℕ → List ℕ → Moment → Bridge
+    → Bridge
 broker_publication settings delivery retain topic body m bridge =
     command_begins m (commanded settings.downs (delivery_id delivery) retain topic body bridge)
 
@@ -200,7 +201,8 @@ new_packet settings m packet bridge = hangs_up settings m.retry bridge
 -- what comes shows that the broker is there: the next sign of life is due later, if one was asked
 -- for
 abbrev pub broker_heard : Moment → Bridge → Bridge
-broker_heard m bridge = if bridge.tries == 0 then bridge else record bridge { tries = 0; due = m.ping }
+broker_heard m bridge =
+    if bridge.tries == 0 then bridge else record bridge { tries = 0; due = m.ping }
 
 -- a packet of the broker, by how far the connection is
 abbrev pub packet_in : Side → Settings → Moment → Packet → Bridge → Bridge

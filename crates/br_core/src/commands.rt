@@ -143,7 +143,8 @@ fn command_asked(
     body: &Octets,
     bridge: &mut Bridge,
 ) -> Result<(), NoMemory>
-    ensures { OnOk result (bridge.new ≡ spec.command_asked (option_copied entry.entry) id retain topic.now
+    ensures { OnOk result
+        (bridge.new ≡ spec.command_asked (option_copied entry.entry) id retain topic.now
         body.now bridge.old) }
 {
     let Some(entry) = entry else {
@@ -285,7 +286,8 @@ fn publishing(
 /// REGISTER of a command's name (MQTT-SN 1.2 section 6.5); a session that has no id left begins
 /// anew.
 fn command_registering(m: Moment, command: Command, bridge: &mut Bridge) -> Result<(), NoMemory>
-    ensures { OnOk result (bridge.new ≡ spec.command_registering m command bridge.old.down bridge.old) }
+    ensures { OnOk result
+        (bridge.new ≡ spec.command_registering m command bridge.old.down bridge.old) }
 {
     if MAX_NAMES <= bridge.down.ids.len() {
         drop(command);
@@ -316,7 +318,8 @@ fn away(m: Moment, bridge: &mut Bridge)
 
 /// A command goes out under its id, or its name is registered first.
 fn sent(dup: bool, m: Moment, command: Command, bridge: &mut Bridge) -> Result<(), NoMemory>
-    ensures { OnOk result (bridge.new ≡ spec.sent_as (spec.short_name_id command.topic) dup m command
+    ensures { OnOk result
+        (bridge.new ≡ spec.sent_as (spec.short_name_id command.topic) dup m command
         bridge.old.down bridge.old) }
 {
     if let Some(id) = short_name_id(command.topic.as_slice()) {
@@ -380,7 +383,8 @@ fn first(alloc: Global, bridge: &Bridge) -> Result<Option<Command>, NoMemory>
 
 /// The first command is begun.
 fn command_begun(alloc: Global, dup: bool, m: Moment, bridge: &mut Bridge) -> Result<(), NoMemory>
-    ensures { OnOk result (bridge.new ≡ spec.command_begun bridge.old.down.queue dup m bridge.old.down
+    ensures { OnOk result
+        (bridge.new ≡ spec.command_begun bridge.old.down.queue dup m bridge.old.down
         bridge.old) }
 {
     match first(alloc, bridge)? {
@@ -688,7 +692,8 @@ fn command_again(
     m: Moment,
     bridge: &mut Bridge,
 ) -> Result<(), NoMemory>
-    ensures { OnOk result (bridge.new ≡ spec.command_again bridge.old.down.phase client.now m bridge.old) }
+    ensures { OnOk result
+        (bridge.new ≡ spec.command_again bridge.old.down.phase client.now m bridge.old) }
 {
     let phase = bridge.down.phase;
     match phase {

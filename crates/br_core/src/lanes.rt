@@ -503,7 +503,8 @@ fn lane_publication(
     bridge: &mut Bridge,
 ) -> Result<(), NoMemory>
     requires { place < length bridge.old.lanes }
-    ensures { OnOk result (bridge.new ≡ spec.lane_publication settings.now own.now place flags topic_id
+    ensures { OnOk result
+        (bridge.new ≡ spec.lane_publication settings.now own.now place flags topic_id
         msg_id body.now lane bridge.old) }
 {
     let names = own.names.as_slice();
@@ -596,7 +597,8 @@ fn name_registered(
     bridge: &mut Bridge,
 ) -> Result<(), NoMemory>
     requires { place < length bridge.old.lanes }
-    ensures { OnOk result (bridge.new ≡ spec.name_registered (spec.name_place name.now own.now.names) place
+    ensures { OnOk result
+        (bridge.new ≡ spec.name_registered (spec.name_place name.now own.now.names) place
         m topic_id msg_id lane bridge.old) }
 {
     let Some(at) = name_place(name.as_slice(), own.names.as_slice()) else {
@@ -835,7 +837,8 @@ fn lane_again(
     bridge: &mut Bridge,
 ) -> Result<(), NoMemory>
     requires { place < length bridge.old.lanes }
-    ensures { OnOk result (bridge.new ≡ spec.lane_again lane.phase own.now place m lane bridge.old) }
+    ensures { OnOk result
+        (bridge.new ≡ spec.lane_again lane.phase own.now place m lane bridge.old) }
 {
     let phase = lane.phase;
     match phase {
@@ -952,7 +955,8 @@ fn answered(
     bridge: &mut Bridge,
 ) -> Result<(), NoMemory>
     requires { place < length bridge.old.lanes }
-    ensures { OnOk result (bridge.new ≡ spec.answered_at (spec.is_lane_awake lane.phase) place held lane
+    ensures { OnOk result
+        (bridge.new ≡ spec.answered_at (spec.is_lane_awake lane.phase) place held lane
         bridge.old) }
 {
     let topic_id = held.topic_id;

@@ -320,7 +320,8 @@ fn broker_welcomed(
     m: Moment,
     bridge: &mut Bridge,
 ) -> Result<(), NoMemory>
-    ensures { OnOk result (bridge.new ≡ spec.broker_welcomed settings.now session code m bridge.old) }
+    ensures { OnOk result
+        (bridge.new ≡ spec.broker_welcomed settings.now session code m bridge.old) }
 {
     if code != 0 {
         return hangs_up(alloc, settings, m.minute, bridge);
@@ -384,7 +385,8 @@ fn broker_publication(
     m: Moment,
     bridge: &mut Bridge,
 ) -> Result<(), NoMemory>
-    ensures { OnOk result (bridge.new ≡ spec.broker_publication settings.now delivery retain topic.now
+    ensures { OnOk result
+        (bridge.new ≡ spec.broker_publication settings.now delivery retain topic.now
         body.now m bridge.old) }
 {
     let downs = settings.downs.as_slice();

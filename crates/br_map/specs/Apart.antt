@@ -35,4 +35,5 @@ ends_a_level (octet ∷ next ∷ more) = ends_a_level (next ∷ more)
 
 -- no topic that a filter matches can match the other one when it is put below the prefix
 abbrev pub is_apart_below : List ℕ → List ℕ → List ℕ → Bool
-is_apart_below prefix filter other = ends_a_level prefix && are_filters_apart (prefix ++ filter) other
+is_apart_below prefix filter other =
+    ends_a_level prefix && are_filters_apart (prefix ++ filter) other

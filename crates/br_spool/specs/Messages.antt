@@ -26,7 +26,8 @@ item_put item = ops.Put (queue_client (queue_of item.number)) (item_message item
 
 -- the acknowledgement of the reading of a number
 abbrev pub number_ack : ℕ → Op
-number_ack number = ops.Ack (queue_client (queue_of number)) SPOOL (number_seq number) (number_seq number)
+number_ack number =
+    ops.Ack (queue_client (queue_of number)) SPOOL (number_seq number) (number_seq number)
 
 -- whether a reading of this number is among these
 abbrev pub is_item_among : ℕ → List Item → Bool
@@ -45,4 +46,5 @@ others_from from (suc count) items = other_number from items ++ others_from (fro
 -- keeps.
 abbrev pub spool_ops : ℕ → ℕ → List Item → List ℕ → List Op
 spool_ops from below items numbers =
-    map item_put items ++ map number_ack numbers ++ map number_ack (others_from from (below - from) items)
+    map item_put items ++ map number_ack numbers
+    ++ map number_ack (others_from from (below - from) items)

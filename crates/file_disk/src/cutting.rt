@@ -34,7 +34,8 @@ pub(crate) enum Shortened {
 /// Writes from the front as far as it goes, and says how far.
 pub(crate) fn write_front<F: SlotFile>(file: &mut F, bytes: &[u8]) -> usize
     ensures within { result ≤ length bytes.now }
-    ensures grown { F.honest → F.state file.new ≡ file_grown (F.state file.old) (take result bytes.now) }
+    ensures grown { F.honest
+        → F.state file.new ≡ file_grown (F.state file.old) (take result bytes.now) }
 {
     let mut written = 0;
     while written < bytes.len() {
@@ -50,7 +51,8 @@ pub(crate) fn write_front<F: SlotFile>(file: &mut F, bytes: &[u8]) -> usize
 /// Writes once: how many of the octets went out, none where the write failed.
 fn write_once<F: SlotFile>(file: &mut F, bytes: &[u8]) -> usize
     ensures within { result ≤ length bytes.now }
-    ensures grown { F.honest → F.state file.new ≡ file_grown (F.state file.old) (take result bytes.now) }
+    ensures grown { F.honest
+        → F.state file.new ≡ file_grown (F.state file.old) (take result bytes.now) }
 {
     match file.add(bytes) {
         Ok(size) => size,

@@ -77,7 +77,8 @@ compacted gateway base drive = record drive {
 -- the disk if this failure comes as the base of a compaction is written: the journal is halted
 abbrev pub torn_base : Plan → ℕ → List (List Op) → Drive → Drive
 torn_base plan gateway base drive = record drive {
-  slots = after_append (Some plan) (emptied drive.slots (other_slot drive.slot)) (other_slot drive.slot)
+  slots =
+      after_append (Some plan) (emptied drive.slots (other_slot drive.slot)) (other_slot drive.slot)
       (base_bytes gateway (generation gateway drive + 1) base);
   halted = true;
   plan = None;

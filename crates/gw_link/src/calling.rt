@@ -96,8 +96,8 @@ pub fn call<T: Wait, R: Replica, D: Disk + Drop>(
 }
 
 /// Makes calls in a row, with one sync, each of which is claimed. Says what the gateway answered to
-/// the first of them, one at least: the others are for another row. Or says why none of them reached
-/// it.
+/// the first of them, one at least: the others are for another row. Or says why none of them
+/// reached it.
 #[tactic(auto, using(crate::proofs::Adding::adds_none, crate::proofs::Adding::adds_row))]
 pub fn call_all<T: Wait, R: Replica, D: Disk + Drop>(
     rt: &T,

@@ -145,7 +145,8 @@ peers_in members = list_in address_item (value_at keys.Peers members)
 
 -- the predefined topic ids with their names; none if it is not said
 abbrev pub predefined_in : Members → Option Entries
-predefined_in members = option_and_then table_from (list_in entry_item (value_at keys.Predefined members))
+predefined_in members =
+    option_and_then table_from (list_in entry_item (value_at keys.Predefined members))
 
 -- the gateways that may be linked; none if it is not said
 abbrev pub numbers_in : Members → Option (List ℕ)

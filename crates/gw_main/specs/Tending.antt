@@ -37,7 +37,8 @@ abbrev pub TendingEndsAs : {D : Type 0} {G : Ghosts D} → State G → Tended �
 TendingEndsAs old Kept new = CompactsIfMay old new
 TendingEndsAs old Starved new = CompactsLater old new
 TendingEndsAs old Reopened new = ⊥
-TendingEndsAs {G = G} old Unwritten new = (failed : State G) × CompactsNot old failed × OpensAnew failed new
+TendingEndsAs {G = G} old Unwritten new =
+    (failed : State G) × CompactsNot old failed × OpensAnew failed new
 
 -- and that is refused
 abbrev pub EndsRefused : {D : Type 0} {G : Ghosts D} → State G → Refusal → State G → Type 0

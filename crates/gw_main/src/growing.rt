@@ -58,9 +58,9 @@ pub fn next_try(last: u64) -> u64
 }
 
 /// How many seconds a gateway waits after a shift before it opens its journal and tries again:
-/// nothing where its writes go out. A first shift with a failed write makes it wait for none, as one
-/// try may be enough; each later one for a next try, until there is a shift in which something was
-/// recorded and all of it went out.
+/// nothing where its writes go out. A first shift with a failed write makes it wait for none, as
+/// one try may be enough; each later one for a next try, until there is a shift in which something
+/// was recorded and all of it went out.
 pub fn next_wait(last: Option<u64>, has_recorded: bool, has_failed: bool) -> Option<u64>
     ensures { result ≡ spec.next_wait last has_recorded has_failed }
 {

@@ -89,7 +89,8 @@ pub(crate) fn address_item(value: &Value) -> Option<Addr>
 
 /// The address at a key.
 pub(crate) fn address_at(table: &Table, key: Key) -> Result<Addr, SettingsFault>
-    ensures ok { IfOk result (λ addr. address_in (value_at key (table_view table.now)) ≡ Some addr) }
+    ensures ok { IfOk result
+        (λ addr. address_in (value_at key (table_view table.now)) ≡ Some addr) }
     ensures err { IfErr result (IsBadAt (address_in (value_at key (table_view table.now))) key) }
 {
     match found(table, key.name()) {
@@ -130,7 +131,8 @@ fn level_item(value: &Value) -> Option<u8>
 
 /// The level at a key; 0 if it is not there.
 pub(crate) fn level_at(table: &Table, key: Key) -> Result<u8, SettingsFault>
-    ensures ok { IfOk result (λ level. spec.level_in (value_at key (table_view table.now)) ≡ Some level) }
+    ensures ok { IfOk result
+        (λ level. spec.level_in (value_at key (table_view table.now)) ≡ Some level) }
     ensures err { IfErr result (IsBadAt (spec.level_in (value_at key (table_view table.now))) key) }
 {
     match found(table, key.name()) {

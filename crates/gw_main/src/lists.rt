@@ -247,7 +247,8 @@ fn entries(alloc: Global, items: &[Value]) -> Result<Vec<(u16, TopicName)>, Sett
 
 /// The entries under the key of the predefined topic ids; none where it is not there.
 fn entries_at(alloc: Global, table: &Table) -> Result<Vec<(u16, TopicName)>, SettingsFault>
-    ensures ok { IfOk result (λ all. list_in entry_item (value_at keys.Predefined (table_view table.now))
+    ensures ok { IfOk result
+        (λ all. list_in entry_item (value_at keys.Predefined (table_view table.now))
         ≡ Some all.items) }
     ensures err { IfErr result (IsBadAt (list_in entry_item
         (value_at keys.Predefined (table_view table.now))) keys.Predefined) }

@@ -43,7 +43,8 @@ pub fn tend<R: Replica, D: Disk + Drop>(
     ensures runs { OnOk result (spec.is_halted (state_of R.kept node.new) ≡ false) }
     ensures halts { OnErr result (spec.is_halted (state_of R.kept node.new) ≡ true) }
     ensures tended { MatchResult result (λ tended. IsTended (state_of R.kept node.old) tended
-        (state_of R.kept node.new)) (λ fault. IsGivenUp (state_of R.kept node.old) (refusal_of_fault fault)
+        (state_of R.kept node.new)) (λ fault. IsGivenUp (state_of R.kept node.old)
+        (refusal_of_fault fault)
         (state_of R.kept node.new)) }
     ensures taken { D.honest → TakesOn (state_of R.kept node.old) (state_of R.kept node.new) }
 {
@@ -66,7 +67,8 @@ fn open_anew<R: Replica, D: Disk + Drop>(
     node: &mut Node<R, D>,
 ) -> Result<(), NodeFault>
     ensures ok { OnOk result (OpensAnew (state_of R.kept node.old) (state_of R.kept node.new)) }
-    ensures err { IfErr result (λ fault. ReopenCall (state_of R.kept node.old) (Err (refusal_of_fault fault))
+    ensures err { IfErr result
+        (λ fault. ReopenCall (state_of R.kept node.old) (Err (refusal_of_fault fault))
         (state_of R.kept node.new)) }
     ensures again { OnOk result (TakesAgain (state_of R.kept node.old) (state_of R.kept node.new)) }
     ensures nothing { OnErr result (TakesNothing (state_of R.kept node.old)
@@ -88,7 +90,8 @@ fn compact<R: Replica, D: Disk + Drop>(
     ensures runs { OnOk result (spec.is_halted (state_of R.kept node.new) ≡ false) }
     ensures halts { OnErr result (spec.is_halted (state_of R.kept node.new) ≡ true) }
     ensures ends { MatchResult result (λ tended. TendingEndsAs (state_of R.kept node.old) tended
-        (state_of R.kept node.new)) (λ fault. EndsRefused (state_of R.kept node.old) (refusal_of_fault fault)
+        (state_of R.kept node.new)) (λ fault. EndsRefused (state_of R.kept node.old)
+        (refusal_of_fault fault)
         (state_of R.kept node.new)) }
     ensures taken { D.honest → TakesOn (state_of R.kept node.old) (state_of R.kept node.new) }
 {

@@ -26,7 +26,8 @@ body_of_message (OfDelta d) = delta_spelling d
 
 -- a message: its kind, the length of its body, and the body
 abbrev pub message_spelling : LinkMessage → List ℕ
-message_spelling m = message_kind m ∷ (big_bytes 4 (length (body_of_message m)) ++ body_of_message m)
+message_spelling m =
+    message_kind m ∷ (big_bytes 4 (length (body_of_message m)) ++ body_of_message m)
 
 -- a hello of a gateway 1 to 255; or a digest or a delta, within its limit
 abbrev pub IsLinkMessage : LinkMessage → Type 0

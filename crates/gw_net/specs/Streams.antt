@@ -32,7 +32,8 @@ front_sized kind (Ok read) =
 unfoldable pub front : List ℕ → Front
 front [] = Ok None
 front (kind ∷ rest) =
-    if nat_le 1 kind && nat_le kind 3 then front_sized kind (number_at w32 rest) else Err faults.Kind
+    if nat_le 1 kind && nat_le kind 3 then front_sized kind (number_at w32 rest)
+    else Err faults.Kind
 
 -- what comes after the messages: no whole message, or the fault
 abbrev pub EndsMessages : List ℕ → Option LinkFault → Type 0

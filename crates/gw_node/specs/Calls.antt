@@ -224,7 +224,8 @@ abbrev pub CompactCall : {D : Type 0} {G : Ghosts D} → State G → Result Out 
     → Type 0
 CompactCall old (Err refusals.Halted) new = (is_halted old ≡ true) × IsUnchanged old new
 CompactCall old (Err (refusals.Journal journal_faults.Foreign)) new =
-    (is_halted old ≡ false) × (generation_of old.journal ≡ last_generation) × HasReadGeneration old.journal
+    (is_halted old ≡ false) × (generation_of old.journal ≡ last_generation)
+    × HasReadGeneration old.journal
     × IsUnchanged old new
 CompactCall old (Err (refusals.Journal journal_faults.Disk)) new = ⊥
 CompactCall old (Err (refusals.Journal journal_faults.Halted)) new = ⊥

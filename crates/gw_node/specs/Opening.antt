@@ -120,7 +120,8 @@ pub record IsReopened {D : Type 0} {G : Ghosts D} (old new : State G) : Type 0 w
   pub runs : is_halted new ≡ false
   pub gateway : gateway_of new.journal ≡ gateway_of old.journal
   pub failures : G.failures (disk_under old.journal) ≤ G.failures (disk_under new.journal)
-  pub starved : G.starved (disk_under old.journal) ≡ true → G.starved (disk_under new.journal) ≡ true
+  pub starved : G.starved (disk_under old.journal) ≡ true
+      → G.starved (disk_under new.journal) ≡ true
   pub records : G.honest → new.records ≡ length (on_disk old)
   pub keeps : G.honest → Keeps (all_of (on_disk old)) new.kept
   pub none : G.honest → on_disk old ≡ [] → new.kept ≡ []
@@ -150,7 +151,8 @@ pub record IsNotReopened {D : Type 0} {G : Ghosts D} (old : State G) (refusal : 
   pub failures : G.failures (disk_under old.journal) ≤ G.failures (disk_under new.journal)
   pub cause : IsDiskFault refusal → G.failures (disk_under old.journal)
       < G.failures (disk_under new.journal)
-  pub starved : G.starved (disk_under old.journal) ≡ true → G.starved (disk_under new.journal) ≡ true
+  pub starved : G.starved (disk_under old.journal) ≡ true
+      → G.starved (disk_under new.journal) ≡ true
   pub fault : G.honest → IsOpenFault (gateway_of old.journal) (image_of old) refusal
   pub slots : G.honest → LeavesSlots (gateway_of old.journal) (G.slots (disk_under old.journal))
       refusal (G.slots (disk_under new.journal))

@@ -47,7 +47,8 @@ pub record Lasts (gateway : Gateway) : Type 0 where
 -- The node stands for the gateway. Both have the same settings and the same local state. The node's
 -- replica keeps what it should of the set. Its journal is in the same slot, and halted or not as
 -- the gateway's. An honest disk has these bytes.
-pub record Represents {D : Type 0} {G : Ghosts D} (gateway : Gateway) (state : State G) : Type 0 where
+pub record Represents {D : Type 0} {G : Ghosts D} (gateway : Gateway)
+    (state : State G) : Type 0 where
   pub configured : state.config ≡ gateway.config
   pub numbered : gateway_of state.journal ≡ gateway.config.gateway
   pub bound : state.local ≡ gateway.local
@@ -107,7 +108,8 @@ CallAgrees gateway steps.Reopen = Unit {0}
 pub record IsClear {D : Type 0} {G : Ghosts D} (gateway : Gateway) (old : State G)
     (answer : Result Out Refusal) (new : State G) : Type 0 where
   pub honest : G.honest
-  pub cause : failed answer ≡ 1 → (G.starved (disk_under new.journal) ≡ false) × IsForeseen gateway old
+  pub cause : failed answer ≡ 1
+      → (G.starved (disk_under new.journal) ≡ false) × IsForeseen gateway old
 
 -- Of a reopening it can be said on an honest disk, if it went well and what was taken lasts.
 abbrev pub WentWell : Type 0 → Gateway → Result Out Refusal → Type 0
@@ -146,8 +148,8 @@ AgreeInTurn gateway (step ∷ rest) =
     × ((answer : Result Out Refusal) (next : Gateway) (made : List (List Op))
     → Event gateway step answer next made → AgreeInTurn next rest)
 
--- what must be known of the disk so that the calls can be said to be events of the gateway: nothing,
--- unless there is one call alone
+-- what must be known of the disk so that the calls can be said to be events of the gateway:
+-- nothing, unless there is one call alone
 abbrev pub CanAllBeSaid : {D : Type 0} {G : Ghosts D} → Gateway → State G → List Step
     → List (Result Out Refusal) → State G → Type 0
 CanAllBeSaid gateway old [] answers new = Unit {0}

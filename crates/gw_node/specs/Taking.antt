@@ -15,7 +15,8 @@ use Rattle.gw_node.specs.Parts.{State, is_halted}
 
 -- the records that an opening of the node's disk would read
 abbrev pub on_disk : {D : Type 0} {G : Ghosts D} → State G → List (List Op)
-on_disk {G = G} state = records (gateway_of state.journal) (image (G.slots (disk_under state.journal)))
+on_disk {G = G} state =
+    records (gateway_of state.journal) (image (G.slots (disk_under state.journal)))
 
 -- J contains what must be kept of S, and lies within S and the deltas that were refused
 pub record IsBetween (S : List Op) (refused : List (List Op)) (J : List Op) : Type 0 where

@@ -27,7 +27,8 @@ pub record IsWritten {D : Type 0} {G : Ghosts D} (old : Journal D G) (delta : Li
       (records (gateway_of old) (image (G.slots (disk_under old))) ++ delta ∷ [])
   -- if it is known which failure is arranged, there was none
   pub known : G.honest → G.starved (disk_under new) ≡ false
-      → AppendedAs (G.outlook (disk_under old)) (G.slots (disk_under old)) (slot_of old) (written delta)
+      → AppendedAs (G.outlook (disk_under old)) (G.slots (disk_under old)) (slot_of old)
+      (written delta)
       (Ok (record {})) (G.slots (disk_under new)) (G.outlook (disk_under new))
 
 -- The disk failed: the journal is halted, and a crash leaves the delta as one more record, or does
@@ -48,7 +49,8 @@ pub record IsFailed {D : Type 0} {G : Ghosts D} (old : Journal D G) (delta : Lis
       (records (gateway_of old) (image (G.slots (disk_under old)))) delta
   -- if it is known which failure is arranged, it is this one
   pub known : G.honest → G.starved (disk_under new) ≡ false
-      → AppendedAs (G.outlook (disk_under old)) (G.slots (disk_under old)) (slot_of old) (written delta)
+      → AppendedAs (G.outlook (disk_under old)) (G.slots (disk_under old)) (slot_of old)
+      (written delta)
       (Err faults.Disk) (G.slots (disk_under new)) (G.outlook (disk_under new))
 
 -- ---- a compaction
@@ -79,7 +81,8 @@ pub record IsRewritten {D : Type 0} {G : Ghosts D} (old : Journal D G) (base : L
   pub durable : G.honest → Leaves (gateway_of old) (G.slots (disk_under new)) base
   -- if it is known which failure is arranged, there was none
   pub known : G.honest → G.starved (disk_under new) ≡ false
-      → AppendedAs (G.outlook (disk_under old)) (emptied (G.slots (disk_under old)) (other_slot (slot_of old)))
+      → AppendedAs (G.outlook (disk_under old))
+      (emptied (G.slots (disk_under old)) (other_slot (slot_of old)))
       (other_slot (slot_of old)) (base_bytes (gateway_of old) (generation_of old + 1) base)
       (Ok (record {})) (G.slots (disk_under new)) (G.outlook (disk_under new))
 
@@ -100,6 +103,7 @@ pub record IsNotRewritten {D : Type 0} {G : Ghosts D} (old : Journal D G) (base 
       (records (gateway_of old) (image (G.slots (disk_under old)))) base
   -- if it is known which failure is arranged, it is this one
   pub known : G.honest → G.starved (disk_under new) ≡ false
-      → AppendedAs (G.outlook (disk_under old)) (emptied (G.slots (disk_under old)) (other_slot (slot_of old)))
+      → AppendedAs (G.outlook (disk_under old))
+      (emptied (G.slots (disk_under old)) (other_slot (slot_of old)))
       (other_slot (slot_of old)) (base_bytes (gateway_of old) (generation_of old + 1) base)
       (Err faults.Disk) (G.slots (disk_under new)) (G.outlook (disk_under new))

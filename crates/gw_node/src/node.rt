@@ -149,7 +149,8 @@ impl<R: Replica, D: Disk + Drop> Node<R, D> {
         ensures blameless { D.honest → IsTrue
             (misses_failure (D.outlook disk) (is_fresh (image (D.slots disk)))) →
             IfErr result (λ refused. D.starved refused.0 ≡ false
-            → (IsDiskFault (refusal_of_fault refused.1) → ⊥) × (D.outlook refused.0 ≡ D.outlook disk)) }
+            → (IsDiskFault (refusal_of_fault refused.1) → ⊥)
+            × (D.outlook refused.0 ≡ D.outlook disk)) }
     {
         let Ok(replica) = R::empty(alloc) else {
             return Err((disk, NodeFault::Memory));
@@ -318,9 +319,9 @@ impl<R: Replica, D: Disk + Drop> Node<R, D> {
     ///
     /// Each call is answered as if it came alone, on what those before it led to; and its answer is
     /// given in shares, which are taken before the journal is written. Where the disk fails, `Disk`
-    /// is told to the first call that had something to write, with its excuse, and `Halted` to those
-    /// behind it; what the node keeps and knows is as before that first one. Of the deltas that were
-    /// to be written a crash may leave some first ones, each whole.
+    /// is told to the first call that had something to write, with its excuse, and `Halted` to
+    /// those behind it; what the node keeps and knows is as before that first one. Of the deltas
+    /// that were to be written a crash may leave some first ones, each whole.
     ///
     /// A call is done alone if it is no datagram, delta or tick, if the node is halted, if it has
     /// nothing to write or more than 64 operations, and where memory runs out for a row. A row ends
@@ -339,10 +340,11 @@ impl<R: Replica, D: Disk + Drop> Node<R, D> {
         play(alloc, self, USUAL, &steps[0], &steps[1..], room)
     }
 
-    /// Calls one after the other, of which what they make and take is written at once, as `step_all`
-    /// carries them out, but without its bounds. No call is done alone and no row ends because there
-    /// are too many operations, or octets of records. So where the disk fails, and memory did not
-    /// run out, all calls behind the first that had something to write were in the write.
+    /// Calls one after the other, of which what they make and take is written at once, as
+    /// `step_all` carries them out, but without its bounds. No call is done alone and no row ends
+    /// because there are too many operations, or octets of records. So where the disk fails, and
+    /// memory did not run out, all calls behind the first that had something to write were in the
+    /// write.
     pub fn step_whole(&mut self, alloc: Global, steps: &[Arc<Step>], room: Vec<Reply>) -> Vec<Reply>
         requires some { 0 < length steps.now }
         requires room { (room.items ≡ []) × (length steps.now ≤ vec_capacity room) }

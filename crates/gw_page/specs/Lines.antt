@@ -33,7 +33,8 @@ abbrev pub IsLabel : List ℕ → Type 0
 IsLabel text =
     (text ≡ [])
     ⊎ (((key word : List ℕ) × IsMetricName key × IsWord word × (text ≡ pair_text key word))
-    ⊎ ((key word second other : List ℕ) × IsMetricName key × IsWord word × IsMetricName second × IsWord other
+    ⊎ ((key word second other : List ℕ) × IsMetricName key × IsWord word × IsMetricName second
+    × IsWord other
     × (text ≡ pairs_text key word second other)))
 
 -- the line says what a name is
@@ -51,7 +52,8 @@ IsTypeLine line =
 -- the line is a number of a name
 abbrev pub IsSample : List ℕ → Type 0
 IsSample line =
-    (name label : List ℕ) × (in_thousandths : Bool) × (value : ℕ) × IsMetricName name × IsLabel label
+    (name label : List ℕ) × (in_thousandths : Bool) × (value : ℕ) × IsMetricName name
+    × IsLabel label
     × (line ≡ codes "nimhazel_" ▹ name ▹ label ▹ value_text in_thousandths value)
 
 -- the text is lines, each of which says what a name is, or is a number

@@ -68,7 +68,13 @@ is_covered digest op =
 -- the name of an operation
 abbrev pub name_of_op : Op → Name
 name_of_op (OfSession c stamp counter change) =
-    record { of = OfClient c; kind = 0; gateway = stamp.gateway; first = stamp.epoch; last = counter }
+    record {
+      of = OfClient c;
+      kind = 0;
+      gateway = stamp.gateway;
+      first = stamp.epoch;
+      last = counter;
+    }
 name_of_op (OfPut c put) =
     record { of = OfClient c; kind = 1; gateway = put.origin; first = put.seq; last = put.seq }
 name_of_op (Ack c origin first last) =

@@ -4,8 +4,8 @@
 //! where that was new here, so that a field works which is connected and not linked in every pair.
 //!
 //! - `name`: the name of an operation, without what it says (`Name`).
-//! - `news`: whether a delta has an operation that is not known yet (`brings_news`), or one that its
-//!   own gateway has lost (`is_lost`).
+//! - `news`: whether a delta has an operation that is not known yet (`brings_news`), or one that
+//!   its own gateway has lost (`is_lost`).
 //! - `going`: to which link it goes on (`goes_on`), and who may be linked (`may_link`).
 //! - `pausing`: how long is waited: for an answer to a digest (`may_answer`), for a word
 //!   (`is_quiet`, `is_gone`), for a dial (`next_pause`), for a line (`is_to_tell`), before a start

@@ -64,7 +64,8 @@ Extends before line after =
     ((line ≡ []) × (after ≡ before))
     ⊎ ((command : Command) × SpellsCommand line command × AddsCommand before command after)
 
--- the lines make up the script; behind a line by which calls come together, each line is one of them
+-- the lines make up the script; behind a line by which calls come together, each line is one of
+-- them
 pub data IsScriptOf : List (List ℕ) → Script → Type 0 where
   none : IsScriptOf [] empty_script
   more : (lines : List (List ℕ)) (line : List ℕ) (before after : Script) → IsScriptOf lines before

@@ -125,8 +125,8 @@ fn step_of(alloc: Global, datagram: Datagram) -> Result<Arc<Step>, NoMemory>
     }
 }
 
-/// Makes the calls of a row, and of what the shift left of it, until all are made or the shift makes
-/// no more.
+/// Makes the calls of a row, and of what the shift left of it, until all are made or the shift
+/// makes no more.
 pub fn call_row<T: Wait, R: Replica, D: Disk + Drop, P: Post, G: Gate>(
     shared: &Shared<'_, T, R, D, P, G>,
     pass: Pass,
@@ -178,9 +178,11 @@ fn note_called(called: &mut Vec<Called>, numbers: &[u64], first: u64, answers: V
     requires numbers { first + length answers.items < 2 ^ 64 }
     ensures many { vec_len called.new ≡ vec_len called.old + length answers.items }
     ensures room { vec_capacity called.new ≡ vec_capacity called.old }
-    ensures datagrams { map (λ c. c.taken.datagram) called.new.items ≡ map (λ c. c.taken.datagram) called.old.items
+    ensures datagrams { map (λ c. c.taken.datagram) called.new.items
+        ≡ map (λ c. c.taken.datagram) called.old.items
         ++ take (length answers.items) (drop (vec_len called.old) numbers.now) }
-    ensures steps { map (λ c. c.taken.step) called.new.items ≡ map (λ c. c.taken.step) called.old.items
+    ensures steps { map (λ c. c.taken.step) called.new.items
+        ≡ map (λ c. c.taken.step) called.old.items
         ++ numbers_from first (length answers.items) }
 {
     let mut step = first;
@@ -194,8 +196,8 @@ fn note_called(called: &mut Vec<Called>, numbers: &[u64], first: u64, answers: V
     }
 }
 
-/// Sends the replies of a row's calls, datagram by datagram in their order, and notes them as taken.
-/// Says whether memory ran out at the gateway.
+/// Sends the replies of a row's calls, datagram by datagram in their order, and notes them as
+/// taken. Says whether memory ran out at the gateway.
 pub fn tell_all<P: Post, G: Gate>(
     post: &P,
     gate: &G,

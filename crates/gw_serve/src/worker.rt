@@ -120,8 +120,8 @@ pub fn work<T: Wait, R: Replica, D: Disk + Drop, P: Post, G: Gate>(
     seat
 }
 
-/// Takes numbers until the queue is closed and empty. Room for all that may be taken at once is made
-/// before, so each that was taken is told of, unless the worker must end with a fault.
+/// Takes numbers until the queue is closed and empty. Room for all that may be taken at once is
+/// made before, so each that was taken is told of, unless the worker must end with a fault.
 fn take_all<T: Wait, R: Replica, D: Disk + Drop, P: Post, G: Gate>(
     shared: &Shared<'_, T, R, D, P, G>,
     receiver: &Receiver,

@@ -22,7 +22,8 @@ abbrev pub NotMade : Holder → Step → CallFault → Holder → Type 0
 NotMade old step faults.ShiftFull new = new ≡ old
 NotMade old step (faults.Behind held) new = (held < seen_by old) × (new ≡ old)
 NotMade old step faults.Memory new = new ≡ old
-NotMade old step (faults.Node number fault) new = Made old step (Err (refusal_of_fault fault)) number new
+NotMade old step (faults.Node number fault) new =
+    Made old step (Err (refusal_of_fault fault)) number new
 
 -- The first of these calls were made: as many as there are answers, and one at least. Their numbers
 -- follow each other, and the first is above all that the pass has seen. The pass then holds what it

@@ -93,9 +93,11 @@ AreFed answers = AllByRecursion (λ answer. answer ≢ Err refusals.Memory) answ
 -- What calls with one write may do at a gateway. Each call has its own answer, in their order.
 abbrev pub TogetherAt : Field → ℕ → List Call → List (Result Out Refusal) → Field → Type 0
 TogetherAt old number calls answers new =
-    (i : ℕ) × (gateway : Gateway) × (next : Gateway) × (made : List (List Op)) × (called : List Step)
+    (i : ℕ) × (gateway : Gateway) × (next : Gateway) × (made : List (List Op))
+    × (called : List Step)
     × IsAt old number i gateway × AreStepsOf old calls called
-    × Together gateway called answers next made × AreFed answers × (new ≡ field_changed old i next made)
+    × Together gateway called answers next made × AreFed answers
+    × (new ≡ field_changed old i next made)
 
 -- what one event may do: its answer, and the field after it
 abbrev pub After : Field → Event → Answer → Field → Type 0
@@ -106,7 +108,8 @@ After old (Take number delta) (Node answer) new =
     (i : ℕ) × (gateway : Gateway) × (next : Gateway) × (made : List (List Op)) × (ops : List Op)
     × IsAt old number i gateway × IsDeltaAt old delta ops
     × TakeStep gateway ops (said answer) next made × (new ≡ field_changed old i next made)
-After old (AtOnce number calls) (Row answers) new = TogetherAt old number calls (map said answers) new
+After old (AtOnce number calls) (Row answers) new =
+    TogetherAt old number calls (map said answers) new
 After old (Asks number peer) (Node answer) new = Asked old number peer (said answer) new
 After old (WriteFails number bytes sync) Nothing new =
     (i : ℕ) × (gateway : Gateway) × IsAt old number i gateway

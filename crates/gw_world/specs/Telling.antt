@@ -8,9 +8,9 @@ use Rattle.gw_answer.specs.Answers.{said}
 use Rattle.gw_world.specs.declared.event.Answer.{Answer}
 use Rattle.gw_world.specs.declared.event.Answer.TheVariants.{Node, Row, Views, Records, Nothing}
 
--- What an answer says: what a gateway sends, makes and answers, or why it refuses; of calls with one
--- write, that of each. Or it is the clients that a gateway knows, with their views, and its topics with what is retained of them; or
--- how many records it read; or nothing.
+-- What an answer says: what a gateway sends, makes and answers, or why it refuses; of calls with
+-- one write, that of each. Or it is the clients that a gateway knows, with their views, and its
+-- topics with what is retained of them; or how many records it read; or nothing.
 pub data Told : Type 0 where
   Said : Result Out Refusal → Told
   AllSaid : List (Result Out Refusal) → Told

@@ -80,7 +80,8 @@ match_piece Bad whole seal torn bad = bad
 -- what was found: deltas, whether the seal was among them, how many bytes, and whether a bad piece
 -- follows
 abbrev pub found_of : List (List Op) → Bool → ℕ → Bool → Found
-found_of deltas sealed whole bad = record { deltas = deltas; sealed = sealed; whole = whole; bad = bad }
+found_of deltas sealed whole bad =
+    record { deltas = deltas; sealed = sealed; whole = whole; bad = bad }
 
 -- nothing more is there, or what comes next may not be there
 abbrev pub ended : Bool → Bool → Found

@@ -51,7 +51,8 @@ impl<D: Disk + Drop> Journal<D> {
     ) -> Result<(Journal<D>, Vec<Delta>), (D, JournalFault)>
         ensures starts { IfOk result (λ made. (parts.is_stopped made.0 ≡ false)
             × (gateway_of made.0 ≡ gateway)) }
-        ensures counts { MatchResult result (λ made. D.failures disk ≤ D.failures (disk_under made.0))
+        ensures counts { MatchResult result
+            (λ made. D.failures disk ≤ D.failures (disk_under made.0))
             (λ refused. D.failures disk ≤ D.failures refused.0) }
         ensures cause { IfErr result (λ refused. refused.1 ≡ JournalFault.Disk
             → D.failures disk < D.failures refused.0) }
@@ -66,10 +67,12 @@ impl<D: Disk + Drop> Journal<D> {
         // The records are those of the slots as they were found.
         ensures records { D.honest → IfOk result (λ made. made.1.items ≡ records gateway
             (image (D.slots disk))) }
-        ensures known { D.honest → IfOk result (λ made. D.slots (disk_under made.0) ≡ recovered gateway
+        ensures known { D.honest
+            → IfOk result (λ made. D.slots (disk_under made.0) ≡ recovered gateway
             (image (D.slots disk))) }
         // What was given stands after every crash.
-        ensures durable { D.honest → IfOk result (λ made. Leaves gateway (D.slots (disk_under made.0))
+        ensures durable { D.honest
+            → IfOk result (λ made. Leaves gateway (D.slots (disk_under made.0))
             made.1.items) }
         // It is refused exactly where the format says so, or the disk failed, or memory ran out.
         ensures found { D.honest → OnOk result (fault_of gateway (image (D.slots disk)) ≡ None) }
@@ -255,7 +258,8 @@ impl<D: Disk + Drop> Journal<D> {
         ensures starved { D.starved (disk_under self.old) ≡ true
             → D.starved (disk_under self.new) ≡ true }
         ensures exact { D.honest → OnOk result (D.slots (disk_under self.new) ≡
-            after_append None (emptied (D.slots (disk_under self.old)) (spec.other_slot (slot_of self.old)))
+            after_append None (emptied (D.slots (disk_under self.old))
+            (spec.other_slot (slot_of self.old)))
             (spec.other_slot (slot_of self.old))
             (base_bytes (gateway_of self.old) (generation_of self.old + 1) base.now)) }
         // After it every crash leaves the base and nothing else.

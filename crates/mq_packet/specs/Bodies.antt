@@ -133,7 +133,8 @@ abbrev pub IsAllowedPacket : Packet → Type 0
 IsAllowedPacket (packets.Connect clean keep_alive client will login) =
     IsText client × IfSome will IsWill × IfSome login IsLogin
 IsAllowedPacket (packets.ConnAck session code) = IsConnAckCode session code
-IsAllowedPacket (packets.Publish delivery retain topic body) = IsDelivery delivery × IsTopicText topic
+IsAllowedPacket (packets.Publish delivery retain topic body) =
+    IsDelivery delivery × IsTopicText topic
 IsAllowedPacket (packets.PubAck id) = IsId id
 IsAllowedPacket (packets.Subscribe id filter qos) = IsId id × IsFilterText filter
 IsAllowedPacket (packets.SubAck id granted) = IsId id

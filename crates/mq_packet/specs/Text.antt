@@ -34,4 +34,5 @@ abbrev pub is_filter_text : List ℕ → Bool
 is_filter_text octets = is_text octets && not (length octets == 0)
 
 abbrev pub is_topic_text : List ℕ → Bool
-is_topic_text octets = is_filter_text octets && not (has_octet 43 octets) && not (has_octet 35 octets)
+is_topic_text octets =
+    is_filter_text octets && not (has_octet 43 octets) && not (has_octet 35 octets)

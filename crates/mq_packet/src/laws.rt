@@ -10,7 +10,8 @@ ghost use Rattle.mq_packet.specs.Grammar.{SpellsPacket, packet_size, packet_spel
 
 /// No octets spell two packets.
 pub fn one_meaning()
-    ensures { (octets : List ℕ) (p q : Packet) → IsPacketValue p → IsPacketValue q → SpellsPacket octets p
+    ensures { (octets : List ℕ) (p q : Packet) → IsPacketValue p → IsPacketValue q
+        → SpellsPacket octets p
         → SpellsPacket octets q → p ≡ q }
 {}
 
@@ -18,7 +19,8 @@ pub fn one_meaning()
 /// that MQTT 3.1.1 allows and whose body fits. No spelling is shorter, and only one is as short: so
 /// what is read from octets that are as few as can be is written as these octets.
 pub fn one_spelling()
-    ensures canonical { (octets : List ℕ) (p : Packet) → SpellsPacket octets p → SpellsPacket (packet_spelling p) p }
+    ensures canonical { (octets : List ℕ) (p : Packet) → SpellsPacket octets p
+        → SpellsPacket (packet_spelling p) p }
     ensures spelled { (p : Packet) → IsAllowedPacket p → packet_size p ≤ MAX_REMAINING
         → SpellsPacket (packet_spelling p) p }
     ensures shortest { (octets : List ℕ) (p : Packet) → SpellsPacket octets p
@@ -32,6 +34,7 @@ pub fn one_spelling()
 pub fn one_fault()
     ensures one { (octets : List ℕ) (d e : PacketFault) → IsFirstPacketFault octets d
         → IsFirstPacketFault octets e → d ≡ e }
-    ensures no_packet { (octets : List ℕ) (e : PacketFault) (p : Packet) → IsFirstPacketFault octets e
+    ensures no_packet { (octets : List ℕ) (e : PacketFault) (p : Packet)
+        → IsFirstPacketFault octets e
         → IsPacketValue p → SpellsPacket octets p → e ≡ PacketFault.Memory }
 {}

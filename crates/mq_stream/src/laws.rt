@@ -8,6 +8,7 @@ ghost use Rattle.mq_stream.specs.Pieces.{ReadsPackets};
 /// so it does not matter how a stream is cut. The function does nothing; its contract is the law.
 pub fn one_stream()
     ensures { (over left last : ℕ) (first second rest tail : List ℕ) (packets more : List Packet)
-        → ReadsPackets over first packets left rest → ReadsPackets left (rest ++ second) more last tail
+        → ReadsPackets over first packets left rest
+        → ReadsPackets left (rest ++ second) more last tail
         → ReadsPackets over (first ++ second) (packets ++ more) last tail }
 {}

@@ -43,7 +43,8 @@ impl PacketIn {
     ///
     /// If memory runs out, the connection is as it was.
     pub fn feed(&mut self, alloc: Global, piece: &[u8]) -> Result<Fed, NoMemory>
-        ensures ok { IfOk result (λ fed. ReadsPackets self.old.over (self.old.waiting.items ++ piece.now)
+        ensures ok { IfOk result
+            (λ fed. ReadsPackets self.old.over (self.old.waiting.items ++ piece.now)
             fed.packets.items self.new.over self.new.waiting.items
             × EndsPackets fed.fault self.new.waiting.items) }
         ensures waiting { OnErr result (self.new.waiting.items ≡ self.old.waiting.items) }

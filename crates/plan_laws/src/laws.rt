@@ -27,7 +27,8 @@ ghost use Rattle.plan_laws.specs.BoundUp.{IsUp};
 pub fn every_plan()
     ensures steps { (g lifetime : ℕ) (predefined : Entries) (S : List Op) (local : Local)
         (a : Addr) (frame : Frame) (now : ℕ) (plan : Plan) → KeepsWell g S local
-        → step g lifetime predefined (seen_of S) local a frame now ≡ Some plan → HaveOwnNames plan.ops }
+        → step g lifetime predefined (seen_of S) local a frame now ≡ Some plan
+        → HaveOwnNames plan.ops }
     ensures ticks { (g lifetime advertise : ℕ) (field : List Addr) (predefined : Entries)
         (S : List Op) (local : Local) (now : ℕ) (plan : Plan) → KeepsWell g S local
         → tick g lifetime advertise field predefined (seen_of S) local now ≡ Some plan

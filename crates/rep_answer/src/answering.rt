@@ -55,7 +55,8 @@ fn left_of_replica<R: Replica>(
 
 /// What a digest leaves of the operations of deltas.
 fn left_of_deltas(alloc: Global, digest: &Digest, deltas: &[Delta]) -> Result<Vec<Op>, NoMemory>
-    ensures { IfOk result (λ ops. ops.items ≡ flat_map (left_by_digest digest.now) (all_of deltas.now)) }
+    ensures { IfOk result
+        (λ ops. ops.items ≡ flat_map (left_by_digest digest.now) (all_of deltas.now)) }
 {
     let mut left = Vec::new(alloc);
     for delta in deltas {
@@ -122,7 +123,8 @@ fn add_left_by(
 ) -> Result<(), NoMemory>
     requires entry { IsEntry entry.now }
     requires made { IsTrue (made.is_well_made op.now) }
-    ensures { OnOk result (left.new.items ≡ left.old.items ++ left_by_entry (Some entry.now) op.now) }
+    ensures { OnOk result
+        (left.new.items ≡ left.old.items ++ left_by_entry (Some entry.now) op.now) }
 {
     match op {
         Op::Session { stamp, counter, .. } => {
@@ -257,7 +259,8 @@ fn add_range(
     origin: u8,
     range: (u64, u64),
 ) -> Result<(), NoMemory>
-    ensures { OnOk result (left.new.items ≡ left.old.items ++ ack_of_range client.now origin range ∷ []) }
+    ensures { OnOk result
+        (left.new.items ≡ left.old.items ++ ack_of_range client.now origin range ∷ []) }
 {
     left.push(Op::Ack {
         client: client.copied(alloc)?,

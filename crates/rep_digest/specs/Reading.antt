@@ -51,7 +51,8 @@ origins_at = counted_by (number_at w16) origin_at
 
 -- a client's entry, of its name, what it says of the session, and its origins
 abbrev pub client_entry_from : List ℕ × ((ℕ × (ℕ × ℕ)) × List OriginEntry) → ClientEntry
-client_entry_from x = record { client = x.0; stamp = stamp_from x.1.0; prefix = x.1.0.1.1; origins = x.1.1 }
+client_entry_from x =
+    record { client = x.0; stamp = stamp_from x.1.0; prefix = x.1.0.1.1; origins = x.1.1 }
 
 -- a client's entry: its name, epoch, gateway, prefix, and origins
 unfoldable pub entry_at : Reader ClientEntry

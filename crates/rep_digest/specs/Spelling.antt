@@ -47,8 +47,8 @@ retained_entry_octets e = text_octets e.topic ++ (big_bytes 8 e.clock ++ e.gatew
 abbrev pub topics_octets : List RetainedEntry → List ℕ
 topics_octets topics = big_bytes 4 (length topics) ++ flat_map retained_entry_octets topics
 
--- the text of the entries of clients, in version 1 if there is no topic, and else in version 2; then
--- the entries of topics
+-- the text of the entries of clients, in version 1 if there is no topic, and else in version 2;
+-- then the entries of topics
 abbrev pub spelled : List ClientEntry → List RetainedEntry → List ℕ
 spelled clients [] = text_of One entry_octets clients
 spelled clients (e ∷ rest) = text_of Two entry_octets clients ++ topics_octets (e ∷ rest)

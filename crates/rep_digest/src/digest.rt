@@ -15,8 +15,8 @@ use rep_ops::OpsFault;
 use std::alloc::Global;
 use std::marker::Model;
 
-/// What a gateway has taken: an entry for each client and one for each topic, in ascending order. It
-/// is spelled in at most 8,388,608 octets. Contracts see the lists of its entries.
+/// What a gateway has taken: an entry for each client and one for each topic, in ascending order.
+/// It is spelled in at most 8,388,608 octets. Contracts see the lists of its entries.
 #[derive(Drop)]
 pub struct Digest {
     pub(crate) clients: Vec<ClientEntry>,

@@ -15,5 +15,6 @@ pub fn one_reading()
         → digest_reading (digest_spelling d) ≡ Ok d }
     // What is read off octets is spelled so.
     ensures spelled { (bytes : List ℕ) (d : Digested) → AreOctets bytes
-        → digest_reading bytes ≡ Ok d → IsDigest d × IsDigestWithinLimit d × (bytes ≡ digest_spelling d) }
+        → digest_reading bytes ≡ Ok d
+        → IsDigest d × IsDigestWithinLimit d × (bytes ≡ digest_spelling d) }
 {}

@@ -25,7 +25,8 @@ fn read_entries(
     count: u32,
     bytes: &[u8],
 ) -> Result<(Vec<ClientEntry>, &[u8]), OpsFault>
-    ensures { ReadsAs (λ x. (x.0.items, x.1.now)) result (listed_at entry_at spec.entry_may_follow count []
+    ensures { ReadsAs (λ x. (x.0.items, x.1.now)) result
+        (listed_at entry_at spec.entry_may_follow count []
         bytes.now) }
 {
     let mut entries = Vec::new(alloc);
@@ -57,7 +58,8 @@ fn read_topic_entries(
     count: u32,
     bytes: &[u8],
 ) -> Result<(Vec<RetainedEntry>, &[u8]), OpsFault>
-    ensures { ReadsAs (λ x. (x.0.items, x.1.now)) result (listed_at retained_at spec.topic_may_follow
+    ensures { ReadsAs (λ x. (x.0.items, x.1.now)) result
+        (listed_at retained_at spec.topic_may_follow
         count [] bytes.now) }
 {
     let mut entries = Vec::new(alloc);

@@ -47,7 +47,8 @@ fn worked_out<R: Replica>(
     alloc: Global,
     replica: &R,
 ) -> Result<(Vec<ClientEntry>, Vec<RetainedEntry>), NoMemory>
-    ensures { IfOk result (λ made. (digested made.0.items made.1.items ≡ digest (R.kept replica.now))
+    ensures { IfOk result
+        (λ made. (digested made.0.items made.1.items ≡ digest (R.kept replica.now))
         × IsDigest (digest (R.kept replica.now))) }
 {
     let clients = clients_of(alloc, replica)?;

@@ -135,7 +135,8 @@ fn write_topic(out: &mut Vec<u8>, entry: &RetainedEntry) -> Result<(), NoMemory>
 
 /// Writes entries of topics one after the other.
 fn write_each_topic(out: &mut Vec<u8>, topics: &[RetainedEntry]) -> Result<(), NoMemory>
-    ensures { Writes (flat_map retained_entry_octets topics.now) out.old.items out.new.items result }
+    ensures { Writes (flat_map retained_entry_octets topics.now) out.old.items out.new.items
+        result }
 {
     for entry in topics {
         write_topic(out, entry)?;

@@ -86,7 +86,8 @@ base_of entry =
 
 -- the messages that wait once others came, and acknowledgements
 abbrev pub left_on : Base → List Put → Option (List (ℕ × List (ℕ × ℕ))) → List Put
-left_on base news acks = filter (is_uncovered (ranges_on base.ranges acks)) (weave base.waiting news)
+left_on base news acks =
+    filter (is_uncovered (ranges_on base.ranges acks)) (weave base.waiting news)
 
 -- the operations that are kept of the client with a log, new messages and acknowledgements; no log,
 -- and no acknowledgements, leave what was there

@@ -189,7 +189,8 @@ impl Log {
     fn forget_below(&mut self, alloc: Global, known: &Known, stamp: Stamp) -> Result<(), NoMemory>
         requires { T (is_sorted operation_cmp (all_in_log known.now self.old)) }
         ensures { OnOk result (all_in_log known.now self.new
-            ≡ filter (λ e. not (spec.is_below e.0.0 (Some stamp))) (all_in_log known.now self.old)) }
+            ≡ filter (λ e. not (spec.is_below e.0.0 (Some stamp)))
+            (all_in_log known.now self.old)) }
     {
         self.begin_anew(alloc, from_stamp(self.left(known), stamp))?;
         self.more.forget_below(stamp);
@@ -208,7 +209,8 @@ impl Log {
         requires ordered { T (is_sorted operation_cmp (all_in_log known.now self.old)) }
         requires fresh { find operation_cmp name (all_in_log known.now self.old) ≡ None }
         ensures folded { OnOk result (IsFolded (whole_of known.now self.new)) }
-        ensures ordered { OnOk result (T (is_sorted operation_cmp (all_in_log known.now self.new))) }
+        ensures ordered { OnOk result
+            (T (is_sorted operation_cmp (all_in_log known.now self.new))) }
         ensures kept { OnOk result (IsKeptIn
             ((name, change) ∷ all_in_log known.now self.old)
             (all_in_log known.now self.new)
@@ -244,7 +246,8 @@ impl Log {
     fn take_up(&mut self, alloc: Global, known: &Known, stamp: Stamp) -> Result<(), NoMemory>
         requires { T (is_sorted operation_cmp (all_in_log known.now self.old)) }
         ensures kept { OnOk result (all_in_log known.now self.new
-            ≡ filter (λ e. not (spec.is_below e.0.0 (Some stamp))) (all_in_log known.now self.old)) }
+            ≡ filter (λ e. not (spec.is_below e.0.0 (Some stamp)))
+            (all_in_log known.now self.old)) }
         ensures stamp { OnOk result (self.new.stamp ≡ Some stamp) }
         ensures prefix { OnOk result (self.new.prefix
             ≡ length (history_in (all_in_log known.now self.new) (Some stamp))) }

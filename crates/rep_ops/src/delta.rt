@@ -255,8 +255,10 @@ pub fn no_prefix()
         → IsDelta b → AreValues b → IsDeltaWithinLimit b
         → delta_spelling a ++ x ≡ delta_spelling b ++ y → (a ≡ b) × (x ≡ y) }
     // What is cut off anywhere is told by `Truncated`.
-    ensures cut { (d : List Op) (front rest : List ℕ) → IsDelta d → AreValues d → IsDeltaWithinLimit d
-        → delta_spelling d ≡ front ++ rest → rest ≢ [] → delta_reading front ≡ Err OpsFault.Truncated }
+    ensures cut { (d : List Op) (front rest : List ℕ) → IsDelta d → AreValues d
+        → IsDeltaWithinLimit d
+        → delta_spelling d ≡ front ++ rest → rest ≢ []
+        → delta_reading front ≡ Err OpsFault.Truncated }
     // What stands after is told by `Trailing`.
     ensures behind { (d : List Op) (rest : List ℕ) → IsDelta d → AreValues d → rest ≢ []
         → length (delta_spelling d ++ rest) ≤ max_octets

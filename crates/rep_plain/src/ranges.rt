@@ -98,7 +98,8 @@ pub(crate) fn exceptions(alloc: Global, ranges: &[Range]) -> Result<u64, NoMemor
 
 /// The numbers of an origin as ranges in ascending order that do not touch.
 fn joined_numbers(alloc: Global, ranges: &[Range], origin: u8) -> Result<Vec<(u64, u64)>, NoMemory>
-    ensures { IfOk result (λ made. made.items ≡ joined (filter_map (range_numbers origin) ranges.now)) }
+    ensures { IfOk result
+        (λ made. made.items ≡ joined (filter_map (range_numbers origin) ranges.now)) }
 {
     let mut made = Vec::new(alloc);
     let mut i = ranges.len();
@@ -117,7 +118,8 @@ fn with_numbers(
     made: Vec<(u64, u64)>,
 ) -> Result<Vec<(u64, u64)>, NoMemory>
     ensures { (S : List Range) → made.items ≡ joined (filter_map (range_numbers origin) S)
-        → IfOk result (λ more. more.items ≡ joined (filter_map (range_numbers origin) (range.now ∷ S))) }
+        → IfOk result (λ more. more.items
+        ≡ joined (filter_map (range_numbers origin) (range.now ∷ S))) }
 {
     match range.numbers(origin) {
         Some(numbers) => with_range(alloc, numbers, made.as_slice()),

@@ -185,7 +185,8 @@ topic_entry_from x = record { id = x.0; name = x.1.1; known = x.1.0 }
 
 -- a topic entry: an id of two octets, a flag, a name
 unfoldable pub entry_at : Reader TopicEntry
-entry_at = made_from topic_entry_from (both (ranged is_topic_id (number_at w16)) (both flag_at topic_at))
+entry_at =
+    made_from topic_entry_from (both (ranged is_topic_id (number_at w16)) (both flag_at topic_at))
 
 -- a subscription of its filter and quality of service
 abbrev pub subscription_from : List ℕ × ℕ → Subscription
@@ -252,7 +253,8 @@ Head = Presence × (Bool × (ℕ × ℕ))
 -- the first part of a session: a presence, a flag, two octets of duration, and two of an id that is
 -- not 0
 unfoldable pub head_at : Reader Head
-head_at = both presence_at (both flag_at (both (number_at w16) (ranged is_positive (number_at w16))))
+head_at =
+    both presence_at (both flag_at (both (number_at w16) (ranged is_positive (number_at w16))))
 
 -- topic ids, subscriptions, will, received message ids, exchange
 abbrev pub SessionParts : Type 0
@@ -288,14 +290,16 @@ set_presence_at = made_from (λ x. SetPresence x.0 x.1) (both presence_at (numbe
 -- the change of an exchange: the next message id, then the exchange, if there is one
 unfoldable pub set_outbound_at : Reader SessionOp
 set_outbound_at =
-    made_from (λ x. SetOutbound x.1 x.0) (both (ranged is_positive (number_at w16)) some_exchange_at)
+    made_from (λ x. SetOutbound x.1 x.0)
+    (both (ranged is_positive (number_at w16)) some_exchange_at)
 
 -- the fields of a change, by its tag
 abbrev pub fields_at : ℕ → Reader SessionOp
 fields_at tag bytes =
     if tag == 0 then made_from (λ session. Take session) session_at bytes else (
     if tag == 1 then set_presence_at bytes else (
-    if tag == 2 then made_from (λ entry. Register entry.id entry.name entry.known) entry_at bytes else (
+    if tag == 2 then made_from (λ entry. Register entry.id entry.name entry.known) entry_at bytes
+    else (
     if tag == 3
     then made_from (λ subscription. Subscribe subscription.filter subscription.qos) subscription_at bytes
     else (

@@ -17,7 +17,8 @@ use std::alloc::Global;
 /// Where the client is, whether its session is clean, how long, and the next message id.
 #[tactic(auto, unfolding(crate::specs::Reading::head_at))]
 fn read_head(bytes: &[u8]) -> Result<((Presence, bool, u16, u16), &[u8]), OpsFault>
-    ensures { ReadsAs (λ x. ((x.0.0, (x.0.1, (x.0.2, x.0.3))), x.1.now)) result (head_at bytes.now) }
+    ensures { ReadsAs (λ x. ((x.0.0, (x.0.1, (x.0.2, x.0.3))), x.1.now)) result
+        (head_at bytes.now) }
 {
     let (presence, rest) = read_presence(bytes)?;
     let (clean, rest) = read_flag(rest)?;

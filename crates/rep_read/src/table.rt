@@ -13,7 +13,8 @@ use std::alloc::Global;
 
 /// How many entries a table has.
 fn read_count(bytes: &[u8]) -> Result<(u16, &[u8]), OpsFault>
-    ensures { ReadsAs (λ x. (x.0, x.1.now)) result (ranged (λ n. nat_le n MAX_ENTRIES) (number_at w16)
+    ensures { ReadsAs (λ x. (x.0, x.1.now)) result
+        (ranged (λ n. nat_le n MAX_ENTRIES) (number_at w16)
         bytes.now) }
 {
     let (count, rest) = read_two(bytes)?;

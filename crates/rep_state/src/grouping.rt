@@ -106,7 +106,8 @@ fn begun(alloc: Global, entry: &Entry, op: &Op) -> Result<Group, NoMemory>
     requires client { is_of_client op.now ≡ true }
     requires made { IsTrue (is_well_made op.now) }
     ensures client { IfOk result (λ group. group.0 ≡ client_of op.now) }
-    ensures fresh { IfOk result (λ group. IsFirstChange (client_of op.now) entry.now group.1 op.now) }
+    ensures fresh { IfOk result
+        (λ group. IsFirstChange (client_of op.now) entry.now group.1 op.now) }
 {
     let client = op.client().copied(alloc)?;
     let mut fresh = Fresh::new(alloc);

@@ -182,7 +182,8 @@ fn write_asked(
 /// Writes a will.
 fn write_will(out: &mut Vec<u8>, will: &Option<Will>) -> Result<(), NoMemory>
     requires { IsTrue (is_will will.now) }
-    ensures { Writes (option_octets session_will_octets will.now) out.old.items out.new.items result }
+    ensures { Writes (option_octets session_will_octets will.now) out.old.items out.new.items
+        result }
 {
     match will {
         None => write_octet(out, 0),

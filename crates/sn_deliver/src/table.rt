@@ -161,7 +161,8 @@ pub fn step<R: Replica>(
     now: u64,
 ) -> Result<Plan, StepFault>
     requires { IsMessage frame.now }
-    ensures { GivesPlan result (spec.step config.now.gateway config.now.lifetime config.now.predefined
+    ensures { GivesPlan result
+        (spec.step config.now.gateway config.now.lifetime config.now.predefined
         (seen_of (R.kept replica.now)) dialogs.now.local from frame.now now) }
 {
     let row = row_for(alloc, config, replica, dialogs, from, frame, now)?;

@@ -64,14 +64,17 @@ topic_row seen dialog None now = concluded seen dialog.request Deleted now
 topic_row seen dialog (Some will) now = topic_given dialog (topic_asked will)
 
 -- WILLTOPIC at an address with a dialog
-abbrev pub will_topic_in : Seen → Addr → Option (List ℕ) → WillDialog → Option Will → ℕ → Awaited → Row
-will_topic_in seen a bound dialog will now Topic = heard_row bound now (topic_row seen dialog will now)
+abbrev pub will_topic_in : Seen → Addr → Option (List ℕ) → WillDialog → Option Will → ℕ → Awaited
+    → Row
+will_topic_in seen a bound dialog will now Topic =
+    heard_row bound now (topic_row seen dialog will now)
 will_topic_in seen a bound dialog will now (Message topic) = stray a bound now
 
 -- WILLTOPIC at an address; without a dialog there nothing waits for it
 abbrev pub topic_at : Seen → Addr → Option (List ℕ) → Option WillDialog → Option Will → ℕ → Row
 topic_at seen a bound None will now = stray a bound now
-topic_at seen a bound (Some dialog) will now = will_topic_in seen a bound dialog will now dialog.awaited
+topic_at seen a bound (Some dialog) will now =
+    will_topic_in seen a bound dialog will now dialog.awaited
 
 -- the row of WILLTOPIC (6.2)
 abbrev pub will_topic : Seen → Local → Addr → Option Will → ℕ → Row

@@ -67,7 +67,8 @@ write c g change w = counted c g change w
 -- these session operations, one after the other; none if an epoch is needed and the last is taken
 abbrev pub changes_written : List ℕ → ℕ → List SessionOp → Written → Option Written
 changes_written c g [] w = Some w
-changes_written c g (change ∷ rest) w = option_and_then (changes_written c g rest) (write c g change w)
+changes_written c g (change ∷ rest) w =
+    option_and_then (changes_written c g rest) (write c g change w)
 
 -- the next counter of the visible stamp, if that is the gateway's own; else 256, so that a Take has
 -- to go first

@@ -30,4 +30,5 @@ IsPlanFault Memory defined = ⊤
 
 -- the result is what the definition says, or a fault of it
 abbrev pub GivesPlan : {X : Type 0} → Result X StepFault → Option X → Type 0
-GivesPlan result defined = MatchResult result (λ x. defined ≡ Some x) (λ fault. IsPlanFault fault defined)
+GivesPlan result defined =
+    MatchResult result (λ x. defined ≡ Some x) (λ fault. IsPlanFault fault defined)

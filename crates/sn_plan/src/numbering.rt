@@ -255,7 +255,8 @@ impl Writer {
         client: &ClientId,
         changes: Vec<SessionOp>,
     ) -> Result<(), StepFault>
-        ensures { Becomes result self.new (changes_written client.now gateway changes.items self.old) }
+        ensures { Becomes result self.new
+            (changes_written client.now gateway changes.items self.old) }
     {
         for change in changes {
             self.write(alloc, gateway, client, change)?;

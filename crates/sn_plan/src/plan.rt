@@ -136,7 +136,8 @@ pub fn plan_of<R: Replica>(
     client: &ClientId,
     mut draft: Draft,
 ) -> Result<Plan, StepFault>
-    ensures { GivesPlan result (spec.plan_of gateway client.now (seen_of (R.kept replica.now)) draft) }
+    ensures { GivesPlan result
+        (spec.plan_of gateway client.now (seen_of (R.kept replica.now)) draft) }
 {
     if draft.changes_nothing() {
         return rest_of(alloc, gateway, replica, client, Vec::new(alloc), draft);

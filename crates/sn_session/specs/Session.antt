@@ -55,10 +55,14 @@ session_changed session (Subscribe filter qos) =
     }
 session_changed session (Unsubscribe filter) =
     record session { subscriptions = without_filter filter session.subscriptions }
-session_changed session (WillTopic asked) = record session { will = with_will_topic asked session.will }
-session_changed session (WillMsg message) = record session { will = with_will_message message session.will }
-session_changed session (Received id) = record session { received = with_received id session.received }
-session_changed session (Released id) = record session { received = without_received id session.received }
+session_changed session (WillTopic asked) =
+    record session { will = with_will_topic asked session.will }
+session_changed session (WillMsg message) =
+    record session { will = with_will_message message session.will }
+session_changed session (Received id) =
+    record session { received = with_received id session.received }
+session_changed session (Released id) =
+    record session { received = without_received id session.received }
 session_changed session (Outbound exchange next_id) =
     record session { outbound = exchange; next_id = next_id }
 

@@ -505,7 +505,8 @@ fn plan_first<R: Replica>(
     draft: Draft,
 ) -> Result<Plan, StepFault>
     ensures { GivesPlan result (spec.plan_if_due config.now.gateway config.now.predefined
-        (seen_of (R.kept replica.now)) dialogs.now.local now draft (dues.first_due config.now.gateway
+        (seen_of (R.kept replica.now)) dialogs.now.local now draft
+        (dues.first_due config.now.gateway
         (seen_of (R.kept replica.now)) dialogs.now.local now (seen_of (R.kept replica.now)).all)) }
 {
     match first_due(alloc, config.gateway, replica, dialogs, now) {
@@ -526,7 +527,8 @@ fn one_thing<R: Replica>(
     now: u64,
     draft: Draft,
 ) -> Result<Plan, StepFault>
-    ensures { GivesPlan result (spec.one_thing config.now.gateway config.now.advertise config.now.field
+    ensures { GivesPlan result
+        (spec.one_thing config.now.gateway config.now.advertise config.now.field
         config.now.predefined (seen_of (R.kept replica.now)) dialogs.now.local now draft) }
 {
     let field = config.field.as_slice();
@@ -547,7 +549,8 @@ pub fn tick<R: Replica>(
     dialogs: &Dialogs,
     now: u64,
 ) -> Result<Plan, StepFault>
-    ensures { GivesPlan result (spec.tick config.now.gateway config.now.lifetime config.now.advertise
+    ensures { GivesPlan result
+        (spec.tick config.now.gateway config.now.lifetime config.now.advertise
         config.now.field config.now.predefined (seen_of (R.kept replica.now)) dialogs.now.local
         now) }
 {

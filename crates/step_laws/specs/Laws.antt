@@ -192,8 +192,8 @@ left_by_expiry seen local now c d = left (expire_all seen local now c d).acks (s
 
 -- If messages of a client expire, all that are far before another one of their origin have expired
 -- as well. An expiry acknowledges only messages whose moment is there, and none that the client is
--- in the middle of. It changes no session. After it no message of the client expires at this moment,
--- and what is due with the client by its session was due before.
+-- in the middle of. It changes no session. After it no message of the client expires at this
+-- moment, and what is due with the client by its session was due before.
 pub record ExpirySettles : Type 0 where
   pub near : (seen : Seen) (local : Local) (now : ℕ) (c : List ℕ) (first put : Put)
       → has_expired now (seen.of c).pending (address_of c local.bindings) (seen.of c).session

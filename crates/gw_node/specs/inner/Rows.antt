@@ -209,4 +209,5 @@ pub record IsAlone {D : Type 0} {G : Ghosts D} (old : State G) (first : Step)
 -- the first of these calls by itself, or a row that it begins
 abbrev pub RowCall : {D : Type 0} {G : Ghosts D} → State G → Step → List Step
     → List (Result Out Refusal) → State G → Type 0
-RowCall old first rest answers new = IsAlone old first answers new ⊎ IsRow old first rest answers new
+RowCall old first rest answers new =
+    IsAlone old first answers new ⊎ IsRow old first rest answers new

@@ -168,7 +168,8 @@ StepsAt olds i step answer news = Moves olds i (λ old new. GoesOn old step answ
 -- the i-th node answers these calls so, which have one write, and no other node changes
 abbrev pub RowAt : {D : Type 0} {G : Ghosts D} → List (State G) → ℕ → List Step
     → List (Result Out Refusal) → List (State G) → Type 0
-RowAt olds i called answers news = Moves olds i (λ old new. GoesTogether old called answers new) news
+RowAt olds i called answers news =
+    Moves olds i (λ old new. GoesTogether old called answers new) news
 
 -- the digest of the i-th node goes to the j-th
 abbrev pub AskAt : {D : Type 0} {G : Ghosts D} → List (State G) → ℕ → ℕ → Result Out Refusal

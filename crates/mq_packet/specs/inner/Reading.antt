@@ -194,7 +194,8 @@ read_parts m payload = do
 -- whether those that have to be text or a topic are
 abbrev pub are_good : Marks → ConnectStrings → Bool
 are_good m p =
-    is_text p.0 && (not (is_some m.will) || is_topic_text p.1) && (not (is_some m.login) || is_text p.3)
+    is_text p.0 && (not (is_some m.will) || is_topic_text p.1)
+    && (not (is_some m.login) || is_text p.3)
 
 -- the will of these flags and strings
 abbrev pub will_made : Option (Qos × Bool) → List ℕ → List ℕ → Option Will

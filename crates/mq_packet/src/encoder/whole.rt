@@ -52,7 +52,8 @@ pub(super) fn append_spelling(
     requires { spec.packet_body packet.now ≡ front.now ++ tail.now }
     ensures ok { OnOk result (out.new.items ≡ out.old.items ++ packet_spelling packet.now) }
     ensures body { result ≢ Err EncodeFault.Body }
-    ensures too_long { (result ≡ Err EncodeFault.TooLong) ↔ (MAX_REMAINING < packet_size packet.now) }
+    ensures too_long { (result ≡ Err EncodeFault.TooLong) ↔
+        (MAX_REMAINING < packet_size packet.now) }
     ensures err { OnErr result (out.new.items ≡ out.old.items) }
 {
     let first = header_of(packet).octet();

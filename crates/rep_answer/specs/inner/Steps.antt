@@ -36,7 +36,8 @@ before r s = if nat_lt r.0 s.0 && reaches_into r s then (r.0, s.0 - 1) ∷ [] el
 
 -- what of a range comes after another: all of it if that one does not reach into it
 abbrev pub behind : ℕ × ℕ → ℕ × ℕ → Option (ℕ × ℕ)
-behind r s = if reaches_into r s then (if nat_lt s.1 r.1 then Some (s.1 + 1, r.1) else None) else Some r
+behind r s =
+    if reaches_into r s then (if nat_lt s.1 r.1 then Some (s.1 + 1, r.1) else None) else Some r
 
 -- what is left of what is still open of a range, among the ranges that follow, which ascend
 abbrev pub outside_from : Option (ℕ × ℕ) → List (ℕ × ℕ) → List (ℕ × ℕ)

@@ -40,7 +40,8 @@ range_numbers origin range =
 
 -- the acknowledgements above a gap, of the origins 1 to n
 unfoldable pub above_gaps : List Range → ℕ → ℕ
-above_gaps ranges n = sum_to (λ origin. above_a_gap (joined (filter_map (range_numbers origin) ranges))) n
+above_gaps ranges n =
+    sum_to (λ origin. above_a_gap (joined (filter_map (range_numbers origin) ranges))) n
 
 -- whether the operation must be kept, by the visible stamp and the acknowledgements of its client
 abbrev pub must_stay : Option Stamp → List Range → Op → Bool

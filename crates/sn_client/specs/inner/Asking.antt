@@ -19,7 +19,8 @@ retain_flag_bit retain = if retain then 16 else 0
 
 -- the flags of a PUBLISH, SUBSCRIBE or WILLTOPIC
 abbrev pub flags_of : Qos → Bool → TopicIdType → Flags
-flags_of qos retain kind = record { bits = qos_flag_bits qos + retain_flag_bit retain + kind_bits kind }
+flags_of qos retain kind =
+    record { bits = qos_flag_bits qos + retain_flag_bit retain + kind_bits kind }
 
 -- the flags of a CONNECT: whether it is for a clean session, and whether there is a will
 abbrev pub connect_flags : Bool → Bool → Flags

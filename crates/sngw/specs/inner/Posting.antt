@@ -23,4 +23,5 @@ octet_of_kind (a ∷ (b ∷ (c ∷ (d ∷ rest)))) = if a == 1 then d else b
 
 -- whether a datagram is one of those that are sent again: REGISTER, PUBLISH or PUBREL
 abbrev pub is_try : List ℕ → Bool
-is_try bytes = (octet_of_kind bytes == 10) || (octet_of_kind bytes == 12) || (octet_of_kind bytes == 16)
+is_try bytes =
+    (octet_of_kind bytes == 10) || (octet_of_kind bytes == 12) || (octet_of_kind bytes == 16)
