@@ -236,6 +236,11 @@ class Renamer:
                 path_old = f"{crate}.proofs.{file.replace('/', '.')}.{old}"
                 for found in re.finditer(re.escape(path_old) + r"(?![\w-])", mask):
                     changes.put(found.end() - len(old), found.end(), new)
+            # goals of a caller are called after the function
+            if parts[1] == "proofs" and len(parts) > 3 and where == crate:
+                goal = r"\b\w\.(" + old + r")(?=(?:-\w+)?\.(?:ensures|requires|result|new)\b)|(?:\bif|\bthen|\belse)(?:-not)?-(" + old + r")(?![\w])"
+                for found in re.finditer(goal, mask):
+                    changes.put(*found.span(1 if found[1] else 2), new)
         if names.words or names.modules:
             use_spans = [found.span() for found in USE.finditer(mask)]
             body = list(mask)

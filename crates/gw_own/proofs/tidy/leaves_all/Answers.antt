@@ -7,5 +7,5 @@ pub returns-else-counter-ne0 : goal.returns-else-counter-ne0
 returns-else-counter-ne0 g c =
     let seen = seen_of (g.R.Replica.kept c.args.replica.now) in
     let local = c.args.dialogs.now.local in
-    c.is_left.ensures ∙ sym (ap (λ n. not (n == 0) || stays_bound c.args.gateway seen local c.in-Session.client) c.if-counter-ne0.false)
+    c.stays_bound.ensures ∙ sym (ap (λ n. not (n == 0) || stays_bound c.args.gateway seen local c.in-Session.client) c.if-counter-ne0.false)
     ∙ ap (leaves_all c.args.gateway seen local) (sym c.in-Session.is)

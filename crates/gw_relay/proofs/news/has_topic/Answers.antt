@@ -8,7 +8,7 @@ use Rattle.gw_relay.proofs.news.has_topic.Goals as goal
 pub returns-in-Ok : goal.returns-in-Ok
 returns-in-Ok c =
     let k = c.args.retained.now in
-    c.is_as_late.ensures
+    c.entry_is_as_late.ensures
     ∙ ap (λ (e : RetainedEntry). entry_is_as_late e (clock_of k)) c.index-entries-at.is
     ∙ sym (found c.args.topic.now k c.args.entries.now c.in-Ok.at c.index-entries-at.result c.in-Ok.ensures.1)
 
