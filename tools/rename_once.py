@@ -5,8 +5,8 @@
     python3 tools/rename_once.py --check MAP    writes nothing
     python3 tools/rename_once.py --uses         prints each name of a `use` line that its module does not define
 
-A line of MAP is `CRATE MODULE OLD NEW` for a definition, with the module as `inner/Reading`, or `fn CRATE FILE OLD NEW` for a function of
-src/FILE.rt; `#` begins a comment. A word is followed through the `use` lines of its file, with aliases and modules, to the definition, so that an
+A line of MAP is `CRATE MODULE OLD NEW` for a definition, with the module as `inner/Reading`, `fn CRATE FILE OLD NEW` for a function of
+src/FILE.rt, or `const CRATE FILE OLD NEW`; `#` begins a comment. A word is followed through the `use` lines of its file, with aliases and modules, to the definition, so that an
 equal word of another crate stays; a word that a binder of its paragraph binds stays too. An alias that a `use` line gave to a renamed definition
 becomes the new name. Edits that must fail are renamed as the text that they would make. What a line names and is not there (any more) is
 passed over, so that the script can be run again on another text.
@@ -25,13 +25,15 @@ TOKEN = re.compile(r"\[\]|[()\[\]{};,]|[^\s()\[\]{};,]+")
 
 
 def read_map(path):
-    defs, fns = {}, {}
+    defs, fns, consts = {}, {}, {}
     for number, line in enumerate(pathlib.Path(path).read_text(encoding="utf-8").split("\n"), 1):
         words = line.partition("#")[0].split()
         if not words:
             continue
         if words[0] == "fn" and len(words) == 5:
             fns[words[1], words[2], words[3]] = words[4]
+        elif words[0] == "const" and len(words) == 5:
+            consts[words[1], words[2], words[3]] = words[4]
         elif len(words) == 4:
             key = words[0], words[1].replace("/", "."), words[2]
             if key in defs:
@@ -39,7 +41,7 @@ def read_map(path):
             defs[key] = words[3]
         else:
             print(f"{path}:{number}: no line of a map")
-    return defs, fns
+    return defs, fns, consts
 
 
 def blank(text, pattern):
@@ -108,7 +110,8 @@ def module_of(path):
 
 
 class Renamer:
-    def __init__(self, defs, fns):
+    def __init__(self, defs, fns, consts):
+        self.consts = consts
         self.defs, self.fns, self.report, self.passed = defs, fns, [], {}
         self.by_module = collections.defaultdict(dict)
         for (crate, module, old), new in defs.items():
@@ -238,9 +241,11 @@ class Renamer:
                     changes.put(found.end() - len(old), found.end(), new)
             # goals of a caller are called after the function
             if parts[1] == "proofs" and len(parts) > 3 and where == crate:
-                goal = r"\b\w\.(" + old + r")(?=(?:-\w+)?\.(?:ensures|requires|result|new)\b)|(?:\bif|\bthen|\belse)(?:-not)?-(" + old + r")(?![\w])"
-                for found in re.finditer(goal, mask):
-                    changes.put(*found.span(1 if found[1] else 2), new)
+                goals = [r"\b\w\.(" + old + r")(?=(?:-\w+)*\.(?:ensures|requires|result|new)\b)",
+                         r"(?:\bif|\bthen|\belse|\bin_ok|\bin_err)(?:-not)?-(" + old + r")(?!\w)", r"(?<![\w-])(" + old + r")(?=-requires\b)"]
+                for goal in goals:
+                    for found in re.finditer(goal, mask):
+                        changes.put(*found.span(1), new)
         if names.words or names.modules:
             use_spans = [found.span() for found in USE.finditer(mask)]
             body = list(mask)
@@ -251,6 +256,7 @@ class Renamer:
                 self.antt_part(body, begin, end, around, names, changes, path, text)
         for problem in names.problems:
             self.note(path, problem)
+        self.constants(path, crate, text, changes)
         self.comments(text, names, changes, r"(?:(?<=\s)|^)--(?=\s)[^\n]*")
         return changes
 
@@ -421,6 +427,7 @@ class Renamer:
         for problem in names.problems:
             self.note(path, problem)
         self.functions(path, crate, text, mask, changes)
+        self.constants(path, crate, text, changes)
         self.comments(text, names, changes, r"//[^\n]*")
         return changes
 
@@ -503,6 +510,22 @@ class Renamer:
         if folder and (CRATES / crate / "src" / (folder + ".rt")).is_file():
             found.append(folder.replace("/", "::"))
         return found
+
+    def constants(self, path, crate, text, changes):
+        """Constants: a private one in its file, with the comments there; a public one in its crate and wherever a `use` line brings it."""
+        file = "/".join(path.relative_to(CRATES / crate / ("src" if path.suffix == ".rt" else "")).with_suffix("").parts)
+        for (where, home, old), new in self.consts.items():
+            source = CRATES / where / "src" / (home + ".rt")
+            is_home = path == source
+            if is_home and re.search(r"\bconst " + old + r"\b", text):
+                self.hit["const", where, home, old] += 1
+            elif not (where == crate and home == file and is_home):
+                brought = rf"declared\.{home.replace('/', '.')}\.TheConstants\.\{{[^}}]*\b{old}\b" if path.suffix == ".antt" else (
+                    rf"\b(?:crate::{home}|{home}|{where})::(?:\{{[^}}]*\b)?{old}\b|declared\.{home.replace('/', '.')}\.TheConstants\.\{{[^}}]*\b{old}\b")
+                if where != crate and path.suffix == ".rt" and where + "::" not in text or not re.search(brought, text):
+                    continue
+            for found in re.finditer(r"\b" + old + r"\b", text):
+                changes.put(*found.span(), new)
 
     # ---- all of it
 
@@ -611,7 +634,7 @@ def main(words):
     if words == ["--uses"]:
         return check_uses()
     only_check = words[:1] == ["--check"]
-    defs, fns = read_map(words[-1])
+    defs, fns, consts = read_map(words[-1])
     # every new name must be new
     known = collections.defaultdict(set)
     for path in CRATES.glob("*/specs/**/*.antt"):
@@ -622,7 +645,7 @@ def main(words):
             print(f"{new} is the new name of {count}")
         if new in known:
             print(f"{new} is defined already: {sorted(known[new])}")
-    renamer = Renamer(defs, fns)
+    renamer = Renamer(defs, fns, consts)
     files = [*sorted(CRATES.glob("*/specs/**/*.antt")), *sorted(CRATES.glob("*/proofs/**/*.antt")), *sorted(CRATES.glob("*/src/**/*.rt"))]
     made = {}
     for path in files:
@@ -644,6 +667,9 @@ def main(words):
     for key in fns:
         if ("fn", *key) not in hit:
             print("no function", *key)
+    for key in consts:
+        if ("const", *key) not in hit:
+            print("no constant", *key)
     print("\n".join(renamer.report))
     if not only_check:
         for path, text in made.items():

@@ -7,7 +7,7 @@ use Rattle.rep_op.specs.Sets.{Same}
 use Rattle.rep_model.proofs.Joins.{same_refl}
 use Rattle.sn_local.specs.declared.config.Config.{Config}
 use Rattle.sn_plan.specs.declared.plan.Plan.{Plan}
-use Rattle.sn_plan.specs.Flush.{AreFlush}
+use Rattle.sn_plan.specs.Flush.{HaveNoGap}
 use Rattle.sn_local.specs.Locals.{after_all}
 use Rattle.plan_laws.specs.BoundUp.{IsUp}
 use Rattle.plan_laws.proofs.BoundBehind.{step-up, tick-up, taken-up}
@@ -48,7 +48,7 @@ set-up i gs next all one j gateway e = elim (set-cases i j gs next gateway e) [
   | inr other ↦ all j gateway other
 ]
 
-plan-up : (gateway : Gateway) → AreFlush gateway.config.gateway gateway.taken → GatewayUp gateway → (occasion : Occasion) (now : ℕ) (plan : Plan) → IsPlan gateway occasion now (Some plan)
+plan-up : (gateway : Gateway) → HaveNoGap gateway.config.gateway gateway.taken → GatewayUp gateway → (occasion : Occasion) (now : ℕ) (plan : Plan) → IsPlan gateway occasion now (Some plan)
     → (delta : List Op) → Same delta plan.ops → IsUp gateway.config.gateway (gateway.taken ++ delta) (after_all gateway.local plan.local)
 plan-up gateway flush up (Datagram from bytes) now plan h delta same =
     step-up gateway.config.gateway gateway.taken flush gateway.local up plan delta same gateway.config.lifetime gateway.config.predefined from h.0 now h.3
@@ -61,8 +61,8 @@ module _ (field : Field) (s : FlushField field) (w : WholeField field) (all : Ar
   own-number : old.config.gateway ≡ n
   own-number = first-number n i field.gateways old (place_of-first n i field.gateways at.0) at.1
 
-  flush-own : AreFlush old.config.gateway old.taken
-  flush-own = subst (λ k. AreFlush k old.taken) (sym own-number) (s n i old (place_of-first n i field.gateways at.0) at.1)
+  flush-own : HaveNoGap old.config.gateway old.taken
+  flush-own = subst (λ k. HaveNoGap k old.taken) (sym own-number) (s n i old (place_of-first n i field.gateways at.0) at.1)
 
   up-here : IsUp n old.taken old.local
   up-here = subst (λ k. IsUp k old.taken old.local) own-number (all i old at.1)

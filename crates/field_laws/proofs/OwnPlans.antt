@@ -10,7 +10,7 @@ use Rattle.rep_ops.specs.Making.{HaveOwnNames, AreWellMade, IsRefusal}
 use Rattle.rep_op.specs.WellMade.{is_well_made}
 use Rattle.sn_local.specs.declared.config.Config.{Config}
 use Rattle.sn_plan.specs.declared.plan.Plan.{Plan}
-use Rattle.sn_plan.specs.Flush.{AreFlush}
+use Rattle.sn_plan.specs.Flush.{HaveNoGap}
 use Rattle.sn_plan.proofs.Lists.{all-append}
 use Rattle.plan_laws.specs.KeepsWell.{AreAsked, KeepsWell}
 use Rattle.plan_laws.proofs.Steps.{Makes, step-makes, tick-makes, after-asked}
@@ -73,13 +73,13 @@ module _ (field : Field) (s : FlushField field) (all : AreWell field.gateways) (
   own-number : old.config.gateway ≡ n
   own-number = first-number n i field.gateways old (place_of-first n i field.gateways at.0) at.1
 
-  flush-here : AreFlush n old.taken
+  flush-here : HaveNoGap n old.taken
   flush-here = s n i old (place_of-first n i field.gateways at.0) at.1
 
   keeps-own : KeepsWell old.config.gateway old.taken old.local
   keeps-own =
       let w = all i old at.1 in
-      record { numbered = w.numbered; flush = subst (λ k. AreFlush k old.taken) (sym own-number) flush-here; made = w.made; asked = w.asked }
+      record { numbered = w.numbered; flush = subst (λ k. HaveNoGap k old.taken) (sym own-number) flush-here; made = w.made; asked = w.asked }
 
   keeps-here : KeepsWell n old.taken old.local
   keeps-here = subst (λ k. KeepsWell k old.taken old.local) own-number keeps-own

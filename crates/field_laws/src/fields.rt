@@ -41,7 +41,7 @@ ghost use Rattle.gw_world.specs.Field.{Field, new_field, IsAt, IsDeltaAt, After,
 ghost use Rattle.gw_world.specs.Steps.{AnswerStep};
 ghost use Rattle.gw_event.specs.Event.{IsPlan, OwnStep, TakeStep, IsWritable};
 ghost use Rattle.gw_world.specs.Steady.{IsSteady};
-ghost use Rattle.gw_world.specs.Whole.{listed, everything, maker_of, IsHome, AreMadeOnce, made_by, MayMake, NoneFails, all_made, brought, HasTakenAll};
+ghost use Rattle.gw_world.specs.Whole.{listed, everything, maker_of, IsAtOrigin, AreMadeOnce, made_by, MayMake, NoneFails, all_made, brought, HasTakenAll};
 ghost use Rattle.field_laws.specs.Settings.{settings};
 
 /// No message vanishes. What a gateway has taken it keeps: its set only grows, whatever comes and
@@ -143,7 +143,7 @@ pub fn consistent_field()
 pub fn made_once()
     ensures home { (configs : List Config) (events : List Event) (answers : List Answer)
         (field : Field) (op : Op) → Run (new_field configs) events answers field
-        → Contains (everything field) op → IsHome field op }
+        → Contains (everything field) op → IsAtOrigin field op }
     ensures writes { (configs : List Config) (events : List Event) (answers : List Answer)
         (old new : Field) (event : Event) (answer : Answer) (op : Op)
         → Run (new_field configs) events answers old → After old event answer new

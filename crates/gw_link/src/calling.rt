@@ -88,7 +88,7 @@ pub fn call<T: Wait, R: Replica, D: Disk + Drop>(
             stage.note_made(number);
             (pass, Ok(Ok(out)))
         }
-        Err((pass, fault)) => match reached(fault) {
+        Err((pass, fault)) => match refusal_or_end(fault) {
             Ok(refusal) => (pass, Ok(Err(refusal))),
             Err(end) => (pass, Err(end)),
         },
@@ -153,7 +153,7 @@ fn give_back(stage: &Stage, count: usize) {
 fn unreached(fault: CallFault) -> End
     ensures { CannotCall result }
 {
-    match reached(fault) {
+    match refusal_or_end(fault) {
         Err(end) => end,
         Ok(refusal) => {
             drop(refusal);
@@ -163,7 +163,7 @@ fn unreached(fault: CallFault) -> End
 }
 
 /// What a refused call means: the gateway's refusal, or why the call did not reach it.
-fn reached(fault: CallFault) -> Result<NodeFault, End>
+fn refusal_or_end(fault: CallFault) -> Result<NodeFault, End>
     ensures { result ≡ reached_by fault }
 {
     match fault {
@@ -176,7 +176,7 @@ fn reached(fault: CallFault) -> Result<NodeFault, End>
 
 /// What a refusal of the gateway means for what it was asked: that is dropped. Only want of memory
 /// ends anything.
-pub fn dropped(fault: &NodeFault) -> Result<(), NoMemory>
+pub fn only_memory(fault: &NodeFault) -> Result<(), NoMemory>
     ensures { MatchResult result (λ _. refusal_of_fault fault.now ≢ refusals.Memory)
         (λ _. refusal_of_fault fault.now ≡ refusals.Memory) }
 {
@@ -190,7 +190,7 @@ pub fn dropped(fault: &NodeFault) -> Result<(), NoMemory>
 
 /// Drops what the gateway refused. Only want of memory ends what asked.
 pub(crate) fn drop_refusal(fault: NodeFault) -> Result<(), End> {
-    let is_dropped = dropped(&fault);
+    let is_dropped = only_memory(&fault);
     drop(fault);
     Ok(is_dropped?)
 }

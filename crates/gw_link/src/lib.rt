@@ -9,7 +9,7 @@
 //!
 //! - `stage`: how far a shift is, and how its threads wait (`Stage`, `Phase`).
 //! - `calling`: a call with a pass that comes back (`call`, `End`), and what a refusal of it means
-//!   (`dropped`, `is_halted`).
+//!   (`only_memory`, `is_halted`).
 //! - `link`: a link that is open (`Link`, `Origin`).
 //! - `saying`: what is said over a link.
 //! - `relay`: what all links share: what is handed on, and who is linked (`Relay`).
@@ -35,7 +35,7 @@ mod stage;
 mod talking;
 mod trouble;
 
-pub use calling::{End, call, dropped, is_halted};
+pub use calling::{End, call, is_halted, only_memory};
 pub use counts::{LinkCounts, LinkNumbers};
 pub use link::{Link, Origin};
 pub use relay::Relay;

@@ -19,7 +19,7 @@ use std::sync::Wait;
 use std::time::Clock;
 
 /// How many milliseconds a link that may make no more calls waits for the end of the shift.
-const A_MOMENT: u64 = 20;
+const CLOSING_WAIT_MS: u64 = 20;
 
 /// Talks over a link until the shift is over, and then has told of each delta that the gateway made
 /// in it: `Full`, and the link stays open; what its stream has not taken by then goes out in the
@@ -160,7 +160,7 @@ fn wait_or_listen<T: Wait + Clock, S: Read + Drop>(
         Ok(()) => listen(alloc, link, piece, second_of(rt)),
         Err(End::Full) => {
             stage.close(rt);
-            stage.wait(rt, Phase::Closing, A_MOMENT);
+            stage.wait(rt, Phase::Closing, CLOSING_WAIT_MS);
             Ok(())
         }
         Err(end) => Err(end),

@@ -42,7 +42,7 @@ use Rattle.gw_event.specs.Occasions.{Occasion, Datagram, Clock, IsPlanOf}
 use Rattle.gw_node.specs.Opening.{ReopenCall}
 use Rattle.gw_node.specs.Parts.{State, is_halted, IsUnchanged}
 use Rattle.gw_node.specs.Plans.{IsPlanFor, Makes}
-use Rattle.gw_node.specs.Standing.{Lasts, Represents, fated, LeadsTo, OwnAgrees, CallAgrees, IsClear, CanBeSaid, EventOn}
+use Rattle.gw_node.specs.Standing.{Lasts, Represents, with_failure, LeadsTo, OwnAgrees, CallAgrees, IsClear, CanBeSaid, EventOn}
 use Rattle.gw_node.specs.Taking.{on_disk, RecoversTo}
 use Rattle.gw_node.specs.Writing.{IsRewritten, IsNotRewritten, HasReadGeneration}
 use Rattle.gw_node.proofs.Keeping.{keeps_more}
@@ -116,8 +116,8 @@ module _ {D : Type 0} {G : Ghosts D} (g : Gateway) (old : State G) (s : Represen
         is_plan,
         (
           done.answer,
-          subst (λ (os : List Op). IsMade os (fated None g) plan out.made (wrote delta (after_all g.local plan.local) g) (delta ∷ [])) (sym ops)
-              (subst (λ (m : Option (List Op)). IsMade (op ∷ rest) (fated None g) plan m (wrote delta (after_all g.local plan.local) g) (delta ∷ [])) (sym made)
+          subst (λ (os : List Op). IsMade os (with_failure None g) plan out.made (wrote delta (after_all g.local plan.local) g) (delta ∷ [])) (sym ops)
+              (subst (λ (m : Option (List Op)). IsMade (op ∷ rest) (with_failure None g) plan m (wrote delta (after_all g.local plan.local) g) (delta ∷ [])) (sym made)
               (is_delta, writable, takable g.taken old.kept delta s.keeps fits, refl, refl, refl)),
           done.apart,
         ),

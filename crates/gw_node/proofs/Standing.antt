@@ -28,7 +28,7 @@ use Rattle.gw_event.specs.Drives.{with_record, torn, more_records, left_by}
 use Rattle.gw_event.specs.Gateways.{Gateway, with_refused}
 use Rattle.gw_node.specs.Keeping.{Keeps}
 use Rattle.gw_node.specs.Parts.{State, is_halted, IsUntouched, IsUnchanged}
-use Rattle.gw_node.specs.Standing.{IsSynced, Lasts, Represents, IsForeseen, fated, LeadsTo}
+use Rattle.gw_node.specs.Standing.{IsSynced, Lasts, Represents, IsForeseen, with_failure, LeadsTo}
 use Rattle.gw_node.specs.Taking.{on_disk, IsBetween, RecoversTo, HasTaken}
 use Rattle.gw_node.specs.Writing.{IsWritten, IsFailed}
 use Rattle.gw_node.proofs.Keeping.{keeps_more}
@@ -219,7 +219,7 @@ module _ {D : Type 0} {G : Ghosts D} where
 
       pub written_leads : (Happens : Gateway → Gateway → List (List Op) → Type 0) (Agrees : Type 0) (local : Local) (made : List (List Op))
           → new.config ≡ old.config → new.local ≡ local → IsDelta delta → Fits old.kept delta → IsKeptOf (old.kept ++ delta) new.kept → (Agrees → AllAgree g.taken delta)
-          → Happens (fated None g) (wrote delta local g) made → LeadsTo Happens Agrees g old new
+          → Happens (with_failure None g) (wrote delta local g) made → LeadsTo Happens Agrees g old new
       written_leads Happens Agrees local made config bound is fits kept agree happens =
           let stands = written_stands local config bound kept in
           record {
@@ -297,7 +297,7 @@ module _ {D : Type 0} {G : Ghosts D} where
 
       pub torn_leads : (Happens : Gateway → Gateway → List (List Op) → Type 0) (Agrees : Type 0)
           → new.config ≡ old.config → new.kept ≡ old.kept → new.local ≡ old.local → IsDelta delta → Fits old.kept delta → (Agrees → AllAgree g.taken delta)
-          → ((failure : Failure) → Happens (fated (Some failure) g) (struck failure delta g) []) → LeadsTo Happens Agrees g old new
+          → ((failure : Failure) → Happens (with_failure (Some failure) g) (struck failure delta g) []) → LeadsTo Happens Agrees g old new
       torn_leads Happens Agrees config kept local is fits agree happens = record {
         fate = Some fate.failure;
         next = struck fate.failure delta g;

@@ -29,7 +29,7 @@ use Rattle.gw_node.specs.Failures.{failed, failed_all}
 use Rattle.gw_node.specs.Keeping.{Keeps}
 use Rattle.gw_node.specs.Parts.{State, is_halted, IsUntouched}
 use Rattle.gw_node.specs.Calls.{StepCall}
-use Rattle.gw_node.specs.Standing.{IsSynced, Lasts, Represents, IsForeseen, fated, LeadsTo, CallAgrees, AgreeInTurn, CanBeSaid, EventsOn}
+use Rattle.gw_node.specs.Standing.{IsSynced, Lasts, Represents, IsForeseen, with_failure, LeadsTo, CallAgrees, AgreeInTurn, CanBeSaid, EventsOn}
 use Rattle.gw_node.specs.Taking.{on_disk, RecoversTo, HasTaken}
 use Rattle.gw_node.specs.inner.Ahead.{MakesAhead, IsDoneAhead, StepAhead, WritesPlan}
 use Rattle.gw_node.specs.inner.Rows.{AreWritten, AreFailed, TurnAhead, BeginsRow, excused, EndedAs, IsRow, RowCall}
@@ -51,7 +51,7 @@ Rows calls answers before next made = Together before calls answers next made
 
 -- ---- one call by itself
 
-agrees_fated : (fate : Option Failure) (g : Gateway) (step : Step) → CallAgrees (fated fate g) step → CallAgrees g step
+agrees_fated : (fate : Option Failure) (g : Gateway) (step : Step) → CallAgrees (with_failure fate g) step → CallAgrees g step
 agrees_fated fate g (steps.Frame from bytes now) h = h
 agrees_fated fate g (steps.Take delta) h = h
 agrees_fated fate g (steps.Tick now) h = h
@@ -98,14 +98,14 @@ struck_all failure deltas g = record g { refused = deltas; drive = torn_all fail
 record FirstTorn {D : Type 0} {G : Ghosts D} (g : Gateway) (old : State G) (first : Step) (out excuse : Out) : Type 0 where
   delta : List Op
   puts : put_by first (Ok out) ≡ delta ∷ []
-  does : (failure : Failure) → StepOf (fated (Some failure) g) first (Err (refusals.Disk excuse)) (struck failure delta g) []
+  does : (failure : Failure) → StepOf (with_failure (Some failure) g) first (Err (refusals.Disk excuse)) (struck failure delta g) []
 
 module _ {D : Type 0} {G : Ghosts D} (g : Gateway) (old : State G) (s : Represents g old) where
   -- ---- the first of a row by itself
 
   own_torn : (occasion : Occasion) (now : ℕ) (plan : Plan) (out excuse : Out) (mid : State G) → is_halted old ≡ false → WritesPlan old occasion now plan excuse → IsDoneAhead old plan out mid
       → (ops : List Op) (made : Option (List Op)) → plan.ops ≡ ops → out.made ≡ made → MakesAhead ops made old mid
-      → (delta : List Op) × (option_to_list out.made ≡ delta ∷ []) × ((failure : Failure) → OwnStep (fated (Some failure) g) occasion now (Err (refusals.Disk excuse)) (struck failure delta g) [])
+      → (delta : List Op) × (option_to_list out.made ≡ delta ∷ []) × ((failure : Failure) → OwnStep (with_failure (Some failure) g) occasion now (Err (refusals.Disk excuse)) (struck failure delta g) [])
   own_torn occasion now plan out excuse mid runs w done [] made ops is_made h = absurd (w.some ops)
   own_torn occasion now plan out excuse mid runs w done (op ∷ rest) None ops is_made h = absurd h
   own_torn occasion now plan out excuse mid runs w done (op ∷ rest) (Some delta) ops is_made (is_delta, fits, kept, writable) = (
@@ -165,7 +165,7 @@ module _ {D : Type 0} {G : Ghosts D} (g : Gateway) (old : State G) (s : Represen
     turn : TurnAhead old (first ∷ done) (Ok row.out ∷ said) row.finished.after
     turn = (row.mid, begun_ahead old row.mid first row.out row.excuse row.begun, λ e. absurd cc, row.finished.turn)
 
-    here : IsAhead (fated None g) (fated None g) [] old old
+    here : IsAhead (with_failure None g) (with_failure None g) [] old old
     here = record {
       configured = s.configured;
       bound = s.bound;
@@ -178,8 +178,8 @@ module _ {D : Type 0} {G : Ghosts D} (g : Gateway) (old : State G) (s : Represen
       refused = refl;
     }
 
-    led : AllLead (fated None g) (fated None g) [] old (first ∷ done) (Ok row.out ∷ said) row.finished.after
-    led = turn_leads (fated None g) (fated None g) [] old old row.finished.after here (goes g old s row.runs) refl (first ∷ done) (Ok row.out ∷ said) turn
+    led : AllLead (with_failure None g) (with_failure None g) [] old (first ∷ done) (Ok row.out ∷ said) row.finished.after
+    led = turn_leads (with_failure None g) (with_failure None g) [] old old row.finished.after here (goes g old s row.runs) refl (first ∷ done) (Ok row.out ∷ said) turn
 
     alone : FirstTorn g old first row.out row.excuse
     alone = first_torn first row.out row.excuse row.mid row.runs row.begun
@@ -225,10 +225,10 @@ module _ {D : Type 0} {G : Ghosts D} (g : Gateway) (old : State G) (s : Represen
 
     module _ (kept : new.kept ≡ row.finished.ahead.kept) (local : new.local ≡ row.finished.ahead.local) (w : AreWritten row.finished.ahead.journal deltas new.journal) where
       next_slots : led.next.drive.slots ≡ after_append None g.drive.slots g.drive.slot (written_all deltas)
-      next_slots = ap (λ (d : Drive). d.slots) led.ahead.drive ∙ some_record deltas alone.delta (put_by_all done said) (fated None g).drive at_least
+      next_slots = ap (λ (d : Drive). d.slots) led.ahead.drive ∙ some_record deltas alone.delta (put_by_all done said) (with_failure None g).drive at_least
 
       next_plan : led.next.drive.plan ≡ None
-      next_plan = ap (λ (d : Drive). d.plan) led.ahead.drive ∙ records_plan deltas (fated None g).drive
+      next_plan = ap (λ (d : Drive). d.plan) led.ahead.drive ∙ records_plan deltas (with_failure None g).drive
 
       written_stands : Represents led.next new
       written_stands = record {
@@ -236,8 +236,8 @@ module _ {D : Type 0} {G : Ghosts D} (g : Gateway) (old : State G) (s : Represen
         numbered = w.gateway ∙ at_gateway ∙ sym (ap (λ c. c.gateway) led.ahead.config);
         bound = local ∙ row.finished.same.local ∙ led.ahead.bound;
         keeps = subst (λ (K : List Op). Keeps led.next.taken K) (sym (kept ∙ row.finished.same.kept)) led.ahead.keeps;
-        slot = w.slot ∙ at_slot ∙ sym (ap (λ (d : Drive). d.slot) led.ahead.drive ∙ records_slot deltas (fated None g).drive);
-        halted = w.goes_on ∙ sym (ap (λ (d : Drive). d.halted) led.ahead.drive ∙ records_halted deltas (fated None g).drive ∙ goes g old s row.runs);
+        slot = w.slot ∙ at_slot ∙ sym (ap (λ (d : Drive). d.slot) led.ahead.drive ∙ records_slot deltas (with_failure None g).drive);
+        halted = w.goes_on ∙ sym (ap (λ (d : Drive). d.halted) led.ahead.drive ∙ records_halted deltas (with_failure None g).drive ∙ goes g old s row.runs);
         slots = λ honest. w.exact honest ∙ (λ i. after_append None (at_slots honest i) (at_slot i) (written_all deltas)) ∙ sym next_slots;
       }
 
@@ -262,13 +262,13 @@ module _ {D : Type 0} {G : Ghosts D} (g : Gateway) (old : State G) (s : Represen
             begun = λ _ k m. (w.durable honest k m).2;
           }
 
-      written_row : answers ≡ Ok row.out ∷ said → LeadsTo (λ before next made. Rows (first ∷ done) answers before next made) (AgreeInTurn (fated None g) (first ∷ done)) g old new
+      written_row : answers ≡ Ok row.out ∷ said → LeadsTo (λ before next made. Rows (first ∷ done) answers before next made) (AgreeInTurn (with_failure None g) (first ∷ done)) g old new
       written_row are = record {
         fate = None;
         next = led.next;
         made = led.made;
         happens = inl (
-          subst (λ (xs : Answers). InTurn (fated None g) (first ∷ done) xs led.next led.made) (sym are) (in_turn (fated None g) led.next (first ∷ done) (Ok row.out ∷ said) led.made led.does),
+          subst (λ (xs : Answers). InTurn (with_failure None g) (first ∷ done) xs led.next led.made) (sym are) (in_turn (with_failure None g) led.next (first ∷ done) (Ok row.out ∷ said) led.made led.does),
           subst FailsLast (sym are) (turn_last old row.finished.after (first ∷ done) (Ok row.out ∷ said) turn),
         );
         stands = written_stands;
@@ -335,7 +335,7 @@ module _ {D : Type 0} {G : Ghosts D} (g : Gateway) (old : State G) (s : Represen
           begun = λ k m. (left k m).1.2;
         }
 
-      are_torn : AreTorn (fated (Some fate.failure) g) first (Err (refusals.Disk row.excuse)) done next
+      are_torn : AreTorn (with_failure (Some fate.failure) g) first (Err (refusals.Disk row.excuse)) done next
       are_torn = record {
         writing = all_write old row.finished.after (first ∷ done) (Ok row.out ∷ said) turn;
         excuse = row.excuse;
@@ -353,7 +353,7 @@ module _ {D : Type 0} {G : Ghosts D} (g : Gateway) (old : State G) (s : Represen
         halted = refl;
       }
 
-      torn_row : answers ≡ excused row.excuse (Ok row.out ∷ said) → LeadsTo (λ before next made. Rows (first ∷ done) answers before next made) (AgreeInTurn (fated None g) (first ∷ done)) g old new
+      torn_row : answers ≡ excused row.excuse (Ok row.out ∷ said) → LeadsTo (λ before next made. Rows (first ∷ done) answers before next made) (AgreeInTurn (with_failure None g) (first ∷ done)) g old new
       torn_row are = record {
         fate = Some fate.failure;
         next = next;
@@ -364,7 +364,7 @@ module _ {D : Type 0} {G : Ghosts D} (g : Gateway) (old : State G) (s : Represen
           call = first;
           answer = Err (refusals.Disk row.excuse);
           behind = done;
-          mid = fated (Some fate.failure) g;
+          mid = with_failure (Some fate.failure) g;
           calls_are = refl;
           answers_are = are ∙ ap (λ (xs : Answers). Err (refusals.Disk row.excuse) ∷ xs) (all_halted row.mid row.finished.after done said row.finished.turn);
           quiet = refl;
@@ -376,7 +376,7 @@ module _ {D : Type 0} {G : Ghosts D} (g : Gateway) (old : State G) (s : Represen
         lasts = λ agrees honest l. torn_lasts honest l (led.due agrees);
       }
 
-    row_leads : LeadsTo (λ before next made. Rows (first ∷ done) answers before next made) (AgreeInTurn (fated None g) (first ∷ done)) g old new
+    row_leads : LeadsTo (λ before next made. Rows (first ∷ done) answers before next made) (AgreeInTurn (with_failure None g) (first ∷ done)) g old new
     row_leads =
         elim row.finished.ended.written [
           | inl h ↦ written_row h.1 h.2 h.3 h.0
@@ -384,14 +384,14 @@ module _ {D : Type 0} {G : Ghosts D} (g : Gateway) (old : State G) (s : Represen
         ]
 
   alone_leads : (first : Step) (answer : Result Out Refusal) (new : State G) → CanBeSaid g old first answer new → StepCall old first answer new
-      → LeadsTo (λ before next made. Rows (first ∷ []) (answer ∷ []) before next made) (AgreeInTurn (fated None g) (first ∷ [])) g old new
+      → LeadsTo (λ before next made. Rows (first ∷ []) (answer ∷ []) before next made) (AgreeInTurn (with_failure None g) (first ∷ [])) g old new
   alone_leads first answer new can h =
       let l = step_leads g old s new first answer can h in
       record {
         fate = l.fate;
         next = l.next;
         made = l.made;
-        happens = one_together (fated l.fate g) l.next first answer l.made l.happens;
+        happens = one_together (with_failure l.fate g) l.next first answer l.made l.happens;
         stands = l.stands;
         foreseen = l.foreseen;
         lasts = λ agrees. l.lasts (agrees_fated None g first agrees.0);

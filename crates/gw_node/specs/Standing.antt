@@ -67,8 +67,8 @@ pub record IsForeseen {D : Type 0} {G : Ghosts D} (gateway : Gateway)
 -- ---- what a call leads to
 
 -- the gateway as if this failure, or none, was arranged
-abbrev pub fated : Option Failure → Gateway → Gateway
-fated fate gateway = record gateway { drive = record gateway.drive { plan = fate } }
+abbrev pub with_failure : Option Failure → Gateway → Gateway
+with_failure fate gateway = record gateway { drive = record gateway.drive { plan = fate } }
 
 -- The node stood for the gateway, and stands for the next one. What happened leads to that one as
 -- if the failure that came, or none, had been arranged. On an honest disk to which no memory was
@@ -79,7 +79,7 @@ pub record LeadsTo {D : Type 0} {G : Ghosts D} (Happens : Gateway → Gateway �
   pub fate : Option Failure
   pub next : Gateway
   pub made : List (List Op)
-  pub happens : Happens (fated fate gateway) next made
+  pub happens : Happens (with_failure fate gateway) next made
   pub stands : Represents next new
   pub foreseen : G.honest → G.starved (disk_under new.journal) ≡ false → IsForeseen gateway old
       → (fate ≡ gateway.drive.plan) × IsForeseen next new
@@ -165,4 +165,4 @@ abbrev pub EventsOn : {D : Type 0} {G : Ghosts D} → State G → List Step
 EventsOn old calls answers new =
     (gateway : Gateway) → Represents gateway old → CanAllBeSaid gateway old calls answers new
     → LeadsTo (λ before next made. Together before calls answers next made)
-    (AgreeInTurn (fated None gateway) calls) gateway old new
+    (AgreeInTurn (with_failure None gateway) calls) gateway old new

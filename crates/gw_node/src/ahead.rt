@@ -16,7 +16,7 @@ use super::carrying::{make_ready, ops_of, prepare};
 use super::looking::{Left, look};
 use super::node::Node;
 use gw_answer::{Out, Refusal, Shares, Step};
-use gw_own::{keep_owned, note_taken};
+use gw_own::{apply_local_after_delta, keep_owned};
 use jr_journal::{Disk, Records};
 use octets::{NoMemory, Sequence};
 use rep_model::Replica;
@@ -186,7 +186,7 @@ pub(crate) fn carry_ahead<R: Replica, D: Disk + Drop>(
     };
     node.replica.commit(staged);
     let made = ops_of(&answer.out().made);
-    node.tidy = note_taken(
+    node.tidy = apply_local_after_delta(
         node.config.gateway,
         &node.replica,
         &mut node.dialogs,

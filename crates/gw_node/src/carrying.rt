@@ -20,7 +20,7 @@ ghost use Rattle.gw_event.specs.Event.{IsWritable};
 
 use super::node::Node;
 use gw_answer::{Out, Refusal, Shares, Subjects};
-use gw_own::{keep_owned, note_changes, note_taken};
+use gw_own::{apply_local_after_delta, keep_owned, note_changes};
 use jr_journal::{Disk, Journal, JournalFault};
 use octets::{NoMemory, Sequence};
 use rep_model::{Replica, TakeFault};
@@ -133,7 +133,7 @@ pub(crate) fn refused(fault: JournalFault, excuse: Shares) -> Refusal
 }
 
 /// Carries out a plan without operations: what it notes is noted.
-pub(crate) fn note<R: Replica, D: Disk + Drop>(
+pub(crate) fn apply_local<R: Replica, D: Disk + Drop>(
     alloc: Global,
     node: &mut Node<R, D>,
     plan: Plan,
@@ -248,7 +248,7 @@ fn refuse(
 /// Carries out a plan with operations: they become one delta, which is written to the journal and
 /// taken, and what the plan notes is noted. `excuse` is answered where the journal cannot be
 /// written.
-pub(crate) fn carry_out<R: Replica, D: Disk + Drop>(
+pub(crate) fn write_and_apply<R: Replica, D: Disk + Drop>(
     alloc: Global,
     node: &mut Node<R, D>,
     plan: Plan,
@@ -282,7 +282,7 @@ pub(crate) fn carry_out<R: Replica, D: Disk + Drop>(
             drop(excuse);
             node.replica.commit(staged);
             let made = ops_of(&answer.out().made);
-            node.tidy = note_taken(
+            node.tidy = apply_local_after_delta(
                 node.config.gateway,
                 &node.replica,
                 &mut node.dialogs,
@@ -303,7 +303,7 @@ pub(crate) fn carry_out<R: Replica, D: Disk + Drop>(
 
 /// Takes a delta: it is written to the journal, and clients that another gateway now owns have no
 /// address here any more.
-pub(crate) fn take_in<R: Replica, D: Disk + Drop>(
+pub(crate) fn write_and_take<R: Replica, D: Disk + Drop>(
     alloc: Global,
     node: &mut Node<R, D>,
     delta: &Delta,

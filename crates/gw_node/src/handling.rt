@@ -14,7 +14,7 @@ ghost use Rattle.gw_node.specs.inner.Handling.{IsNoFrameBy, IsNoPlan, planned_fo
 ghost use Rattle.gw_event.specs.Event.{shows};
 
 use super::anew::{handle_compact, handle_reopen};
-use super::carrying::{carry_out, note, take_in};
+use super::carrying::{apply_local, write_and_apply, write_and_take};
 use super::node::Node;
 use gw_answer::{Out, Refusal, Shares, Step};
 use gw_own::excuses;
@@ -100,10 +100,10 @@ fn carry_for_frame<R: Replica, D: Disk + Drop>(
         (only_sends (spec.excuses from frame.now plan.sends)) result (state_of R.kept node.new) }
 {
     if plan.ops.is_empty() {
-        return Ok(note(alloc, node, plan)?);
+        return Ok(apply_local(alloc, node, plan)?);
     }
     let excuse = excuses(alloc, from, frame, plan.sends.as_slice())?;
-    carry_out(alloc, node, plan, Out::of_sends(alloc, excuse))
+    write_and_apply(alloc, node, plan, Out::of_sends(alloc, excuse))
 }
 
 /// Carries out the plan of a tick. Nobody waits for its answer.
@@ -116,9 +116,9 @@ fn carry_for_tick<R: Replica, D: Disk + Drop>(
         (state_of R.kept node.new) }
 {
     if plan.ops.is_empty() {
-        return Ok(note(alloc, node, plan)?);
+        return Ok(apply_local(alloc, node, plan)?);
     }
-    carry_out(
+    write_and_apply(
         alloc,
         node,
         plan,
@@ -302,7 +302,7 @@ pub(crate) fn handle_step<R: Replica, D: Disk + Drop>(
         Step::Frame { from, bytes, now } => {
             handle_frame(alloc, node, *from, bytes.as_slice(), *now)
         }
-        Step::Take { delta } => take_in(alloc, node, delta),
+        Step::Take { delta } => write_and_take(alloc, node, delta),
         Step::Tick { now } => handle_tick(alloc, node, *now),
         Step::View { client } => handle_view(alloc, node, client),
         Step::Digest => handle_digest(alloc, node),

@@ -17,7 +17,7 @@ ghost use Rattle.gw_node.specs.inner.Rows.{WrittenAllAs, OneMore, WentOn, excuse
 ghost use Rattle.jr_journal.specs.Parts.{is_stopped};
 
 use super::ahead::{Most, carry_ahead, go_ahead, take_ahead};
-use super::carrying::{carry_out, take_in};
+use super::carrying::{write_and_apply, write_and_take};
 use super::handling::handle_step;
 use super::looking::{Left, look};
 use super::node::Node;
@@ -303,10 +303,10 @@ fn own_row<R: Replica, D: Disk + Drop>(
         (state_of R.kept node.new) }
 {
     if most.operations < plan.ops.len() {
-        return alone(replies, carry_out(alloc, node, plan, excuse));
+        return alone(replies, write_and_apply(alloc, node, plan, excuse));
     }
     let Ok(mut row) = Row::new(alloc, node) else {
-        return alone(replies, carry_out(alloc, node, plan, excuse));
+        return alone(replies, write_and_apply(alloc, node, plan, excuse));
     };
     let Ok(excuse) = Shares::new(alloc, excuse) else {
         drop(row);
@@ -339,10 +339,10 @@ fn taken_row<R: Replica, D: Disk + Drop>(
         result.items (state_of R.kept node.new) }
 {
     if delta.is_empty() || most.operations < delta.ops().len() {
-        return alone(replies, take_in(alloc, node, delta));
+        return alone(replies, write_and_take(alloc, node, delta));
     }
     let Ok(mut row) = Row::new(alloc, node) else {
-        return alone(replies, take_in(alloc, node, delta));
+        return alone(replies, write_and_take(alloc, node, delta));
     };
     let Ok(nothing) = Shares::new(alloc, Out::of_sends(alloc, Sequence::empty(alloc))) else {
         drop(row);

@@ -10,4 +10,4 @@ mod excuse;
 mod tidy;
 
 pub use excuse::excuses;
-pub use tidy::{keep_owned, note_changes, note_taken};
+pub use tidy::{apply_local_after_delta, keep_owned, note_changes};

@@ -69,7 +69,7 @@ fn notes_owned<R: Replica>(gateway: u8, replica: &R, change: &LocalChange) -> bo
 
 /// Whether these operations, which the replica has taken, leave the gateway all clients of which it
 /// knows an address or a timer.
-fn leave_all<R: Replica>(gateway: u8, replica: &R, dialogs: &Dialogs, ops: &[Op]) -> bool
+fn keeps_all_bound<R: Replica>(gateway: u8, replica: &R, dialogs: &Dialogs, ops: &[Op]) -> bool
     ensures { result ≡ list_all
         (spec.leaves_all gateway (seen_of (R.kept replica.now)) dialogs.now.local) ops.now }
 {
@@ -112,7 +112,7 @@ pub fn note_changes<R: Replica>(
 }
 
 /// The same, where it was known of what the replica kept before it took these operations.
-pub fn note_taken<R: Replica>(
+pub fn apply_local_after_delta<R: Replica>(
     gateway: u8,
     replica: &R,
     dialogs: &mut Dialogs,
@@ -127,7 +127,7 @@ pub fn note_taken<R: Replica>(
     ensures owned { result ≡ true → are_owned gateway (seen_of (R.kept replica.now))
         dialogs.new.local ≡ true }
 {
-    if known && leave_all(gateway, replica, dialogs, ops) {
+    if known && keeps_all_bound(gateway, replica, dialogs, ops) {
         return note_changes(gateway, replica, dialogs, true, changes);
     }
     note_changes(gateway, replica, dialogs, false, changes)
@@ -148,7 +148,7 @@ pub fn keep_owned<R: Replica>(
         ≡ owned gateway (seen_of (R.kept replica.now)) dialogs.old.local }
     ensures owned { are_owned gateway (seen_of (R.kept replica.now)) dialogs.new.local ≡ true }
 {
-    if known && leave_all(gateway, replica, dialogs, ops) {
+    if known && keeps_all_bound(gateway, replica, dialogs, ops) {
         return;
     }
     dialogs.keep_owned(gateway, replica);

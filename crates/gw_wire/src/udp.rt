@@ -21,18 +21,18 @@ use std::{io, thread};
 
 /// How many milliseconds a receive waits for a datagram. As long a shift that has had all its calls
 /// may go on.
-const A_WHILE: u64 = 10;
+const RECV_TIMEOUT_MS: u64 = 10;
 
 /// How many milliseconds a reader rests that has no room for more.
-const A_REST: u64 = 1;
+const FULL_WAIT_MS: u64 = 1;
 
 /// How many octets the system is asked to keep of datagrams that were not read yet. It keeps less
 /// if its own limit (`net.core.rmem_max`) is less.
 const UNREAD_OCTETS: i32 = 8_388_608;
 
 /// How many octets the system is asked to keep of datagrams that have not gone out yet: no thread
-/// waits for a slow network then. It keeps twice as many, some 1,000 small datagrams: more than that
-/// its queues may drop. It keeps less if its own limit (`net.core.wmem_max`) is less.
+/// waits for a slow network then. It keeps twice as many, some 1,000 small datagrams: more than
+/// that its queues may drop. It keeps less if its own limit (`net.core.wmem_max`) is less.
 const UNSENT_OCTETS: i32 = 376_832;
 
 /// How often a datagram is offered to the system while that has no room for it: some tens of
@@ -220,7 +220,7 @@ impl<'a> Ears<'a> {
             return Ok(Some(found));
         }
         self.poll
-            .poll(self.events, Some(Duration::from_millis(A_WHILE)))?;
+            .poll(self.events, Some(Duration::from_millis(RECV_TIMEOUT_MS)))?;
         self.look(buffer)
     }
 
@@ -278,7 +278,7 @@ impl<'a> Wire for Ears<'a> {
     fn rest(&mut self) {
         let _ = self
             .poll
-            .poll(self.events, Some(Duration::from_millis(A_REST)));
+            .poll(self.events, Some(Duration::from_millis(FULL_WAIT_MS)));
     }
 }
 

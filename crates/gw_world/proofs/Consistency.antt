@@ -39,7 +39,7 @@ use Rattle.gw_world.proofs.InRows.{Answers, CallAt, InCalls, CutShort, changed-t
 use Rattle.gw_world.specs.Steps.{AnswerStep, restarted}
 use Rattle.gw_event.specs.Event.{HaveName, IsConflict, OwnStep, TakeStep, CompactStep, IsWritable}
 use Rattle.gw_world.specs.Steady.{IsKnown, IsSteady}
-use Rattle.gw_world.specs.Whole.{everything, IsHome}
+use Rattle.gw_world.specs.Whole.{everything, IsAtOrigin}
 use Rattle.gw_world.proofs.Alone.{stands-alone, agrees-alone}
 use Rattle.gw_world.proofs.Answering.{answered, all-answered}
 use Rattle.gw_world.proofs.Each.{all-at, all-places, each-all}
@@ -394,7 +394,7 @@ module _ (field : Field) (w : WholeField field) where
   pub parts-consistent : (part : List Op) → ((op : Op) → Contains part op → Contains (everything field) op) → IsConsistent part
   parts-consistent part f = all-moved (HasOperation part) part (λ op h. stands-alone part op h (λ other there named. held-alike field.gateways other op (held other (f other there)) (held op (f op h)) named))
 
-  at-home : (op : Op) → IsHeld field.gateways op → IsHome field op
+  at-home : (op : Op) → IsHeld field.gateways op → IsAtOrigin field op
   at-home (OfSession c s k o) h = (h.0, h.1, (first-place_of s.gateway h.0 field.gateways h.2, h.3), h.4)
   at-home (OfPut c p) h = (h.0, h.1, (first-place_of p.origin h.0 field.gateways h.2, h.3), h.4)
   at-home (Ack c origin first last) h = tt
@@ -452,7 +452,7 @@ field-never_together configs events answers field replies client h there inside 
     All-contains IsAtPeace (map said replies) (Err (refusals.Conflict client))
     (All-from_recursion IsAtPeace (map said replies) (All-contains IsPeaceful answers (Row replies) (All-from_recursion IsPeaceful answers (field-sound configs events answers field h).peaceful) there)) inside
 
-pub field-home : (configs : List Config) (events : List Event) (answers : List Answer) (field : Field) (op : Op) → Run (new_field configs) events answers field → Contains (everything field) op → IsHome field op
+pub field-home : (configs : List Config) (events : List Event) (answers : List Answer) (field : Field) (op : Op) → Run (new_field configs) events answers field → Contains (everything field) op → IsAtOrigin field op
 field-home configs events answers field op h there = let w = field-whole configs events answers field h in at-home field w op (held field w op there)
 
 pub field-well_made : (configs : List Config) (events : List Event) (answers : List Answer) (field : Field) (delta : List Op) → Run (new_field configs) events answers field → Contains field.deltas delta → IsDelta delta × IsWritable delta

@@ -23,7 +23,7 @@ use Rattle.gw_event.specs.Event.{Event, StepOf, IsWritable}
 use Rattle.gw_event.specs.Gateways.{Gateway}
 use Rattle.gw_node.specs.Keeping.{Keeps}
 use Rattle.gw_node.specs.Parts.{State}
-use Rattle.gw_node.specs.Standing.{fated, CanBeSaid, EventOn}
+use Rattle.gw_node.specs.Standing.{with_failure, CanBeSaid, EventOn}
 use Rattle.gw_world.specs.Events.{answered_of}
 use Rattle.gw_world.specs.Keeping.{IsShown}
 use Rattle.gw_world.specs.Steps.{AnswerStep}
@@ -40,7 +40,7 @@ module _ {D : Type 0} {G : Ghosts D} where
   goes_on old new step answer honest fed memory premise event = λ gateway s agrees.
       let l = event gateway s.stands (premise gateway s) in
       let f = l.foreseen honest fed s.foreseen in
-      let same : fated l.fate gateway ≡ gateway = λ i. record gateway { drive = record gateway.drive { plan = f.0 i } } in
+      let same : with_failure l.fate gateway ≡ gateway = λ i. record gateway { drive = record gateway.drive { plan = f.0 i } } in
       let happened = subst (λ (x : Gateway). Event x step answer l.next l.made) same l.happens in (
         l.next,
         l.made,

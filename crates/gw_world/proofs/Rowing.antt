@@ -22,7 +22,7 @@ use Rattle.gw_event.specs.Event.{NothingHappens, IsTorn, IsMade, OwnStep, TakeSt
 use Rattle.gw_event.specs.Together.{InTurnBy, InTurn, CanWrite, if_any, put_by, put_by_all, halted_all, StopShort, FailsLast, Together}
 use Rattle.gw_event.proofs.Turns.{turn_append}
 use Rattle.gw_node.specs.Parts.{State}
-use Rattle.gw_node.specs.Standing.{fated, CanBeSaid, CanAllBeSaid, EventsOn}
+use Rattle.gw_node.specs.Standing.{with_failure, CanBeSaid, CanAllBeSaid, EventsOn}
 use Rattle.gw_world.specs.Field.{AreFed}
 use Rattle.gw_world.specs.Keeping.{IsShown}
 use Rattle.gw_world.specs.inner.Events.{IsFed, IsNoFailure, AgreeAlong, RowLeads, RowDone, GoesTogether}
@@ -235,7 +235,7 @@ module _ {D : Type 0} {G : Ghosts D} where
   goes-row old new called answers honest fed can event gateway s along =
       let l = event gateway s.stands (all-said gateway old called answers new can) in
       let f = l.foreseen honest fed s.foreseen in
-      let same : fated l.fate gateway ≡ gateway = λ i. record gateway { drive = record gateway.drive { plan = f.0 i } } in (
+      let same : with_failure l.fate gateway ≡ gateway = λ i. record gateway { drive = record gateway.drive { plan = f.0 i } } in (
         l.next,
         l.made,
         subst (λ (x : Gateway). Together x called answers l.next l.made) same l.happens,

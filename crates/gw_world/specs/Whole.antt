@@ -42,8 +42,8 @@ StandsAt field op number =
     (i : ℕ) × (gateway : Gateway) × IsAt field number i gateway × HasOperation gateway.taken op
 
 -- an operation that is no acknowledgement is in the set of the gateway whose number is in its name
-abbrev pub IsHome : Field → Op → Type 0
-IsHome field op = IfSome (maker_of op) (λ number. StandsAt field op number)
+abbrev pub IsAtOrigin : Field → Op → Type 0
+IsAtOrigin field op = IfSome (maker_of op) (λ number. StandsAt field op number)
 
 -- a name, but of acknowledgements, occurs at one place of one delta
 abbrev pub AreMadeOnce : List (List Op) → Type 0

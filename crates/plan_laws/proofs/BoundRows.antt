@@ -51,7 +51,7 @@ use Rattle.sn_local.specs.Locals.{Local}
 use Rattle.sn_plan.specs.Others.{is_up, can_wake, other}
 use Rattle.sn_local.specs.Seen.{Seen, seen_of}
 use Rattle.sn_subscribe.specs.Registration.{entry_or_free, id_for, registered, register_name}
-use Rattle.sn_plan.specs.Rows.{heard_row, stray}
+use Rattle.sn_plan.specs.Rows.{row_with_timer, unexpected_row}
 use Rattle.sn_subscribe.specs.Subscription.{suback, refused, id_in_full, id_asked, subscribe_change, subscribed, subscribe_asked, subscribe_at, unsubscribe_asked, unsubscribe as unsubscribe_draft}
 use Rattle.sn_subscribe.specs.Handing.{waiting_for, handed_for}
 use Rattle.sn_subscribe.specs.TopicRows.{register_of, subscribe_of, unsubscribe_of}
@@ -86,11 +86,11 @@ module _ (g : ℕ) (S : List Op) where
   for-moved None change d none h = all-append IsNoBind d.local (change ∷ []) h (none, tt)
   for-moved (Some c) change d none h = fits-moved change d none h
 
-  heard-fits : (bound : Option (List ℕ)) (now : ℕ) (row : Row) → FitsRow g S row → FitsRow g S (heard_row bound now row)
+  heard-fits : (bound : Option (List ℕ)) (now : ℕ) (row : Row) → FitsRow g S row → FitsRow g S (row_with_timer bound now row)
   heard-fits None now row h = h
   heard-fits (Some c) now row h = for-moved row.client (Heard c now) row.draft tt h
 
-  pub stray-fits : (a : Addr) (bound : Option (List ℕ)) (now : ℕ) → FitsRow g S (stray a bound now)
+  pub stray-fits : (a : Addr) (bound : Option (List ℕ)) (now : ℕ) → FitsRow g S (unexpected_row a bound now)
   stray-fits a None now = tt
   stray-fits a (Some c) now = fits-moved (Heard c now) nothing tt fits-nothing
 

@@ -50,7 +50,7 @@ use Rattle.sn_local.specs.declared.local.Request.{Request}
 use Rattle.sn_local.specs.declared.local.WillDialog.{WillDialog}
 use Rattle.sn_subscribe.specs.declared.registration.NamedId.{NamedId}
 use Rattle.sn_plan.specs.declared.row.Row.{Row}
-use Rattle.sn_flow.specs.Accept.{will_after, unknowing, going_on, as_asked, accepted, cleared, accept, has_no_room}
+use Rattle.sn_flow.specs.Accept.{will_after, with_ids_unknown, going_on, as_asked, accepted, cleared, accept, has_no_room}
 use Rattle.sn_plan.specs.Asking.{qos_asked, topics_asked, id_in}
 use Rattle.sn_local.specs.Bindings.{client_at, same_address, is_stamp_of}
 use Rattle.sn_plan.specs.Bound.{bound_to, heard_of, session_of}
@@ -60,7 +60,7 @@ use Rattle.sn_local.specs.Locals.{Local}
 use Rattle.sn_plan.specs.Others.{is_up}
 use Rattle.sn_local.specs.Seen.{Seen, seen_of}
 use Rattle.sn_subscribe.specs.Registration.{entry_id, new_id, entry_or_free, id_for, registered, register_name, register as register_draft}
-use Rattle.sn_plan.specs.Rows.{row_of, row_of_none, heard_row, turned_away, stray}
+use Rattle.sn_plan.specs.Rows.{row_of, row_of_none, row_with_timer, turned_away, unexpected_row}
 use Rattle.sn_subscribe.specs.Subscription.{suback, refused, fixed_id, id_in_full, id_asked, subscribe_change, subscribed, subscribe_to, subscribe_asked, subscribe_at, subscribe as subscribe_draft, unsubscribe_change, unsubscribe_asked, unsubscribe as unsubscribe_draft}
 use Rattle.sn_subscribe.specs.Handing.{waiting_for, handed_for}
 use Rattle.sn_subscribe.specs.TopicRows.{register_of, register, subscribe_of, subscribe, unsubscribe_of, unsubscribe}
@@ -76,7 +76,7 @@ use Rattle.sn_exchange.specs.Exchanges.{same_name, put_named, put_left, message_
 use Rattle.sn_exchange.specs.Following.{peer_at}
 use Rattle.sn_exchange.specs.Forms.{form_again}
 use Rattle.step_laws.specs.Laws.{AreNamedApart}
-use Rattle.sn_publish.specs.Publishing.{topic_meant, within_limit, publication_meant, spread, spread_once, spread_twice, publish_at, publish_meant, publish, spread_meant, publish_unconnected, release, pubrel}
+use Rattle.sn_publish.specs.Publishing.{topic_meant, within_limit, publication_meant, publish_at_0, publish_at_1, publish_at_2, publish_at, publish_meant, publish, spread_meant, publish_unconnected, release, pubrel}
 use Rattle.sn_publish.specs.Recipients.{admitted, qos_at, qos_in, qos_for, message_for, put_for, puts_among, puts_for, is_another, puts_of_will}
 use Rattle.sn_deliver.specs.Serving.{publish_of, publish_in_at, publish_in, pubrel_of, ack_row, ack_in}
 use Rattle.sn_deliver.specs.Waking.{claimed, has_nothing, from_sleep, from_wake, woken_by, woken_if, woken, wake_of, wake}
@@ -93,11 +93,11 @@ IsSoundRow row = Sound row.draft
 pub sent-nothing : (a : Addr) (frame : Frame) → Sound (sent a frame nothing)
 sent-nothing a frame = sound-sent a frame nothing sound-nothing
 
-pub heard-sound : (bound : Option (List ℕ)) (now : ℕ) (row : Row) → IsSoundRow row → IsSoundRow (heard_row bound now row)
+pub heard-sound : (bound : Option (List ℕ)) (now : ℕ) (row : Row) → IsSoundRow row → IsSoundRow (row_with_timer bound now row)
 heard-sound None now row h = h
 heard-sound (Some c) now row h = sound-moved (Heard c now) row.draft tt h
 
-pub stray-sound : (a : Addr) (bound : Option (List ℕ)) (now : ℕ) → IsSoundRow (stray a bound now)
+pub stray-sound : (a : Addr) (bound : Option (List ℕ)) (now : ℕ) → IsSoundRow (unexpected_row a bound now)
 stray-sound a None now = sent-nothing a (frames.Disconnect None)
 stray-sound a (Some c) now = sound-moved (Heard c now) nothing tt sound-nothing
 
@@ -121,7 +121,7 @@ will-fine AsItIs will g h = h
 will-fine Deleted will g h = refl
 will-fine (Replaced other) will g h = g
 
-unknowing-fine : (s : Session) → Fine s → Fine (unknowing s)
+unknowing-fine : (s : Session) → Fine s → Fine (with_ids_unknown s)
 unknowing-fine s f = record { next = f.next; topics = unknown-fine s.topics f.topics; subscriptions = f.subscriptions; will = f.will; exchange = f.exchange }
 
 going_on-fine : (clean : Bool) (session : Option Session) → IfSome session Fine → Fine (going_on clean session)

@@ -20,7 +20,7 @@ use Rattle.sn_local.specs.declared.config.Send.{Send}
 use Rattle.sn_local.specs.Seen.{seen_of}
 use Rattle.sn_plan.specs.declared.draft.NewPut.{NewPut}
 use Rattle.sn_plan.specs.declared.plan.Plan.{Plan}
-use Rattle.sn_plan.specs.Flush.{AreFlush}
+use Rattle.sn_plan.specs.Flush.{HaveNoGap}
 use Rattle.sn_plan.specs.Own.{new_messages}
 use Rattle.sn_publish.specs.Recipients.{message_for}
 use Rattle.sn_deliver.specs.Steps.{step}
@@ -72,14 +72,14 @@ has-stepped old new number i gateway occasion now answer out at says h =
     }
 
 -- a gateway that an event reaches is flush
-flush-at : (configs : List Config) (event : Event) (out : Out) (old new : Field) (number i : ℕ) (gateway : Gateway) → HasAnswered configs event out old new i gateway → IsAt old number i gateway → AreFlush gateway.config.gateway gateway.taken
+flush-at : (configs : List Config) (event : Event) (out : Out) (old new : Field) (number i : ℕ) (gateway : Gateway) → HasAnswered configs event out old new i gateway → IsAt old number i gateway → HaveNoGap gateway.config.gateway gateway.taken
 flush-at configs event out old new number i gateway h at =
     let own : gateway.config.gateway ≡ number = first-number number i old.gateways gateway (place_of-first number i old.gateways at.0) at.1 in
-    subst (λ (k : ℕ). AreFlush k gateway.taken) (sym own) ((field-steady configs h.events h.answers old h.run).flush number i gateway at)
+    subst (λ (k : ℕ). HaveNoGap k gateway.taken) (sym own) ((field-steady configs h.events h.answers old h.run).flush number i gateway at)
 
 -- ---- what the step puts
 
-module _ (new : Field) (i : ℕ) (gateway : Gateway) (occasion : Occasion) (now : ℕ) (out : Out) (flush : AreFlush gateway.config.gateway gateway.taken) (s : HasStepped new i gateway occasion now out) where
+module _ (new : Field) (i : ℕ) (gateway : Gateway) (occasion : Occasion) (now : ℕ) (out : Out) (flush : HaveNoGap gateway.config.gateway gateway.taken) (s : HasStepped new i gateway occasion now out) where
   abbrev plan : Plan
   plan = s.step.0
 
@@ -133,7 +133,7 @@ module _ (configs : List Config) (old new : Field) (number i : ℕ) (gateway : G
   framed : HasStepped new i gateway (Datagram a octets) now out
   framed = has-stepped old new number i gateway (Datagram a octets) now (said h.answer) out h.at h.says h.after
 
-  frame-flush : AreFlush gateway.config.gateway gateway.taken
+  frame-flush : HaveNoGap gateway.config.gateway gateway.taken
   frame-flush = flush-at configs (Frame number a octets now) out old new number i gateway h h.at
 
   abbrev frame-plan : Plan
@@ -181,7 +181,7 @@ module _ (configs : List Config) (old new : Field) (number i : ℕ) (gateway : G
   ticked : HasStepped new i gateway Clock now out
   ticked = has-stepped old new number i gateway Clock now (said h.answer) out h.at h.says h.after
 
-  tick-flush : AreFlush gateway.config.gateway gateway.taken
+  tick-flush : HaveNoGap gateway.config.gateway gateway.taken
   tick-flush = flush-at configs (Tick number now) out old new number i gateway h h.at
 
   pub tick-served : (p : NewPut) → Contains (puts_by_tick gateway.config.gateway gateway.config.advertise gateway.config.field (seen_of gateway.taken) gateway.local now) p → IsServed gateway out p.client p.topic p.qos p.body Holds

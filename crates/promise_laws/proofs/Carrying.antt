@@ -52,7 +52,7 @@ use Rattle.sn_plan.specs.Asking.{qos_asked, retain_asked, topics_asked}
 use Rattle.sn_plan.specs.Bound.{bound_to, session_of}
 use Rattle.sn_plan.specs.Drafts.{Drafted, nothing, changed, changed_if, sent, moved}
 use Rattle.sn_plan.specs.Others.{other}
-use Rattle.sn_plan.specs.Rows.{row_of, heard_row, stray}
+use Rattle.sn_plan.specs.Rows.{row_of, row_with_timer, unexpected_row}
 use Rattle.sn_plan.proofs.Lists.{all-append}
 use Rattle.sn_subscribe.specs.declared.registration.NamedId.{NamedId}
 use Rattle.sn_subscribe.specs.Registration.{entry_or_free, id_for, registered, register_name}
@@ -133,11 +133,11 @@ module _ (seen : Seen) (A : List ℕ → ℕ → Type 0) where
   for-moved None change d h = tt
   for-moved (Some c) change d h = h
 
-  heard-carried : (bound : Option (List ℕ)) (now : ℕ) (row : Row) → CarriedRow row → CarriedRow (heard_row bound now row)
+  heard-carried : (bound : Option (List ℕ)) (now : ℕ) (row : Row) → CarriedRow row → CarriedRow (row_with_timer bound now row)
   heard-carried None now row h = h
   heard-carried (Some c) now row h = for-moved row.client (Heard c now) row.draft h
 
-  stray-carried : (a : Addr) (bound : Option (List ℕ)) (now : ℕ) → CarriedRow (stray a bound now)
+  stray-carried : (a : Addr) (bound : Option (List ℕ)) (now : ℕ) → CarriedRow (unexpected_row a bound now)
   stray-carried a None now = tt
   stray-carried a (Some c) now = tt
 
@@ -412,7 +412,7 @@ module _ (seen : Seen) (A : List ℕ → ℕ → Type 0) where
 
   wake-carried : (g : ℕ) (local : Local) (a : Addr) (c : List ℕ) (now : ℕ) → CarriedRow (wake g seen local a c now)
   wake-carried g local a c now =
-      choose-row (length c == 0) (wake_of g seen a (client_at a local.bindings) now) (heard_row (client_at a local.bindings) now (woken g seen a c now)) (wake_of-carried g a (client_at a local.bindings) now)
+      choose-row (length c == 0) (wake_of g seen a (client_at a local.bindings) now) (row_with_timer (client_at a local.bindings) now (woken g seen a c now)) (wake_of-carried g a (client_at a local.bindings) now)
       (heard-carried (client_at a local.bindings) now (woken g seen a c now) (woken_if-carried g a c now (seen.of c).session refl))
 
   -- ---- other frames

@@ -17,7 +17,7 @@ use Rattle.rep_model.proofs.Thin.{pending_at-reads, pending_at-thin, thin-same}
 use Rattle.sn_local.specs.Seen.{seen_of}
 use Rattle.sn_plan.specs.declared.draft.NewPut.{NewPut}
 use Rattle.sn_plan.specs.declared.plan.Plan.{Plan}
-use Rattle.sn_plan.specs.Flush.{AreFlush}
+use Rattle.sn_plan.specs.Flush.{HaveNoGap}
 use Rattle.sn_plan.specs.Own.{IsOwnWrite, IsOfDraft, unnamed, new_messages}
 use Rattle.row_laws.proofs.Known.{same-behind}
 use Rattle.row_laws.proofs.Names.{plan-own}
@@ -79,7 +79,7 @@ read_some : (b : Bool) (o : Option Put) (put : Put) → cond (not b) o None ≡ 
 read_some true o put e = absurd (none-some put e)
 read_some false o put e = e
 
-module _ (g : ℕ) (S : List Op) (plan : Plan) (is : IsOfGateway g S plan) (flush : AreFlush g S) (c : List ℕ) (m : Put) (among : Contains plan.ops (OfPut c m)) where
+module _ (g : ℕ) (S : List Op) (plan : Plan) (is : IsOfGateway g S plan) (flush : HaveNoGap g S) (c : List ℕ) (m : Put) (among : Contains plan.ops (OfPut c m)) where
   abbrev name : ℕ × ℕ
   name = (m.seq, m.origin)
 
@@ -136,7 +136,7 @@ pub record IsPut (old next : Gateway) (delta : List Op) (c : List ℕ) (m : Put)
   pub stands : put_at c delta (m.seq, m.origin) ≡ Some m
   pub taken : next.taken ≡ old.taken ++ delta
 
-module _ (old next : Gateway) (plan : Plan) (is : IsOfGateway old.config.gateway old.taken plan) (flush : AreFlush old.config.gateway old.taken) (told : Option (List Op)) (delta : List Op) (t : IsTaken plan.ops old told delta next) where
+module _ (old next : Gateway) (plan : Plan) (is : IsOfGateway old.config.gateway old.taken plan) (flush : HaveNoGap old.config.gateway old.taken) (told : Option (List Op)) (delta : List Op) (t : IsTaken plan.ops old told delta next) where
   pub put-of-plan : (c : List ℕ) (m : Put) → Contains plan.ops (OfPut c m) → IsPut old next delta c m
   put-of-plan c m among =
       let same = t.delta_of.same in

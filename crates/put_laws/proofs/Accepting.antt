@@ -24,7 +24,7 @@ use Rattle.sn_local.specs.WillDialogs.{dialog_at}
 use Rattle.sn_plan.specs.declared.row.Row.{Row}
 use Rattle.sn_plan.specs.declared.row.Follow.TheVariants.{Resend}
 use Rattle.sn_plan.specs.Drafts.{Drafted}
-use Rattle.sn_plan.specs.Rows.{row_of, stray}
+use Rattle.sn_plan.specs.Rows.{row_of, unexpected_row}
 use Rattle.sn_flow.specs.declared.accept.GivenWill.{GivenWill}
 use Rattle.sn_flow.specs.declared.accept.GivenWill.TheVariants.{AsItIs, Deleted, Replaced}
 use Rattle.sn_flow.specs.Accept.{cleared, accept, has_no_room}
@@ -125,8 +125,8 @@ module _ (seen : Seen) (local : Local) (a : Addr) (now : ℕ) (frame : Frame)
   dismissed-fits : (request : Request) (code : ℕ) → ByFrame (Some request.client) (dismissed request code)
   dismissed-fits request code = quiet-fits seen (IsCause seen local a frame) (Some request.client) (dismissed request code) (refl, refl, tt)
 
-  stray-fits : (bound : Option (List ℕ)) → ByFrame bound (stray a bound now)
-  stray-fits bound = quiet-fits seen (IsCause seen local a frame) bound (stray a bound now) (stray-quiet seen a bound now)
+  stray-fits : (bound : Option (List ℕ)) → ByFrame bound (unexpected_row a bound now)
+  stray-fits bound = quiet-fits seen (IsCause seen local a frame) bound (unexpected_row a bound now) (stray-quiet seen a bound now)
 
   module _ (dialog : WillDialog) (is : dialog_at a local.dialogs ≡ Some dialog) where
     there : dialog.request.address ≡ a

@@ -40,7 +40,7 @@ use Rattle.sn_tick.specs.declared.due.Due.{Due}
 use Rattle.sn_tick.specs.declared.due.Due.TheVariants.{Expiry, Loss, Retry, Delivery}
 use Rattle.sn_tick.specs.Due.{first_due}
 use Rattle.sn_tick.specs.Expiry.{expire_all}
-use Rattle.sn_tick.specs.Ticking.{cleaned, may_advertise, advertised, will_puts, lost, retried, plan_due, plan_if_due, tick}
+use Rattle.sn_tick.specs.Ticking.{begin_tick, may_advertise, advertised, will_puts, lost, retry_row, plan_due, plan_if_due, tick}
 use Rattle.row_laws.proofs.Drafting.{connect-made, disconnect-made, will_topic-made, will_msg-made, will_topic_update-made, will_msg_update-made, register-made, subscribe-puts, unsubscribe-made, other-made}
 use Rattle.row_laws.proofs.Waiting.{plan-messages}
 use Rattle.step_laws.proofs.Drafting.{followed_for_puts, pubrel_of_made, ack_of_made, wake_made, cleaned_made, expired_made, step-drafted, tick-drafted}
@@ -135,7 +135,7 @@ module _ (g : ℕ) (predefined : Entries) (seen : Seen) (local : Local) (now : �
   lost-messages c Loss is =
       plan-messages g c seen (lost seen c (session_of seen c) d) plan is
       ∙ ap (λ (puts : List NewPut). puts ++ will_puts seen c (session_of seen c).will) none
-  lost-messages c (Retry a) is = next-messages g seen predefined a now (retried now d c) plan is ∙ none
+  lost-messages c (Retry a) is = next-messages g seen predefined a now (retry_row now d c) plan is ∙ none
   lost-messages c (Delivery a) is = next-messages g seen predefined a now (row_of follows.Delivery c d) plan is ∙ none
 
   due-messages : (found : Option (List ℕ × Due)) → plan_if_due g predefined seen local now d found ≡ Some plan → new_messages plan.ops ≡ puts_due seen found
@@ -150,7 +150,7 @@ module _ (g : ℕ) (predefined : Entries) (seen : Seen) (local : Local) (now : �
 pub tick-messages : (g lifetime advertise : ℕ) (field : List Addr) (predefined : Entries) (seen : Seen) (local : Local) (now : ℕ) (plan : Plan)
     → tick g lifetime advertise field predefined seen local now ≡ Some plan → new_messages plan.ops ≡ puts_by_tick g advertise field seen local now
 tick-messages g lifetime advertise field predefined seen local now plan is =
-    let d : Drafted = lasting (expires_at lifetime now) (cleaned g seen local now) in
+    let d : Drafted = lasting (expires_at lifetime now) (begin_tick g seen local now) in
     either-messages g predefined seen local now plan d (no_puts d (cleaned_made g seen local now)) (may_advertise advertise field now local.advertised)
     (advertised g advertise field now d) (first_due g seen local now seen.all) is
 

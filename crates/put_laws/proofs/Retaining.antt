@@ -52,7 +52,7 @@ use Rattle.sn_tick.specs.declared.due.Due.{Due}
 use Rattle.sn_tick.specs.declared.due.Due.TheVariants.{Expiry, Loss, Retry, Delivery}
 use Rattle.sn_tick.specs.Due.{first_due}
 use Rattle.sn_tick.specs.Expiry.{expire_all}
-use Rattle.sn_tick.specs.Ticking.{cleaned, may_advertise, advertised, lost, retried, plan_due, plan_if_due, tick}
+use Rattle.sn_tick.specs.Ticking.{begin_tick, may_advertise, advertised, lost, retry_row, plan_due, plan_if_due, tick}
 use Rattle.row_laws.proofs.Drafting.{connect-made, disconnect-made, will_topic-made, will_msg-made, will_topic_update-made, will_msg_update-made, register-made, subscribe-retain, unsubscribe-made, other-made}
 use Rattle.row_laws.proofs.Retaining.{plan-wins, plan-others}
 use Rattle.row_laws.proofs.Waiting.{plan-handed, plan-retained}
@@ -250,7 +250,7 @@ module _ (g : ℕ) (predefined : Entries) (seen : Seen) (local : Local) (now : �
       (plan-retained g c seen e plan is ∙ ap option_to_list (no_retain e none), plan-handed g c seen e plan is ∙ ap (map (handed_to c)) (no_handed e none))
   lost-tells c Loss is =
       (plan-retained g c seen (lost seen c (session_of seen c) d) plan is, plan-handed g c seen (lost seen c (session_of seen c) d) plan is ∙ ap (map (handed_to c)) (no_handed d same))
-  lost-tells c (Retry a) is = next-tells a (retried now d c) same is
+  lost-tells c (Retry a) is = next-tells a (retry_row now d c) same is
   lost-tells c (Delivery a) is = next-tells a (row_of follows.Delivery c d) same is
 
   without-tells : (e : Drafted) → Some (plan_without e) ≡ Some plan → Tells None
@@ -268,7 +268,7 @@ module _ (g : ℕ) (predefined : Entries) (seen : Seen) (local : Local) (now : �
 module _ (g lifetime advertise : ℕ) (field : List Addr) (predefined : Entries) (seen : Seen) (local : Local) (now : ℕ) (plan : Plan) (is : tick g lifetime advertise field predefined seen local now ≡ Some plan) where
   tick-tells : (retained_in plan.ops ≡ option_to_list (kept_by_tick g advertise field seen local now)) × (handed_in plan.ops ≡ [])
   tick-tells =
-      let d : Drafted = lasting (expires_at lifetime now) (cleaned g seen local now) in
+      let d : Drafted = lasting (expires_at lifetime now) (begin_tick g seen local now) in
       either-tells g predefined seen local now plan d (cleaned_made g seen local now) (may_advertise advertise field now local.advertised)
       (advertised g advertise field now d) (first_due g seen local now seen.all) is
 

@@ -13,7 +13,7 @@ use Rattle.rep_model.proofs.Readers.{put_at_both, is_acknowledged_both}
 use Rattle.rep_model.proofs.Thin.{pending_at-reads}
 use Rattle.sn_local.specs.Seen.{seen_of}
 use Rattle.sn_plan.specs.declared.plan.Plan.{Plan}
-use Rattle.sn_plan.specs.Flush.{AreFlush}
+use Rattle.sn_plan.specs.Flush.{HaveNoGap}
 use Rattle.sn_plan.specs.Own.{IsFresh, AreFresh}
 use Rattle.sn_plan.proofs.Lists.{all-both}
 use Rattle.sn_plan.proofs.Standing.{fresh-stand}
@@ -92,7 +92,7 @@ module _ (g : ℕ) (S : List Op) (plan : Plan) (is : IsOfGateway g S plan) where
   waits (Ack c origin first last) stands new = tt
   waits (OfRetain topic kept) stands new = tt
 
-  pub gateway-kept : AreFlush g S → AllByRecursion (IsWaiting (S ++ plan.ops)) plan.ops
+  pub gateway-kept : HaveNoGap g S → AllByRecursion (IsWaiting (S ++ plan.ops)) plan.ops
   gateway-kept flush =
       let h = of-draft g S plan is in
       let fresh : AreFresh S plan.ops = plan-fresh g h.client S h.draft plan h.is (flush h.client) h.apart in

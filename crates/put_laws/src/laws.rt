@@ -25,7 +25,7 @@ ghost use Rattle.sn_plan.specs.declared.draft.NewPut.{NewPut};
 ghost use Rattle.sn_plan.specs.declared.draft.Posted.{Posted};
 ghost use Rattle.sn_plan.specs.declared.limits.TheConstants.{MAX_PENDING};
 ghost use Rattle.sn_plan.specs.declared.plan.Plan.{Plan};
-ghost use Rattle.sn_plan.specs.Flush.{AreFlush};
+ghost use Rattle.sn_plan.specs.Flush.{HaveNoGap};
 ghost use Rattle.sn_plan.specs.Numbering.{kept_as};
 ghost use Rattle.sn_plan.specs.Own.{HasMoment, IsOneEach, new_messages, handed_in, retained_in};
 ghost use Rattle.sn_publish.specs.Recipients.{is_another, puts_for, puts_of_will};
@@ -79,7 +79,7 @@ pub fn accepted_is_put()
         ↔ IsAmong seen (filter (is_another c) seen.all) will.topic will.qos will.message p }
     ensures once { (g : ℕ) (S : List Op) (plan : Plan) → IsOfGateway g S plan
         → IsOneEach (new_messages plan.ops) }
-    ensures kept { (g : ℕ) (S : List Op) (plan : Plan) → IsOfGateway g S plan → AreFlush g S
+    ensures kept { (g : ℕ) (S : List Op) (plan : Plan) → IsOfGateway g S plan → HaveNoGap g S
         → AllByRecursion (IsWaiting (S ++ plan.ops)) plan.ops }
 {}
 

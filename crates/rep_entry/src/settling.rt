@@ -78,7 +78,7 @@ fn drop_covered(all: &mut Vec<Put>, span: Span, acks: &Acks)
 }
 
 /// Whether the new messages come after all that wait.
-fn come_behind(waiting: &[Put], news: &[Put]) -> bool
+fn all_come_after(waiting: &[Put], news: &[Put]) -> bool
     requires { Rising waiting.now }
     ensures { IsTrue result → weave waiting.now news.now ≡ waiting.now ++ news.now }
 {
@@ -100,7 +100,7 @@ fn are_behind(last: &Put, news: &[Put]) -> bool
 
 /// The messages that wait, and new ones. Where none is new nothing is moved, and where all come
 /// after those that wait, these stay where they are as long as there is room.
-fn joined(room: Vec<Put>, mut waiting: Vec<Put>, news: Vec<Put>) -> Vec<Put>
+fn with_new_messages(room: Vec<Put>, mut waiting: Vec<Put>, news: Vec<Put>) -> Vec<Put>
     requires empty { room.items ≡ [] }
     requires room { (length news.items == 0) ≡ false
         → length waiting.items + length news.items ≤ vec_capacity room }
@@ -110,7 +110,7 @@ fn joined(room: Vec<Put>, mut waiting: Vec<Put>, news: Vec<Put>) -> Vec<Put>
     if news.as_slice().is_empty() {
         return waiting;
     }
-    if come_behind(waiting.as_slice(), news.as_slice()) {
+    if all_come_after(waiting.as_slice(), news.as_slice()) {
         put_behind(&mut waiting, news, room);
         return waiting;
     }
@@ -167,13 +167,19 @@ pub(crate) fn wait_on(
     let soonest = waiting.soonest_with(news.as_slice());
     let count = waiting.len().saturating_add(news.len());
     let waiting = waiting.into_items();
-    let left = settled(room, waiting, news, span, acks);
+    let left = without_acknowledged(room, waiting, news, span, acks);
     puts_of(left, count, soonest)
 }
 
 /// The messages that wait, and new ones, without those that are acknowledged, which lie in the
 /// span.
-fn settled(room: Vec<Put>, waiting: Vec<Put>, news: Vec<Put>, span: Span, acks: &Acks) -> Vec<Put>
+fn without_acknowledged(
+    room: Vec<Put>,
+    waiting: Vec<Put>,
+    news: Vec<Put>,
+    span: Span,
+    acks: &Acks,
+) -> Vec<Put>
     requires empty { room.items ≡ [] }
     requires room { (length news.items == 0) ≡ false
         → length waiting.items + length news.items ≤ vec_capacity room }
@@ -183,7 +189,7 @@ fn settled(room: Vec<Put>, waiting: Vec<Put>, news: Vec<Put>, span: Span, acks: 
     ensures { result.items ≡ filter (mail.is_uncovered (ranges_in acks.now))
         (weave waiting.items news.items) }
 {
-    let mut all = joined(room, waiting, news);
+    let mut all = with_new_messages(room, waiting, news);
     drop_covered(&mut all, span, acks);
     all
 }

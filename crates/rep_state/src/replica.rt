@@ -4,11 +4,11 @@ ghost use Rattle.std.specs.Prelude.{◌≡◌};
 
 use super::agreeing::check;
 use super::asides::{count_all, put_all_back, save_all};
-use super::grouping::{grown, worked_out};
+use super::grouping::{changes_by_client, staged_changes};
 use super::held::{kept_ops, named_at, named_clients, next_asking};
 use super::numbers::{last_epoch, last_seq};
 use super::places::Place;
-use super::room::{make_room, move_in};
+use super::room::{install_changes, make_room};
 use super::table::{Table, count_new, entry_of, passed};
 use indexmap::IndexMap;
 use octets::NoMemory;
@@ -100,8 +100,8 @@ impl ClientSet for FoldedClients {
 
     fn prepare(&mut self, alloc: Global, ops: &[Op]) -> Result<Staged, TakeFault> {
         check(alloc, &self.table, ops)?;
-        let groups = grown(alloc, &self.table, ops)?;
-        let changes = worked_out(alloc, &self.table, groups)?;
+        let groups = changes_by_client(alloc, &self.table, ops)?;
+        let changes = staged_changes(alloc, &self.table, groups)?;
         let named = self.named + count_new(&self.table, changes.as_slice());
         if let Some(limit) = passed(named, changes.as_slice()) {
             return Err(TakeFault::Full { limit });
@@ -112,7 +112,7 @@ impl ClientSet for FoldedClients {
 
     fn commit(&mut self, staged: Staged) {
         let Staged { changes, named } = staged;
-        move_in(&mut self.table, &mut self.places, changes);
+        install_changes(&mut self.table, &mut self.places, changes);
         self.named = named;
     }
 

@@ -88,7 +88,7 @@ pub(crate) fn named(alloc: Global, client: &[u8]) -> Result<ClientId, NoMemory>
 }
 
 /// Moves the changes into their places, and notes what their clients may ask for.
-pub(crate) fn move_in(
+pub(crate) fn install_changes(
     table: &mut Table,
     places: &mut Vec<Place>,
     mut changes: Vec<(Vec<u8>, Change)>,

@@ -25,7 +25,7 @@ use Rattle.sn_local.specs.Bindings.{client_at}
 use Rattle.sn_local.specs.WillDialogs.{dialog_at}
 use Rattle.sn_local.specs.Locals.{Local}
 use Rattle.sn_plan.specs.Bound.{session_of}
-use Rattle.sn_plan.specs.Rows.{row_of, heard_row, plan_for, plan_of_row, stray}
+use Rattle.sn_plan.specs.Rows.{row_of, row_with_timer, plan_for, plan_of_row, unexpected_row}
 use Rattle.sn_flow.specs.Accept.{accept, has_no_room}
 use Rattle.sn_flow.specs.Connection.{has_bit, request_of, refusal_of, ask_topic, connect_row, connect, leave, fall_asleep, disconnect_draft, disconnect_of, disconnect}
 use Rattle.sn_flow.specs.Wills.{congestion, not_supported, will_of, dismissed, concluded, topic_given, topic_row, message_row, will_topic_in, topic_at, will_topic, message_in, message_at, will_msg, topic_update_of, will_topic_update as update_topic, message_update_of, will_msg_update as update_message}
@@ -67,11 +67,11 @@ no-message row h = (no_puts row.draft h, no_handed row.draft h, no_retain row.dr
 hands-nothing : (d : Drafted) → HandsNothing d → SameMade d nothing
 hands-nothing d h = λ i. (h.leaves.puts i, h.handed i, h.leaves.retain i)
 
-heard-made : (bound : Option (List ℕ)) (now : ℕ) (row : Row) → MakesNothing row → MakesNothing (heard_row bound now row)
+heard-made : (bound : Option (List ℕ)) (now : ℕ) (row : Row) → MakesNothing row → MakesNothing (row_with_timer bound now row)
 heard-made None now row h = h
 heard-made (Some c) now row h = h
 
-pub stray-made : (a : Addr) (bound : Option (List ℕ)) (now : ℕ) → MakesNothing (stray a bound now)
+pub stray-made : (a : Addr) (bound : Option (List ℕ)) (now : ℕ) → MakesNothing (unexpected_row a bound now)
 stray-made a None now = refl
 stray-made a (Some c) now = refl
 

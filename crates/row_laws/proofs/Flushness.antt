@@ -16,7 +16,7 @@ use Rattle.sn_plan.specs.declared.plan.Plan.{Plan}
 use Rattle.sn_plan.specs.Drafts.{Drafted}
 use Rattle.sn_local.specs.Seen.{seen_of}
 use Rattle.sn_plan.specs.Plans.{plan_of}
-use Rattle.sn_plan.specs.Own.{AddsNone}
+use Rattle.sn_plan.specs.Own.{AddsNothingOwn}
 use Rattle.sn_plan.specs.Flush.{stamp_of, IsFlush}
 use Rattle.sn_local.proofs.Entries.{visible-same, same_client-itself, visible-by, visible-there, history-by}
 use Rattle.row_laws.proofs.Reached.{At, history-own}
@@ -61,7 +61,7 @@ known (Some x) b f = refl
 known None None f = refl
 known None (Some y) f = sym (f y refl)
 
-module _ (g : ℕ) (c : List ℕ) (S D : List Op) (none : AddsNone g c S D) where
+module _ (g : ℕ) (c : List ℕ) (S D : List Op) (none : AddsNothingOwn g c S D) where
   -- at the gateway's own stamps nothing is new
   own-same : (epoch k : ℕ) → operation_at c (S ++ D) (stamp_of epoch g, k) ≡ operation_at c S (stamp_of epoch g, k)
   own-same epoch k = operation_at_both c S D (stamp_of epoch g, k) ∙ known (operation_at c S (stamp_of epoch g, k)) (operation_at c D (stamp_of epoch g, k)) (none epoch k)

@@ -30,8 +30,8 @@ ghost use Rattle.sn_plan.specs.Others.{other};
 ghost use Rattle.sn_plan.specs.Numbering.{Written, start_of, changes_written, handed_to, kept_as};
 ghost use Rattle.sn_local.specs.Seen.{Seen, seen_of};
 ghost use Rattle.sn_plan.specs.Plans.{plan_of};
-ghost use Rattle.sn_plan.specs.Own.{IsOwnWrite, HasNoneOf, AddsNone, AreFresh, IsApart, HasMoment, WaitsOrIsAcked, new_messages, handed_in, retained_in, IsOfDraft, PublishesNothing, MakesNoMessage};
-ghost use Rattle.sn_plan.specs.Flush.{IsFlush, AreFlush, Shows, session_with};
+ghost use Rattle.sn_plan.specs.Own.{IsOwnWrite, HasNoneOf, AddsNothingOwn, AreFresh, IsApart, HasMoment, WaitsOrIsAcked, new_messages, handed_in, retained_in, IsOfDraft, PublishesNothing, MakesNoMessage};
+ghost use Rattle.sn_plan.specs.Flush.{IsFlush, HaveNoGap, Shows, session_with};
 
 /// A gateway writes under names of its own: the session operations of a plan are of the client that
 /// the plan is for and under stamps with the gateway's number, the messages have the gateway as
@@ -132,7 +132,7 @@ pub fn stays_flush()
         → plan_of g c (seen_of S) d ≡ Some plan → (e : List ℕ) → IsFlush g e S
         → IsFlush g e (S ++ plan.ops) }
     ensures taken { (g : ℕ) (c : List ℕ) (S D : List Op) → IsFlush g c S
-        → AddsNone g c S D → IsFlush g c (S ++ D) }
+        → AddsNothingOwn g c S D → IsFlush g c (S ++ D) }
     ensures equal { (g : ℕ) (c : List ℕ) (A B : List Op) → Same A B → IsFlush g c A
         → IsFlush g c B }
 {}
@@ -144,12 +144,12 @@ pub fn stays_flush()
 pub fn adds_none()
     ensures own { (g : ℕ) (c : List ℕ) (S : List Op) (d : Drafted) (plan : Plan) → IsFlush g c S
         → plan_of g c (seen_of S) d ≡ Some plan → (delta : List Op) → Same delta plan.ops
-        → (e : List ℕ) → AddsNone g e (S ++ delta) delta }
+        → (e : List ℕ) → AddsNothingOwn g e (S ++ delta) delta }
     ensures others { (g : ℕ) (c : List ℕ) (seen : Seen) (d : Drafted) (plan : Plan)
         → plan_of g c seen d ≡ Some plan → (delta : List Op) → Same delta plan.ops → (other : ℕ)
-        → ¬ (other ≡ g) → (e : List ℕ) (S : List Op) → AddsNone other e S delta }
-    ensures stays { (g : ℕ) (c : List ℕ) (S D more : List Op) → AddsNone g c S D
-        → AddsNone g c (S ++ more) D }
+        → ¬ (other ≡ g) → (e : List ℕ) (S : List Op) → AddsNothingOwn other e S delta }
+    ensures stays { (g : ℕ) (c : List ℕ) (S D more : List Op) → AddsNothingOwn g c S D
+        → AddsNothingOwn g c (S ++ more) D }
     ensures together { (S ops delta : List Op) → Same delta ops → Same (S ++ delta) (S ++ ops) }
 {}
 
@@ -188,11 +188,12 @@ pub fn rows_make_no_message()
 pub fn every_row()
     ensures drafted { (g : ℕ) (seen : Seen) (row : Row) (plan : Plan) → IsApart row.draft
         → plan_of_row g seen row ≡ Some plan → IsOfDraft g seen plan }
-    ensures fits { (g : ℕ) (S : List Op) (plan : Plan) → AreFlush g S → IsOfDraft g (seen_of S) plan
+    ensures fits { (g : ℕ) (S : List Op) (plan : Plan) → HaveNoGap g S
+        → IsOfDraft g (seen_of S) plan
         → (delta : List Op) → Same delta plan.ops → AllAgree S delta × AllAgree (keep S) delta }
-    ensures flush { (g : ℕ) (S : List Op) (plan : Plan) → AreFlush g S
+    ensures flush { (g : ℕ) (S : List Op) (plan : Plan) → HaveNoGap g S
         → IsOfDraft g (seen_of S) plan → (delta : List Op) → Same delta plan.ops
-        → AreFlush g (S ++ delta) }
+        → HaveNoGap g (S ++ delta) }
     ensures leaves { (g : ℕ) (S : List Op) (plan : Plan) → IsOfDraft g (seen_of S) plan
         → (delta : List Op) → Same delta plan.ops → (c : List ℕ) (name : ℕ × ℕ) (put : Put)
         → pending_at c S name ≡ Some put → (pending_at c (S ++ delta) name ≡ Some put)

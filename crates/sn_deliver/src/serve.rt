@@ -15,7 +15,7 @@ use rep_ops::ClientId;
 use sn_exchange::{Peer, peer_at};
 use sn_frame::{Flags, Frame, Qos};
 use sn_local::{Addr, Config, Dialogs};
-use sn_plan::{Draft, Follow, Row, heard_row, session_or, turn_away, unseen, view_or};
+use sn_plan::{Draft, Follow, Row, row_with_timer, session_or, turn_away, unseen, view_or};
 use sn_publish::{publish, publish_unconnected, pubrel};
 use sn_session::Session;
 use std::alloc::Global;
@@ -25,7 +25,7 @@ fn served(alloc: Global, client: &ClientId, now: u64, draft: Draft) -> Result<Ro
     ensures { IfOk result (λ row. row ≡ spec.served client.now now draft) }
 {
     let row = Row::new(alloc, Follow::Delivery, client, draft)?;
-    heard_row(alloc, Some(client), now, row)
+    row_with_timer(alloc, Some(client), now, row)
 }
 
 /// What a PUBLISH of a client does, by its session.

@@ -22,7 +22,7 @@ use rep_ops::{ClientId, OpsFault, Put};
 use sn_exchange::open_exchange;
 use sn_frame::Frame;
 use sn_local::{Addr, Config, Dialogs, is_stamp_of};
-use sn_plan::{Draft, Follow, Row, bind_to, heard_row, turn_away, unseen, view_or};
+use sn_plan::{Draft, Follow, Row, bind_to, row_with_timer, turn_away, unseen, view_or};
 use sn_session::{Presence, Session, SessionOp};
 use std::alloc::Global;
 
@@ -232,7 +232,7 @@ fn wake_bound<R: Replica>(
         None => turn_away(alloc, from),
         Some(client) => {
             let row = woken(alloc, gateway, replica, from, client, now)?;
-            heard_row(alloc, Some(client), now, row)
+            row_with_timer(alloc, Some(client), now, row)
         }
     }
 }
@@ -248,12 +248,12 @@ fn wake_client<R: Replica>(
     now: u64,
 ) -> Result<Row, NoMemory>
     requires { IsClientId client.now }
-    ensures { IfOk result (λ row. row ≡ rows.heard_row (option_copied bound.entry) now
+    ensures { IfOk result (λ row. row ≡ rows.row_with_timer (option_copied bound.entry) now
         (spec.woken gateway (seen_of (R.kept replica.now)) from client.now now)) }
 {
     let client = client_id(alloc, client)?;
     let row = woken(alloc, gateway, replica, from, &client, now)?;
-    heard_row(alloc, bound, now, row)
+    row_with_timer(alloc, bound, now, row)
 }
 
 /// The client of this name. It has the size that a name has, so nothing but memory can be wanting.

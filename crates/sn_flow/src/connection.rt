@@ -19,7 +19,7 @@ use rep_model::{ClientView, Replica};
 use sn_frame::{Flags, Frame};
 use sn_local::{Addr, Awaited, Dialogs, LocalChange, Request, WillDialog};
 use sn_plan::{
-    CONGESTION, Draft, Follow, NOT_SUPPORTED, Row, heard_row, session_or, turn_away, unseen,
+    CONGESTION, Draft, Follow, NOT_SUPPORTED, Row, row_with_timer, session_or, turn_away, unseen,
     view_or,
 };
 use sn_session::{Presence, Session, SessionOp};
@@ -124,14 +124,14 @@ fn asked(alloc: Global, request: Request, now: u64) -> Result<Row, NoMemory>
 }
 
 /// A CONNECT that is not refused.
-fn welcomed(
+fn accepted_connect(
     alloc: Global,
     request: Request,
     will: bool,
     view: &ClientView,
     now: u64,
 ) -> Result<Row, NoMemory>
-    ensures { IfOk result (λ row. row ≡ spec.welcomed request will view.now now) }
+    ensures { IfOk result (λ row. row ≡ spec.accepted_connect request will view.now now) }
 {
     if will {
         return asked(alloc, request, now);
@@ -156,7 +156,7 @@ fn connect_row(
             let draft = Draft::reply(alloc, request.address, Frame::ConnAck { code })?;
             Row::new(alloc, Follow::Nothing, &request.client, draft)
         }
-        None => welcomed(alloc, request, will, view, now),
+        None => accepted_connect(alloc, request, will, view, now),
     }
 }
 
@@ -179,7 +179,7 @@ pub fn connect<R: Replica>(
     let refusal = refusal_of(alloc, replica, dialogs, from, client, flags, protocol)?;
     let request = request_of(alloc, from, flags, duration, client)?;
     let row = connect_seen(alloc, replica, request, has_will(flags), now, refusal)?;
-    heard_row(alloc, dialogs.client_at(from), now, row)
+    row_with_timer(alloc, dialogs.client_at(from), now, row)
 }
 
 /// What a CONNECT does for the client as it is seen.
@@ -286,7 +286,7 @@ fn disconnect_bound<R: Replica>(
     let draft = disconnect_draft(alloc, from, client, session, duration);
     drop(empty);
     let row = Row::new(alloc, Follow::Nothing, client, draft?)?;
-    heard_row(alloc, Some(client), now, row)
+    row_with_timer(alloc, Some(client), now, row)
 }
 
 /// DISCONNECT: the client falls asleep, or leaves. From an address without binding it is answered

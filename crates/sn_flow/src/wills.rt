@@ -22,8 +22,8 @@ use rep_model::rep_ops::ClientId;
 use sn_frame::{Frame, Will};
 use sn_local::{Addr, Awaited, Dialogs, LocalChange, Request, WillDialog};
 use sn_plan::{
-    CONGESTION, Draft, Follow, NOT_SUPPORTED, Row, heard_row, session_or, stray, turn_away, unseen,
-    view_or,
+    CONGESTION, Draft, Follow, NOT_SUPPORTED, Row, row_with_timer, session_or, turn_away,
+    unexpected_row, unseen, view_or,
 };
 use sn_session::{Message, Session, Will as SessionWill, WillTopic};
 use std::alloc::Global;
@@ -149,9 +149,9 @@ fn will_topic_in<R: Replica>(
     match &dialog.awaited {
         Awaited::Topic => {
             let row = topic_row(alloc, replica, dialog, will, now)?;
-            heard_row(alloc, bound, now, row)
+            row_with_timer(alloc, bound, now, row)
         }
-        Awaited::Message(_) => stray(alloc, from, bound, now),
+        Awaited::Message(_) => unexpected_row(alloc, from, bound, now),
     }
 }
 
@@ -170,7 +170,7 @@ pub fn will_topic<R: Replica>(
 {
     let bound = dialogs.client_at(from);
     match dialogs.dialog_at(from) {
-        None => stray(alloc, from, bound, now),
+        None => unexpected_row(alloc, from, bound, now),
         Some(dialog) => will_topic_in(alloc, replica, from, bound, dialog, will, now),
     }
 }
@@ -221,11 +221,11 @@ fn message_in<R: Replica>(
         (option_copied bound.entry) dialog.now.request message.now now dialog.now.awaited) }
 {
     match &dialog.awaited {
-        Awaited::Topic => stray(alloc, from, bound, now),
+        Awaited::Topic => unexpected_row(alloc, from, bound, now),
         Awaited::Message(topic) => {
             let request = &dialog.request;
             let row = message_row(alloc, replica, request, topic, message, now)?;
-            heard_row(alloc, bound, now, row)
+            row_with_timer(alloc, bound, now, row)
         }
     }
 }
@@ -245,7 +245,7 @@ pub fn will_msg<R: Replica>(
 {
     let bound = dialogs.client_at(from);
     match dialogs.dialog_at(from) {
-        None => stray(alloc, from, bound, now),
+        None => unexpected_row(alloc, from, bound, now),
         Some(dialog) => message_in(alloc, replica, from, bound, dialog, message, now),
     }
 }
@@ -262,7 +262,7 @@ fn update_topic(
 {
     let draft = draft_topic(alloc, from, will)?;
     let row = Row::new(alloc, Follow::Delivery, client, draft)?;
-    heard_row(alloc, Some(client), now, row)
+    row_with_timer(alloc, Some(client), now, row)
 }
 
 /// WILLTOPICUPD: the topic of a bound client's will is another one, or the will is deleted.
@@ -299,7 +299,7 @@ fn update_message<R: Replica>(
     let draft = draft_message(alloc, from, session, message);
     drop(empty);
     let row = Row::new(alloc, Follow::Delivery, client, draft?)?;
-    heard_row(alloc, Some(client), now, row)
+    row_with_timer(alloc, Some(client), now, row)
 }
 
 /// WILLMSGUPD: the message of a bound client's will is another one.

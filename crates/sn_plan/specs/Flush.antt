@@ -24,8 +24,8 @@ pub record IsFlush (g : ℕ) (c : List ℕ) (S : List Op) : Type 0 where
 
 -- the set is flush for gateway g: each client that g owns has a session, and no operation after
 -- a gap
-abbrev pub AreFlush : ℕ → List Op → Type 0
-AreFlush g S = (c : List ℕ) → IsFlush g c S
+abbrev pub HaveNoGap : ℕ → List Op → Type 0
+HaveNoGap g S = (c : List ℕ) → IsFlush g c S
 
 -- the session as seen, or the empty one, with these changes applied one after the other; without
 -- changes it is as it was

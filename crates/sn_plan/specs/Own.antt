@@ -30,8 +30,8 @@ abbrev pub HasNoneOf : ℕ → List ℕ → List Op → Type 0
 HasNoneOf g c D = (epoch counter : ℕ) → operation_at c D (stamp_of epoch g, counter) ≡ None
 
 -- of the client's session operations under stamps of the gateway, D has none that S has not
-abbrev pub AddsNone : ℕ → List ℕ → List Op → List Op → Type 0
-AddsNone g c S D =
+abbrev pub AddsNothingOwn : ℕ → List ℕ → List Op → List Op → Type 0
+AddsNothingOwn g c S D =
     (epoch counter : ℕ) (change : SessionOp)
     → operation_at c D (stamp_of epoch g, counter) ≡ Some change
     → operation_at c S (stamp_of epoch g, counter) ≡ Some change

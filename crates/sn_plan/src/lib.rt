@@ -31,4 +31,6 @@ pub use limits::{MAX_PENDING, MAX_TOPICS};
 pub use numbering::apply;
 pub use others::{can_wake, is_up, other};
 pub use plan::{Plan, plan_of, plan_of_puts, plan_without};
-pub use row::{Follow, Row, heard_row, lasting_row, plan_of_row, quiet, stray, turn_away};
+pub use row::{
+    Follow, Row, empty_row, lasting_row, plan_of_row, row_with_timer, turn_away, unexpected_row,
+};

@@ -87,13 +87,14 @@ pub fn lasting_row(mut row: Row, expires: u64) -> Row
 }
 
 /// The row of a frame from an address that may be bound: its client was heard of.
-pub fn heard_row(
+pub fn row_with_timer(
     alloc: Global,
     bound: Option<&ClientId>,
     now: u64,
     mut row: Row,
 ) -> Result<Row, NoMemory>
-    ensures { IfOk result (λ heard. heard ≡ spec.heard_row (option_copied bound.entry) now row) }
+    ensures { IfOk result
+        (λ heard. heard ≡ spec.row_with_timer (option_copied bound.entry) now row) }
 {
     match hear_of(alloc, &mut row.draft, bound, now) {
         Ok(()) => Ok(row),
@@ -125,8 +126,8 @@ pub fn plan_of_row<R: Replica>(
 }
 
 /// Nothing is done.
-pub fn quiet(alloc: Global) -> Row
-    ensures { result ≡ spec.quiet }
+pub fn empty_row(alloc: Global) -> Row
+    ensures { result ≡ spec.empty_row }
 {
     Row::of_none(Draft::new(alloc))
 }
@@ -140,8 +141,13 @@ pub fn turn_away(alloc: Global, to: Addr) -> Result<Row, NoMemory>
 }
 
 /// A frame that nothing waits for: a bound client was heard of, another address is turned away.
-pub fn stray(alloc: Global, from: Addr, bound: Option<&ClientId>, now: u64) -> Result<Row, NoMemory>
-    ensures { IfOk result (λ row. row ≡ spec.stray from (option_copied bound.entry) now) }
+pub fn unexpected_row(
+    alloc: Global,
+    from: Addr,
+    bound: Option<&ClientId>,
+    now: u64,
+) -> Result<Row, NoMemory>
+    ensures { IfOk result (λ row. row ≡ spec.unexpected_row from (option_copied bound.entry) now) }
 {
     match bound {
         None => turn_away(alloc, from),

@@ -66,18 +66,18 @@ posted seen asked name qos body =
     (put_all (puts_for seen name qos body) nothing)
 
 -- at most once: the recipients get it, and there is no answer
-abbrev pub spread : Seen → Bool → List ℕ → List ℕ → Drafted
-spread seen asked name body = posted seen asked name 0 body
+abbrev pub publish_at_0 : Seen → Bool → List ℕ → List ℕ → Drafted
+publish_at_0 seen asked name body = posted seen asked name 0 body
 
 -- at least once: the recipients get it, and PUBACK says so
-abbrev pub spread_once : Seen → Bool → Addr → ℕ → ℕ → List ℕ → List ℕ → Drafted
-spread_once seen asked a topic msg_id body name =
+abbrev pub publish_at_1 : Seen → Bool → Addr → ℕ → ℕ → List ℕ → List ℕ → Drafted
+publish_at_1 seen asked a topic msg_id body name =
     sent a (frames.PubAck topic msg_id 0) (posted seen asked name 1 body)
 
 -- Exactly once. If the message id was received and is not released yet, the recipients have the
 -- message, and PUBREC says so. Code 1, congestion, if there are 256 message ids.
-abbrev pub spread_twice : Seen → Bool → Addr → Session → ℕ → ℕ → List ℕ → List ℕ → Drafted
-spread_twice seen asked a s topic msg_id body name =
+abbrev pub publish_at_2 : Seen → Bool → Addr → Session → ℕ → ℕ → List ℕ → List ℕ → Drafted
+publish_at_2 seen asked a s topic msg_id body name =
     if is_received msg_id s.received then sent a (frames.PubRec msg_id) nothing
     else (if id_has_no_room msg_id s.received then sent a (frames.PubAck topic msg_id 1) nothing
     else sent a (frames.PubRec msg_id)
@@ -85,12 +85,12 @@ spread_twice seen asked a s topic msg_id body name =
 
 -- a PUBLISH of this topic by its quality of service; -1 counts as 0
 abbrev pub publish_at : Seen → Bool → Addr → Session → ℕ → ℕ → List ℕ → List ℕ → Qos → Drafted
-publish_at seen asked a s topic msg_id body name levels.Zero = spread seen asked name body
+publish_at seen asked a s topic msg_id body name levels.Zero = publish_at_0 seen asked name body
 publish_at seen asked a s topic msg_id body name levels.One =
-    spread_once seen asked a topic msg_id body name
+    publish_at_1 seen asked a topic msg_id body name
 publish_at seen asked a s topic msg_id body name levels.Two =
-    spread_twice seen asked a s topic msg_id body name
-publish_at seen asked a s topic msg_id body name levels.MinusOne = spread seen asked name body
+    publish_at_2 seen asked a s topic msg_id body name
+publish_at seen asked a s topic msg_id body name levels.MinusOne = publish_at_0 seen asked name body
 
 -- a refusal is a PUBACK with the code, at every quality of service
 abbrev pub publish_meant : Seen → Bool → Addr → Session → ℕ → ℕ → List ℕ → Qos → Meant → Drafted
@@ -108,7 +108,7 @@ publish predefined seen a s bits topic msg_id body =
 -- the recipients get it, at most once; nothing is done if the PUBLISH is refused
 abbrev pub spread_meant : Seen → Bool → List ℕ → Meant → Drafted
 spread_meant seen asked body (Refused code) = nothing
-spread_meant seen asked body (Topic name) = spread seen asked name body
+spread_meant seen asked body (Topic name) = publish_at_0 seen asked name body
 
 -- PUBLISH without a connection, by a predefined id or a short name: the recipients get it, at most
 -- once, and nothing is answered

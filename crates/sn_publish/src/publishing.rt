@@ -71,14 +71,14 @@ fn posted<R: Replica>(
 }
 
 /// At most once: the recipients get it.
-fn spread<R: Replica>(
+fn publish_at_0<R: Replica>(
     alloc: Global,
     replica: &R,
     asked: bool,
     name: &TopicName,
     body: &Message,
 ) -> Result<Draft, NoMemory>
-    ensures { IfOk result (λ draft. draft ≡ spec.spread (seen_of (R.kept replica.now)) asked
+    ensures { IfOk result (λ draft. draft ≡ spec.publish_at_0 (seen_of (R.kept replica.now)) asked
         name.now body.now) }
 {
     posted(alloc, replica, asked, name, QosLevel::zero(), body)
@@ -109,7 +109,7 @@ fn receive(alloc: Global, to: Addr, msg_id: u16, draft: &mut Draft) -> Result<()
 }
 
 /// At least once: the recipients get it, and PUBACK says so.
-fn spread_once<R: Replica>(
+fn publish_at_1<R: Replica>(
     alloc: Global,
     replica: &R,
     asked: bool,
@@ -119,7 +119,7 @@ fn spread_once<R: Replica>(
     body: &Message,
     name: &TopicName,
 ) -> Result<Draft, NoMemory>
-    ensures { IfOk result (λ draft. draft ≡ spec.spread_once (seen_of (R.kept replica.now)) asked
+    ensures { IfOk result (λ draft. draft ≡ spec.publish_at_1 (seen_of (R.kept replica.now)) asked
         to topic_id msg_id body.now name.now) }
 {
     let mut draft = posted(alloc, replica, asked, name, QosLevel::one(), body)?;
@@ -139,7 +139,7 @@ fn spread_once<R: Replica>(
 
 /// Exactly once: the recipients get it, where they have not got it under this message id, and
 /// PUBREC says so.
-fn spread_twice<R: Replica>(
+fn publish_at_2<R: Replica>(
     alloc: Global,
     replica: &R,
     asked: bool,
@@ -150,7 +150,7 @@ fn spread_twice<R: Replica>(
     body: &Message,
     name: &TopicName,
 ) -> Result<Draft, NoMemory>
-    ensures { IfOk result (λ draft. draft ≡ spec.spread_twice (seen_of (R.kept replica.now)) asked
+    ensures { IfOk result (λ draft. draft ≡ spec.publish_at_2 (seen_of (R.kept replica.now)) asked
         to session.now topic_id msg_id body.now name.now) }
 {
     if session.is_received(msg_id) {
@@ -186,12 +186,12 @@ fn publish_at<R: Replica>(
         to session.now topic_id msg_id body.now name.now qos) }
 {
     match qos {
-        Qos::Zero => spread(alloc, replica, asked, name, body),
-        Qos::One => spread_once(alloc, replica, asked, to, topic_id, msg_id, body, name),
-        Qos::Two => spread_twice(
+        Qos::Zero => publish_at_0(alloc, replica, asked, name, body),
+        Qos::One => publish_at_1(alloc, replica, asked, to, topic_id, msg_id, body, name),
+        Qos::Two => publish_at_2(
             alloc, replica, asked, to, session, topic_id, msg_id, body, name,
         ),
-        Qos::MinusOne => spread(alloc, replica, asked, name, body),
+        Qos::MinusOne => publish_at_0(alloc, replica, asked, name, body),
     }
 }
 
@@ -299,7 +299,7 @@ fn spread_on<R: Replica>(
     match Message::new(body.copied(alloc)?) {
         None => Ok(Draft::new(alloc)),
         Some(body) => {
-            let draft = spread(alloc, replica, asked, name, &body);
+            let draft = publish_at_0(alloc, replica, asked, name, &body);
             drop(body);
             draft
         }

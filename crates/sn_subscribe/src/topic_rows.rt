@@ -13,7 +13,7 @@ use rep_model::Replica;
 use rep_ops::ClientId;
 use sn_frame::Flags;
 use sn_local::{Addr, Config, Dialogs};
-use sn_plan::{Follow, Row, heard_row, session_or, turn_away};
+use sn_plan::{Follow, Row, row_with_timer, session_or, turn_away};
 use sn_session::Session;
 use std::alloc::Global;
 
@@ -35,7 +35,7 @@ fn register_bound<R: Replica>(
     let draft = draft_register(alloc, from, session, msg_id, name);
     drop(empty);
     let row = Row::new(alloc, Follow::Delivery, client, draft?)?;
-    heard_row(alloc, Some(client), now, row)
+    row_with_timer(alloc, Some(client), now, row)
 }
 
 /// REGISTER: a bound client asks for the topic id of a name.
@@ -88,7 +88,7 @@ fn subscribe_bound<R: Replica>(
     );
     drop(empty);
     let row = Row::new(alloc, Follow::Delivery, client, draft?)?;
-    heard_row(alloc, Some(client), now, row)
+    row_with_timer(alloc, Some(client), now, row)
 }
 
 /// SUBSCRIBE: a bound client asks for the topics of a filter.
@@ -142,7 +142,7 @@ fn unsubscribe_bound<R: Replica>(
     );
     drop(empty);
     let row = Row::new(alloc, Follow::Delivery, client, draft?)?;
-    heard_row(alloc, Some(client), now, row)
+    row_with_timer(alloc, Some(client), now, row)
 }
 
 /// UNSUBSCRIBE: a bound client asks for the topics of a filter no more.

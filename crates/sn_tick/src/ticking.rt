@@ -165,14 +165,14 @@ fn clean<R: Replica>(
 }
 
 /// What every tick does first.
-fn cleaned<R: Replica>(
+fn begin_tick<R: Replica>(
     alloc: Global,
     gateway: u8,
     replica: &R,
     dialogs: &Dialogs,
     now: u64,
 ) -> Result<Draft, NoMemory>
-    ensures { IfOk result (λ draft. draft ≡ spec.cleaned gateway (seen_of (R.kept replica.now))
+    ensures { IfOk result (λ draft. draft ≡ spec.begin_tick gateway (seen_of (R.kept replica.now))
         dialogs.now.local now) }
 {
     let mut draft = Draft::new(alloc);
@@ -317,7 +317,7 @@ fn publish_will<R: Replica>(
 }
 
 /// And then the client is lost: its will is published, and it has no address any more.
-fn lose<R: Replica>(
+fn give_up_client<R: Replica>(
     alloc: Global,
     replica: &R,
     client: &ClientId,
@@ -391,7 +391,7 @@ fn plan_loss<R: Replica>(
 {
     let empty = Session::empty(alloc);
     let session = session_or(replica, client, &empty);
-    let lost = lose(alloc, replica, client, session, &mut draft);
+    let lost = give_up_client(alloc, replica, client, session, &mut draft);
     drop(empty);
     let draft = finished(draft, lost)?;
     plan_of(alloc, config.gateway, replica, client, draft)
@@ -409,8 +409,8 @@ fn retry(alloc: Global, draft: &mut Draft, now: u64, client: &ClientId) -> Resul
 }
 
 /// One try more: Resend follows.
-fn retried(alloc: Global, now: u64, mut draft: Draft, client: &ClientId) -> Result<Row, NoMemory>
-    ensures { IfOk result (λ row. row ≡ spec.retried now draft client.now) }
+fn retry_row(alloc: Global, now: u64, mut draft: Draft, client: &ClientId) -> Result<Row, NoMemory>
+    ensures { IfOk result (λ row. row ≡ spec.retry_row now draft client.now) }
 {
     let done = retry(alloc, &mut draft, now, client);
     let draft = finished(draft, done)?;
@@ -428,9 +428,9 @@ fn plan_retry<R: Replica>(
     address: Addr,
 ) -> Result<Plan, StepFault>
     ensures { GivesPlan result (following.deliver_next config.now.gateway config.now.predefined
-        (seen_of (R.kept replica.now)) address now (spec.retried now draft client.now)) }
+        (seen_of (R.kept replica.now)) address now (spec.retry_row now draft client.now)) }
 {
-    let row = retried(alloc, now, draft, client)?;
+    let row = retry_row(alloc, now, draft, client)?;
     deliver_next(alloc, config, replica, address, now, row)
 }
 
@@ -519,7 +519,7 @@ fn plan_first<R: Replica>(
 }
 
 /// The plan of one thing.
-fn one_thing<R: Replica>(
+fn plan_one_thing<R: Replica>(
     alloc: Global,
     config: &Config,
     replica: &R,
@@ -528,7 +528,7 @@ fn one_thing<R: Replica>(
     draft: Draft,
 ) -> Result<Plan, StepFault>
     ensures { GivesPlan result
-        (spec.one_thing config.now.gateway config.now.advertise config.now.field
+        (spec.plan_one_thing config.now.gateway config.now.advertise config.now.field
         config.now.predefined (seen_of (R.kept replica.now)) dialogs.now.local now draft) }
 {
     let field = config.field.as_slice();
@@ -554,8 +554,8 @@ pub fn tick<R: Replica>(
         config.now.field config.now.predefined (seen_of (R.kept replica.now)) dialogs.now.local
         now) }
 {
-    let mut draft = cleaned(alloc, config.gateway, replica, dialogs, now)?;
+    let mut draft = begin_tick(alloc, config.gateway, replica, dialogs, now)?;
     let moment = expires_at(config.lifetime, now);
     draft.last_until(moment);
-    one_thing(alloc, config, replica, dialogs, now, draft)
+    plan_one_thing(alloc, config, replica, dialogs, now, draft)
 }

@@ -22,7 +22,7 @@ const AT_ONCE: usize = 4;
 const MOST_LOOKS: usize = 1_024;
 
 /// How many milliseconds pass before it is looked again whether it is time for a glance.
-const A_LOOK: u64 = 200;
+const GLANCE_WAIT_MS: u64 = 200;
 
 /// Looks at the clients while the shift serves. If memory runs out, or the shift ends, the last
 /// glance stays.
@@ -49,7 +49,7 @@ where
                 None => {}
             }
         }
-        stage.wait(rt, Phase::Serving, A_LOOK);
+        stage.wait(rt, Phase::Serving, GLANCE_WAIT_MS);
     }
     unreachable!()
 }

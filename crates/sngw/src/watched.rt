@@ -13,17 +13,17 @@ use std::sync::Wait;
 use std::time::Clock;
 
 /// How many milliseconds the reader rests that has no room for more.
-const A_REST: u64 = 1;
+const FULL_WAIT_MS: u64 = 1;
 
 /// How often the reader rests, and how many seconds its clock goes on meanwhile, before the shift
 /// is closed since nobody takes what it read.
 const MOST_RESTS: u32 = 4_000;
 
 /// The seconds of that.
-const A_LONG_TIME: u64 = 4;
+const MOST_RESTS_SECONDS: u64 = 4;
 
 /// How many milliseconds pass before it is looked again whether the gateway listens.
-const A_LOOK: u64 = 10;
+const LISTEN_WAIT_MS: u64 = 10;
 
 /// A wire that fails when its shift is to close, and closes it when all its calls are claimed. What
 /// comes is a call's, which is claimed for it and given back where it is dropped; what comes when
@@ -186,7 +186,7 @@ impl<'a, T: Wait + Clock, W: Wire, P: Post> Wire for Watched<'a, T, W, P> {
             return Err(WireFault);
         }
         if is_listening {
-            self.stage.wait(self.rt, Phase::Serving, A_LOOK);
+            self.stage.wait(self.rt, Phase::Serving, LISTEN_WAIT_MS);
             return Ok(None);
         }
         match self.wire.recv(buffer) {
@@ -231,9 +231,9 @@ impl<'a, T: Wait + Clock, W: Wire, P: Post> Wire for Watched<'a, T, W, P> {
             self.shared.pool.note_full();
         }
         self.rests = self.rests.saturating_add(1);
-        if self.rests > MOST_RESTS && second > self.rested.saturating_add(A_LONG_TIME) {
+        if self.rests > MOST_RESTS && second > self.rested.saturating_add(MOST_RESTS_SECONDS) {
             self.stage.close(self.rt);
         }
-        self.stage.wait(self.rt, Phase::Serving, A_REST);
+        self.stage.wait(self.rt, Phase::Serving, FULL_WAIT_MS);
     }
 }

@@ -22,12 +22,12 @@ use std::time::Clock;
 
 /// How many milliseconds pass before it is looked again whether somebody calls, while somebody is
 /// served and while nobody is.
-const A_MOMENT: u64 = 5;
+const BUSY_WAIT_MS: u64 = 5;
 
-const A_LOOK: u64 = 50;
+const IDLE_WAIT_MS: u64 = 50;
 
 /// How many milliseconds pass before what is reported is gathered again.
-const A_SECOND: u64 = 1_000;
+const GATHER_INTERVAL_MS: u64 = 1_000;
 
 /// What the thread holds.
 #[derive(Drop)]
@@ -64,7 +64,7 @@ where
                 show(rt, alloc, settings, listener, shared, over, said, watcher);
                 return;
             }
-            None => over.wait(rt, Phase::Serving, A_SECOND),
+            None => over.wait(rt, Phase::Serving, GATHER_INTERVAL_MS),
         }
     }
     unreachable!()
@@ -143,7 +143,11 @@ where
             watcher.piece.as_mut_slice(),
             &watcher.report,
         );
-        let pause = if is_serving { A_MOMENT } else { A_LOOK };
+        let pause = if is_serving {
+            BUSY_WAIT_MS
+        } else {
+            IDLE_WAIT_MS
+        };
         over.wait(rt, Phase::Serving, pause);
     }
     unreachable!()
@@ -163,7 +167,7 @@ where
 {
     let now = millisecond(rt);
     look_at_rounds(shared, &mut watcher.gathered, now);
-    if now.saturating_sub(watcher.looked) < A_SECOND {
+    if now.saturating_sub(watcher.looked) < GATHER_INTERVAL_MS {
         return;
     }
     watcher.looked = now;

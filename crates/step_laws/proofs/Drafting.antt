@@ -45,7 +45,7 @@ use Rattle.sn_plan.specs.Plans.{plan_without}
 use Rattle.sn_local.specs.Bindings.{client_at, is_stamp_of, address_of}
 use Rattle.sn_local.specs.Locals.{Local}
 use Rattle.sn_plan.specs.Bound.{bound_to, session_of}
-use Rattle.sn_plan.specs.Rows.{row_of, row_of_none, row_lasting, heard_row}
+use Rattle.sn_plan.specs.Rows.{row_of, row_of_none, row_lasting, row_with_timer}
 use Rattle.sn_plan.specs.Asking.{retain_asked}
 use Rattle.sn_plan.specs.Own.{IsOneEach, IsApart, IsOfDraft}
 use Rattle.sn_plan.proofs.Made.{Made, made, SameMade, no_puts, no_handed}
@@ -60,7 +60,7 @@ use Rattle.sn_publish.specs.declared.meaning.Meant.TheVariants.{Topic, Refused}
 use Rattle.sn_exchange.specs.Forms.{form_of, form_again}
 use Rattle.sn_exchange.specs.Exchanges.{left, put_left, message_of, open_exchange, is_served, is_awake}
 use Rattle.sn_publish.specs.Recipients.{puts_among, puts_for, is_another, qos_for}
-use Rattle.sn_publish.specs.Publishing.{publication_meant, spread_twice, publish_at, publish_meant, spread_meant, release}
+use Rattle.sn_publish.specs.Publishing.{publication_meant, publish_at_2, publish_at, publish_meant, spread_meant, release}
 use Rattle.sn_exchange.specs.Delivery.{Stop, id_to_tell, register_first, deliver_by, none_left, and_then, deliver, deliver_left, deliver_if}
 use Rattle.sn_exchange.specs.Resending.{register_by, register_again, publish_by, publish_again, resend_in, resend_if}
 use Rattle.sn_deliver.specs.Acknowledging.{entry_published, forgotten, puback_of, put_awaiting, awaiting, awaiting_pubrec, pubrec_again, pubrec_of, pubcomp_of, id_known, regack_of, acknowledge}
@@ -71,7 +71,7 @@ use Rattle.sn_deliver.specs.Waking.{claimed, has_nothing, woken_by, woken_if, wo
 use Rattle.sn_deliver.specs.Steps.{row_for, step}
 use Rattle.sn_tick.specs.Expiry.{under_way, is_expired, expiry_acked, expire_all}
 use Rattle.sn_tick.specs.Due.{elapsed, first_due}
-use Rattle.sn_tick.specs.Ticking.{dialog_ended, dialogs_ended, needs_timer, timer_begun, cleaned, may_advertise, advertised, will_puts, lost, plan_due, plan_if_due, tick}
+use Rattle.sn_tick.specs.Ticking.{dialog_ended, dialogs_ended, needs_timer, timer_begun, begin_tick, may_advertise, advertised, will_puts, lost, plan_due, plan_if_due, tick}
 use Rattle.step_laws.proofs.Keeping.{fold_keeps}
 
 -- the draft makes nothing
@@ -298,7 +298,7 @@ module _ (S : List Op) where
   will_one c None = tt
   will_one c (Some will) = among_each (seen_of S) will.topic will.qos will.message (filter (is_another c) (clients S)) (filter_apart (is_another c) (clients S) (clients_apart S))
 
-  twice_one : (asked : Bool) (a : Addr) (s : Session) (topic msg_id : ℕ) (body name : List ℕ) → IsApart (spread_twice (seen_of S) asked a s topic msg_id body name)
+  twice_one : (asked : Bool) (a : Addr) (s : Session) (topic msg_id : ℕ) (body name : List ℕ) → IsApart (publish_at_2 (seen_of S) asked a s topic msg_id body name)
   twice_one asked a s topic msg_id body name =
       choose_one (is_received msg_id s.received) _ _ (record { one_each = tt; alone = inl refl })
       (choose_one (id_has_no_room msg_id s.received) _ _ (record { one_each = tt; alone = inl refl }) (record { one_each = puts_one name 2 body; alone = inl refl }))
@@ -403,7 +403,7 @@ wake_of_puts : (g : ℕ) (seen : Seen) (a : Addr) (bound : Option (List ℕ)) (n
 wake_of_puts g seen a None now = refl
 wake_of_puts g seen a (Some c) now = woken_if_puts g a c (seen.of c) now (seen.of c).session
 
-heard_none : (bound : Option (List ℕ)) (now : ℕ) (row : Row) → MakesNone row.draft → MakesNone (heard_row bound now row).draft
+heard_none : (bound : Option (List ℕ)) (now : ℕ) (row : Row) → MakesNone row.draft → MakesNone (row_with_timer bound now row).draft
 heard_none None now row h = h
 heard_none (Some c) now row h = h
 
@@ -455,7 +455,7 @@ ended_puts now d dialog = choose_same (nat_le 60 (elapsed now dialog.begun)) _ d
 begun_puts : (g : ℕ) (seen : Seen) (timers : List Timer) (now : ℕ) (d : Drafted) (c : List ℕ) → SameMade (timer_begun g seen timers now d c) d
 begun_puts g seen timers now d c = choose_same (needs_timer g timers c (seen.of c)) _ d d refl refl
 
-pub cleaned_made : (g : ℕ) (seen : Seen) (local : Local) (now : ℕ) → SameMade (cleaned g seen local now) nothing
+pub cleaned_made : (g : ℕ) (seen : Seen) (local : Local) (now : ℕ) → SameMade (begin_tick g seen local now) nothing
 cleaned_made g seen local now =
     fold_keeps (timer_begun g seen local.timers now) made (begun_puts g seen local.timers now) seen.all (dialogs_ended now local.dialogs nothing)
     ∙ fold_keeps (dialog_ended now) made (ended_puts now) local.dialogs nothing
@@ -508,7 +508,7 @@ module _ (g : ℕ) (predefined : Entries) (S : List Op) (local : Local) (now : �
 
 pub tick-drafted : (g lifetime advertise : ℕ) (field : List Addr) (predefined : Entries) (S : List Op) (local : Local) (now : ℕ) (plan : Plan) → tick g lifetime advertise field predefined (seen_of S) local now ≡ Some plan → IsOfDraft g (seen_of S) plan
 tick-drafted g lifetime advertise field predefined S local now plan e =
-    let d : Drafted = lasting (expires_at lifetime now) (cleaned g (seen_of S) local now) in
+    let d : Drafted = lasting (expires_at lifetime now) (begin_tick g (seen_of S) local now) in
     either-drafted g predefined S local now plan d (cleaned_made g (seen_of S) local now) (may_advertise advertise field now local.advertised)
     (Some (plan_without (advertised g advertise field now d))) (plan_if_due g predefined (seen_of S) local now d (first_due g (seen_of S) local now (clients S)))
     (without-drafted g (seen_of S) (advertised g advertise field now d) plan)

@@ -32,7 +32,7 @@ use Rattle.sn_exchange.specs.Exchanges.{put_left, message_of, open_exchange, is_
 use Rattle.sn_exchange.specs.Delivery.{Stop, id_to_tell, exchange_begun, register_first, deliver_by, none_left, and_then, deliver, deliver_left, then_deliver}
 use Rattle.sn_exchange.specs.Resending.{publish_by, publish_again, resend_in}
 use Rattle.sn_tick.specs.Due.{elapsed, first_due}
-use Rattle.sn_tick.specs.Ticking.{dialog_ended, dialogs_ended, needs_timer, timer_begun, cleaned, advertised, plan_if_due}
+use Rattle.sn_tick.specs.Ticking.{dialog_ended, dialogs_ended, needs_timer, timer_begun, begin_tick, advertised, plan_if_due}
 use Rattle.sn_session.specs.Session.{session_changed}
 use Rattle.step_laws.proofs.Receiving.{added, stays-received}
 use Rattle.step_laws.specs.Laws.{IsDoneWith, IsOfOneDone, DeliveryKeeps, PutsOnce, ResentWithDup, TickIsQuiet}
@@ -114,14 +114,14 @@ dialog_sends now d dialog = choose_sends (nat_le 60 (elapsed now dialog.begun)) 
 timer_sends : (g : ℕ) (seen : Seen) (timers : List Timer) (now : ℕ) (d : Drafted) (c : List ℕ) → (timer_begun g seen timers now d c).sends ≡ d.sends
 timer_sends g seen timers now d c = choose_sends (needs_timer g timers c (seen.of c)) (moved (Heard c now) d) d refl
 
-cleaned_sends : (g : ℕ) (seen : Seen) (local : Local) (now : ℕ) → (cleaned g seen local now).sends ≡ []
+cleaned_sends : (g : ℕ) (seen : Seen) (local : Local) (now : ℕ) → (begin_tick g seen local now).sends ≡ []
 cleaned_sends g seen local now =
     fold_keeps (timer_begun g seen local.timers now) (λ d. d.sends) (timer_sends g seen local.timers now) seen.all (dialogs_ended now local.dialogs nothing)
     ∙ fold_keeps (dialog_ended now) (λ d. d.sends) (dialog_sends now) local.dialogs nothing
 
 pub tick-quiet : TickIsQuiet
 tick-quiet g lifetime advertise field predefined seen local now no_advertise no_client =
-    let first : Drafted = lasting (expires_at lifetime now) (cleaned g seen local now) in (
+    let first : Drafted = lasting (expires_at lifetime now) (begin_tick g seen local now) in (
       plan_without first,
       ap (λ (b : Bool). if b then Some (plan_without (advertised g advertise field now first)) else plan_if_due g predefined seen local now first (first_due g seen local now seen.all)) no_advertise
           ∙ ap (plan_if_due g predefined seen local now first) no_client,

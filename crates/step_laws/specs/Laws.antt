@@ -36,11 +36,11 @@ use Rattle.sn_tick.specs.declared.due.Due.TheVariants.{Expiry, Loss, Retry, Deli
 use Rattle.sn_exchange.specs.Exchanges.{same_name, left, put_left, message_of, open_exchange}
 use Rattle.sn_exchange.specs.Delivery.{id_to_tell, deliver, then_deliver}
 use Rattle.sn_exchange.specs.Resending.{resend}
-use Rattle.sn_publish.specs.Publishing.{spread_twice}
+use Rattle.sn_publish.specs.Publishing.{publish_at_2}
 use Rattle.sn_tick.specs.Expiry.{under_way, is_under_way, is_expired, is_far_after, has_expired, expire_all}
 use Rattle.sn_tick.specs.Due.{due_session, first_due}
 use Rattle.sn_exchange.specs.Following.{followed_by, followed}
-use Rattle.sn_tick.specs.Ticking.{may_advertise, lost, retried, tick}
+use Rattle.sn_tick.specs.Ticking.{may_advertise, lost, retry_row, tick}
 
 -- the PUBLISH of a message at quality of service 0 is among these frames
 abbrev pub IsSentAtZero : Entries → Peer → Session → Put → List Send → Type 0
@@ -86,13 +86,13 @@ pub record PutsOnce : Type 0 where
       (body name : List ℕ)
       → is_received msg_id s.received ≡ false → id_has_no_room msg_id s.received ≡ false
       → is_received msg_id
-      (session_after s (spread_twice seen asked a s topic msg_id body name)).received ≡ true
+      (session_after s (publish_at_2 seen asked a s topic msg_id body name)).received ≡ true
   pub stays : (s : Session) (change : SessionOp) (msg_id : ℕ) → ends_received msg_id change ≡ false
       → is_received msg_id s.received ≡ true → is_received msg_id (applied s change).received ≡ true
   pub repeated : (seen : Seen) (asked : Bool) (a : Addr) (s : Session) (topic msg_id : ℕ)
       (body name : List ℕ) → is_received msg_id s.received ≡ true
-      → ((spread_twice seen asked a s topic msg_id body name).puts ≡ [])
-      × ((spread_twice seen asked a s topic msg_id body name).retain ≡ None)
+      → ((publish_at_2 seen asked a s topic msg_id body name).puts ≡ [])
+      × ((publish_at_2 seen asked a s topic msg_id body name).retain ≡ None)
 
 -- these changes are those before, or they first end the exchange that was open before
 abbrev pub EndsFirst : List SessionOp → ℕ → List SessionOp → Type 0
@@ -163,7 +163,7 @@ abbrev pub due_draft : Entries → Seen → ℕ → List ℕ → Drafted → Due
 due_draft predefined seen now c d Expiry = d
 due_draft predefined seen now c d Loss = lost seen c (session_of seen c) d
 due_draft predefined seen now c d (Retry a) =
-    (followed predefined seen a now (retried now d c)).draft
+    (followed predefined seen a now (retry_row now d c)).draft
 due_draft predefined seen now c d (Delivery a) =
     (followed predefined seen a now (row_of follows.Delivery c d)).draft
 

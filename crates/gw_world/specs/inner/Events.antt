@@ -22,7 +22,7 @@ use Rattle.jr_disk.specs.declared.disk.Plan.{Plan as Failure}
 use Rattle.gw_event.specs.Gateways.{Gateway}
 use Rattle.gw_node.specs.Parts.{State}
 use Rattle.gw_answer.specs.Answers.{said, only_sends}
-use Rattle.gw_node.specs.Standing.{CallAgrees, fated}
+use Rattle.gw_node.specs.Standing.{CallAgrees, with_failure}
 use Rattle.gw_world.specs.declared.event.Event.{Event}
 use Rattle.gw_world.specs.declared.event.Event.TheVariants.{Frame, Tick, Take, Together as AtOnce, Answer as Asks, WriteFails, Compact, Restart, Show}
 use Rattle.gw_world.specs.declared.event.Call.{Call}
@@ -71,7 +71,7 @@ AgreeAlong gateway [] = Unit {0}
 AgreeAlong gateway (step ∷ rest) =
     CallAgrees gateway step
     × ((fate : Option Failure) (answer : Result Out Refusal) (next : Gateway)
-    (made : List (List Op)) → CallEvent (fated fate gateway) step answer next made
+    (made : List (List Op)) → CallEvent (with_failure fate gateway) step answer next made
     → AgreeAlong next rest)
 
 -- whatever gateway the node stood for, it does these calls with one write, and the node stands for

@@ -9,31 +9,31 @@ use Rattle.gw_node.proofs.row.own_row.Goals as goal
 
 -- ---- it has too many operations, or there is no memory for a row
 
-pub carry_out-requires-clause-some : goal.carry_out-requires-clause-some
-carry_out-requires-clause-some g c = writer_some (state_of g.R.Replica.kept c.args.node.now) c.args.first.now c.args.plan c.args.excuse c.requires.writer
+pub write_and_apply-requires-clause-some : goal.write_and_apply-requires-clause-some
+write_and_apply-requires-clause-some g c = writer_some (state_of g.R.Replica.kept c.args.node.now) c.args.first.now c.args.plan c.args.excuse c.requires.writer
 
-pub carry_out-requires-clause-excuse : goal.carry_out-requires-clause-excuse
-carry_out-requires-clause-excuse g c = writer_sends (state_of g.R.Replica.kept c.args.node.now) c.args.first.now c.args.plan c.args.excuse c.requires.writer
+pub write_and_apply-requires-clause-excuse : goal.write_and_apply-requires-clause-excuse
+write_and_apply-requires-clause-excuse g c = writer_sends (state_of g.R.Replica.kept c.args.node.now) c.args.first.now c.args.plan c.args.excuse c.requires.writer
 
 pub returns-then-most-len : goal.returns-then-most-len
 returns-then-most-len g c =
     let old = state_of g.R.Replica.kept c.args.node.now in
-    let new = state_of g.R.Replica.kept c.carry_out.new.node in
-    by_itself old new c.args.first.now (map arc_value c.args.rest.now) c.alone.result.items c.carry_out.result c.alone.ensures
-    (writer_alone old new c.args.first.now c.args.plan c.args.excuse c.carry_out.result c.requires.runs c.requires.writer c.carry_out.ensures)
+    let new = state_of g.R.Replica.kept c.write_and_apply.new.node in
+    by_itself old new c.args.first.now (map arc_value c.args.rest.now) c.alone.result.items c.write_and_apply.result c.alone.ensures
+    (writer_alone old new c.args.first.now c.args.plan c.args.excuse c.write_and_apply.result c.requires.runs c.requires.writer c.write_and_apply.ensures)
 
-pub carry_out-requires-in_default-clause-some : goal.carry_out-requires-in_default-clause-some
-carry_out-requires-in_default-clause-some g c = writer_some (state_of g.R.Replica.kept c.args.node.now) c.args.first.now c.args.plan c.args.excuse c.requires.writer
+pub write_and_apply-requires-in_default-clause-some : goal.write_and_apply-requires-in_default-clause-some
+write_and_apply-requires-in_default-clause-some g c = writer_some (state_of g.R.Replica.kept c.args.node.now) c.args.first.now c.args.plan c.args.excuse c.requires.writer
 
-pub carry_out-requires-in_default-clause-excuse : goal.carry_out-requires-in_default-clause-excuse
-carry_out-requires-in_default-clause-excuse g c = writer_sends (state_of g.R.Replica.kept c.args.node.now) c.args.first.now c.args.plan c.args.excuse c.requires.writer
+pub write_and_apply-requires-in_default-clause-excuse : goal.write_and_apply-requires-in_default-clause-excuse
+write_and_apply-requires-in_default-clause-excuse g c = writer_sends (state_of g.R.Replica.kept c.args.node.now) c.args.first.now c.args.plan c.args.excuse c.requires.writer
 
 pub returns-in_default : goal.returns-in_default
 returns-in_default g c =
     let old = state_of g.R.Replica.kept c.args.node.now in
-    let new = state_of g.R.Replica.kept c.carry_out-in_default.new.node in
-    by_itself old new c.args.first.now (map arc_value c.args.rest.now) c.alone-in_default.result.items c.carry_out-in_default.result c.alone-in_default.ensures
-    (writer_alone old new c.args.first.now c.args.plan c.args.excuse c.carry_out-in_default.result c.requires.runs c.requires.writer c.carry_out-in_default.ensures)
+    let new = state_of g.R.Replica.kept c.write_and_apply-in_default.new.node in
+    by_itself old new c.args.first.now (map arc_value c.args.rest.now) c.alone-in_default.result.items c.write_and_apply-in_default.result c.alone-in_default.ensures
+    (writer_alone old new c.args.first.now c.args.plan c.args.excuse c.write_and_apply-in_default.result c.requires.runs c.requires.writer c.write_and_apply-in_default.ensures)
 
 -- ---- there is no memory for its excuse
 

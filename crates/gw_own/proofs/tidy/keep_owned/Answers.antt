@@ -4,15 +4,15 @@ use Rattle.gw_own.specs.Tidy.{are_owned}
 use Rattle.gw_own.proofs.Owned.{owned_stay, owned_are_owned, still_owned}
 use Rattle.gw_own.proofs.tidy.keep_owned.Goals as goal
 
-pub returns-then-leave_all-clause-dropped : goal.returns-then-leave_all-clause-dropped
-returns-then-leave_all-clause-dropped g c =
+pub returns-then-keeps_all_bound-clause-dropped : goal.returns-then-keeps_all_bound-clause-dropped
+returns-then-keeps_all_bound-clause-dropped g c =
     let kept = g.R.Replica.kept c.args.replica.now in
     sym (owned_stay c.args.gateway (seen_of kept) c.args.dialogs.now.local
-    (still_owned c.args.gateway kept c.args.ops.now c.args.dialogs.now.local (c.requires c.if-known.true) (sym c.leave_all.ensures ∙ c.if-leave_all.true)))
+    (still_owned c.args.gateway kept c.args.ops.now c.args.dialogs.now.local (c.requires c.if-known.true) (sym c.keeps_all_bound.ensures ∙ c.if-keeps_all_bound.true)))
 
-pub returns-then-leave_all-clause-owned : goal.returns-then-leave_all-clause-owned
-returns-then-leave_all-clause-owned g c =
-    still_owned c.args.gateway (g.R.Replica.kept c.args.replica.now) c.args.ops.now c.args.dialogs.now.local (c.requires c.if-known.true) (sym c.leave_all.ensures ∙ c.if-leave_all.true)
+pub returns-then-keeps_all_bound-clause-owned : goal.returns-then-keeps_all_bound-clause-owned
+returns-then-keeps_all_bound-clause-owned g c =
+    still_owned c.args.gateway (g.R.Replica.kept c.args.replica.now) c.args.ops.now c.args.dialogs.now.local (c.requires c.if-known.true) (sym c.keeps_all_bound.ensures ∙ c.if-keeps_all_bound.true)
 
 pub returns-clause-owned : goal.returns-clause-owned
 returns-clause-owned g c =

@@ -5,7 +5,7 @@ use Rattle.rep_op.specs.Sets.{Same}
 use Rattle.rep_model.specs.Keep.{keep}
 use Rattle.rep_entry.specs.Entries.{fresh_row}
 use Rattle.rep_state.proofs.Working.{names_client}
-use Rattle.rep_state.proofs.grouping.begun.Goals as goal
+use Rattle.rep_state.proofs.grouping.first_group.Goals as goal
 
 pub note-requires-clause-fresh : goal.note-requires-clause-fresh
 note-requires-clause-fresh c = (client_of c.args.op.now, c.new-fresh.ensures.fresh (client_of c.args.op.now) c.args.entry.now c.requires.entry)

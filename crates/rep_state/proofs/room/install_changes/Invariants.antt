@@ -4,7 +4,7 @@ use Rattle.rep_state.specs.Tables.{by_client, rows_of, AreKept, ArePlaces}
 use Rattle.rep_entry.specs.Staging.{staged_of, AreStaged}
 use Rattle.rep_state.specs.inner.Staging.{future, AreMovable}
 use Rattle.rep_state.specs.Interests.{AreMarked}
-use Rattle.rep_state.proofs.room.move_in.Given as goal
+use Rattle.rep_state.proofs.room.install_changes.Given as goal
 
 abbrev pub invariant-loop-client : goal.invariant-loop-client
 invariant-loop-client l =

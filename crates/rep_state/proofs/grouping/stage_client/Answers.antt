@@ -12,7 +12,7 @@ use Rattle.rep_entry.specs.Applied.{entry_applied}
 use Rattle.rep_state.proofs.Placing.{rows_last}
 use Rattle.rep_state.proofs.Staging.{staged_last, future_last}
 use Rattle.rep_entry.proofs.Applied.{row_applied}
-use Rattle.rep_state.proofs.grouping.push_change.Goals as goal
+use Rattle.rep_state.proofs.grouping.stage_client.Goals as goal
 
 pub returns-in_ok-push-in-Ok-clause-rows : goal.returns-in_ok-push-in-Ok-clause-rows
 returns-in_ok-push-in-Ok-clause-rows c =
@@ -22,7 +22,7 @@ returns-in_ok-push-in-Ok-clause-rows c =
     let key = c.in-Ok.key in
     let change = c.in_ok-change.change in
     let octets = c.in-Ok.ensures ∙ c.bytes.ensures.octets in
-    let row = row_applied client (held_of client es) change ∙ subst (λ (e : Entry). planned_row client (base_of e) change ≡ fresh_row client e c.args.fresh) c.held.ensures (c.in_ok-change.ensures.row client) in
+    let row = row_applied client (held_of client es) change ∙ subst (λ (e : Entry). planned_row client (base_of e) change ≡ fresh_row client e c.args.fresh) c.entry_or_nothing.ensures (c.in_ok-change.ensures.row client) in
     ap (λ xs. rows_of (future es (staged_of xs))) c.in_ok-push-in-Ok.ensures.items
     ∙ ap (λ gs. rows_of (future es gs)) (staged_last c.args.made.now.items (key, change))
     ∙ ap rows_of (future_last es old (key.items, change))
@@ -38,7 +38,7 @@ returns-in_ok-push-in-Ok-clause-worked_out c =
     let key = c.in-Ok.key in
     let change = c.in_ok-change.change in
     let octets = c.in-Ok.ensures ∙ c.bytes.ensures.octets in
-    let held = c.held.ensures in
+    let held = c.entry_or_nothing.ensures in
     let fresh = subst (λ (e : Entry). IsFresh client e c.args.fresh) (sym held) c.requires.fresh in
     let is = subst (λ (e : Entry). IsWorkedOut client (base_of e) change) held (record { change_is = c.in_ok-change.ensures.change client fresh; fit = c.in_ok-change.ensures.fit client fresh; counted = c.in_ok-change.ensures.counted client fresh }) in
     subst (AreWorkedOut es) (sym (ap staged_of c.in_ok-push-in-Ok.ensures.items ∙ staged_last c.args.made.now.items (key, change)))

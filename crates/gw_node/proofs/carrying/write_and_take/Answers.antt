@@ -4,7 +4,7 @@ use Rattle.gw_node.specs.Parts.{state_of}
 use Rattle.gw_answer.specs.Answers.{only_sends}
 use Rattle.gw_node.specs.inner.Writing.{refusal_of_journal}
 use Rattle.gw_node.proofs.Calling.{noted, left}
-use Rattle.gw_node.proofs.carrying.take_in.Goals as goal
+use Rattle.gw_node.proofs.carrying.write_and_take.Goals as goal
 
 pub returns-in-Ok : goal.returns-in-Ok
 returns-in-Ok g c = (

@@ -10,7 +10,7 @@ use Rattle.gw_node.specs.inner.Writing.{WrittenIfMade, refusal_of_journal}
 use Rattle.gw_node.specs.Plans.{IsMisfit, Makes}
 use Rattle.gw_node.specs.inner.Handling.{HaveNoDelta}
 use Rattle.gw_node.proofs.Calling.{makes, not_ready, given_up}
-use Rattle.gw_node.proofs.carrying.carry_out.Goals as goal
+use Rattle.gw_node.proofs.carrying.write_and_apply.Goals as goal
 
 pub returns-in-Err : goal.returns-in-Err
 returns-in-Err g c =

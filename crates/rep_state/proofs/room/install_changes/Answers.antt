@@ -10,7 +10,7 @@ use Rattle.rep_state.specs.inner.Groups.{held_of, base_at}
 use Rattle.rep_entry.specs.Staging.{staged_of, IsReady}
 use Rattle.rep_entry.specs.Applied.{entry_applied}
 use Rattle.rep_state.proofs.Staging.{staged_last, last_change, last_ready, rest_staged, rest_movable, rest_moved, rest_kept}
-use Rattle.rep_state.proofs.room.move_in.Goals as goal
+use Rattle.rep_state.proofs.room.install_changes.Goals as goal
 
 pub move_one-requires-clause-change : goal.move_one-requires-clause-change
 move_one-requires-clause-change c =
