@@ -472,7 +472,8 @@ class Renamer:
             for name in paths:
                 start = r"^\s*(?:pub(?:\([a-z]+\))? )?use " + ("" if where != crate else r"(?:crate::|super::|self::)*")
                 for use in re.finditer(start + re.escape(name) + r"::(\{[^}]*\}|\w+(?: as \w+)?);", mask, re.M):
-                    for found in re.compile(r"(?<![\w:])" + w + r"(?!\w)(\s+as\s+\w+)?").finditer(mask, use.start(1), use.end(1)):
+                    before = r"(?<![\w:])" if use[1].startswith("{") else r"(?<!\w)"
+                    for found in re.compile(before + w + r"(?!\w)(\s+as\s+\w+)?").finditer(mask, use.start(1), use.end(1)):
                         changes.put(found.start(), found.start() + len(old), new)
                         brings = brings or not found[1]
                 for found in re.finditer(r"\b" + re.escape(name) + r"::(" + w + r")(?=\s*\()", mask):

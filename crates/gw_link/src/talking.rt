@@ -6,7 +6,7 @@ use crate::calling::End;
 use crate::counts::counts_of;
 use crate::hearing::{answer, hear_all, listen, second_of};
 use crate::link::Link;
-use crate::outgoing::pump;
+use crate::outgoing::write_some;
 use crate::relay::Relay;
 use crate::saying::{greet, hand_all, tell_all};
 use crate::stage::{Phase, Stage};
@@ -141,7 +141,7 @@ fn tell<T: Wait, R: Replica, D: Disk + Drop, S: Write + Drop>(
     if phase == Phase::Quiet && link.stalls > 0 {
         return Ok(());
     }
-    pump(link, phase)
+    write_some(link, phase)
 }
 
 /// Reads on, or waits where no more calls may be made. At the shift's end that is an end too.

@@ -14,7 +14,7 @@ ghost use Rattle.gw_node.specs.inner.Resting.{rests};
 ghost use Rattle.gw_own.specs.inner.Tidy.{tidied};
 
 use super::anew::{handle_compact, handle_reopen};
-use super::carrying::take_in;
+use super::carrying::write_and_take;
 use super::handling::{
     handle_answer, handle_digest, handle_frame, handle_step, handle_tick, handle_view,
 };
@@ -208,7 +208,7 @@ impl<R: Replica, D: Disk + Drop> Node<R, D> {
         ensures event { EventOn (state_of R.kept self.old) (steps.Take delta.now) (said result)
             (state_of R.kept self.new) }
     {
-        one_share(take_in(alloc, self, delta))
+        one_share(write_and_take(alloc, self, delta))
     }
 
     /// Time goes by: it is this moment, in seconds. One thing is done that is due: ADVERTISE
