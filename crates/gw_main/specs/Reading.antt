@@ -216,8 +216,8 @@ first_bad members =
     (or_else (log_in members) keys.Log None)))))))))))))))
 
 -- the text is a document that says these settings
-abbrev pub IsRead : List ℕ → Settings → Type 0
-IsRead text settings =
+abbrev pub IsSettingsText : List ℕ → Settings → Type 0
+IsSettingsText text settings =
     (members : Members) × (parse_document text ≡ Some members) × SaysSettings members settings
 
 -- why a text is refused: it is no document, or this key is the first bad one, or memory ran out

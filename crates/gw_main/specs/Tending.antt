@@ -60,8 +60,8 @@ IsTended old Unwritten new =
     ((is_halted old ≡ false) × TendingEndsAs old Unwritten new) ⊎ EndsOpened old Unwritten new
 
 -- it could not be opened again, before the compaction or after it
-abbrev pub IsGivenUp : {D : Type 0} {G : Ghosts D} → State G → Refusal → State G → Type 0
-IsGivenUp {G = G} old refusal new =
+abbrev pub IsNotOpened : {D : Type 0} {G : Ghosts D} → State G → Refusal → State G → Type 0
+IsNotOpened {G = G} old refusal new =
     ((is_halted old ≡ false) × EndsRefused old refusal new)
     ⊎ ((is_halted old ≡ true)
     × (ReopenCall old (Err refusal) new

@@ -3,7 +3,7 @@
 ghost use Rattle.std.specs.Prelude.{◌≡◌, ◌≤◌, IfOk, IfErr, Some};
 ghost use Rattle.toml.specs.Data.{Members};
 ghost use Rattle.toml.specs.View.{table_view};
-ghost use Rattle.gw_main.specs.Reading.{SaysSettings, IsRead, IsTextFault};
+ghost use Rattle.gw_main.specs.Reading.{SaysSettings, IsSettingsText, IsTextFault};
 ghost use Rattle.gw_main.specs.inner.Reading.{SaysPlain, SaysLists, SaysShown, IsBad, IsBadAfter, IsBadLast};
 
 use super::fault::{Key, SettingsFault};
@@ -23,7 +23,7 @@ use toml::Table;
 /// The faults: `Text`, the text is no TOML document; `Key`, the first key that is missing without a
 /// default, out of range or of another kind; or `Memory`.
 pub fn settings(alloc: Global, text: &str) -> Result<Settings, SettingsFault>
-    ensures ok { IfOk result (IsRead text.now) }
+    ensures ok { IfOk result (IsSettingsText text.now) }
     ensures err { IfErr result (IsTextFault text.now) }
 {
     match toml::table_from_str(alloc, text) {

@@ -6,7 +6,7 @@ ghost use Rattle.gw_node.specs.Parts as spec;
 ghost use Rattle.gw_answer.specs.Answers.{refusal_of_fault};
 ghost use Rattle.gw_node.specs.Opening.{ReopenCall};
 ghost use Rattle.gw_node.specs.Carrying.{TakesNothing, TakesAgain};
-ghost use Rattle.gw_main.specs.Tending.{OpensAnew, TendingEndsAs, EndsRefused, IsTended, IsGivenUp, TakesOn};
+ghost use Rattle.gw_main.specs.Tending.{OpensAnew, TendingEndsAs, EndsRefused, IsTended, IsNotOpened, TakesOn};
 
 use gw_node::{Node, NodeFault};
 use jr_journal::Disk;
@@ -43,7 +43,7 @@ pub fn tend<R: Replica, D: Disk + Drop>(
     ensures runs { OnOk result (spec.is_halted (state_of R.kept node.new) ≡ false) }
     ensures halts { OnErr result (spec.is_halted (state_of R.kept node.new) ≡ true) }
     ensures tended { MatchResult result (λ tended. IsTended (state_of R.kept node.old) tended
-        (state_of R.kept node.new)) (λ fault. IsGivenUp (state_of R.kept node.old)
+        (state_of R.kept node.new)) (λ fault. IsNotOpened (state_of R.kept node.old)
         (refusal_of_fault fault)
         (state_of R.kept node.new)) }
     ensures taken { D.honest → TakesOn (state_of R.kept node.old) (state_of R.kept node.new) }

@@ -34,7 +34,7 @@ use Rattle.gw_report.specs.declared.numbers.Numbers.{Numbers}
 use Rattle.gw_report.specs.declared.numbers.TheConstants.{SINGLES as all_singles, COLUMNS as all_columns}
 use Rattle.gw_report.specs.Words.{kind_word, single_name, single_help, single_kind, is_in_thousandths, column_name, column_help, column_kind, count_name, count_help, count_kind}
 use Rattle.gw_report.specs.Labels.{frame_word, call_word, answer_word, fault_word, presence_word}
-use Rattle.gw_report.specs.Numbers.{value_of, link_value}
+use Rattle.gw_report.specs.Numbers.{single_value, link_value}
 use Rattle.gw_page.specs.Texts.{◌▹◌, line_end}
 use Rattle.gw_page.specs.Expositions.{pair_text, pairs_text, label_text, place_text, help_line, type_line, head_text, number_line, sample_text, count_text, single_text, link_text, column_text, traffic_text, state_text, exposition_of}
 use Rattle.gw_page.specs.Lines.{is_name_octet, is_word_octet, is_help_octet, IsMetricName, IsWord, IsLabel, IsHelp, IsTypeLine, IsSample, IsExposition}
@@ -308,7 +308,7 @@ single_is_lines : (all : Singles) (it : Single) → IsExposition (single_text al
 unfolding single_text
 single_is_lines all it =
     both _ _ (head_is_lines (single_name it) (single_help it) (single_kind it) (single_is_name it) (single_is_help it))
-    (number_is_line (single_name it) labels.Bare (is_in_thousandths it) (value_of all it) (single_is_name it))
+    (number_is_line (single_name it) labels.Bare (is_in_thousandths it) (single_value all it) (single_is_name it))
 
 link_is_line : (column : Column) (link : Link) → IsExposition (link_text column link)
 link_is_line column link =

@@ -68,9 +68,9 @@ presence_text presences.Disconnected = codes "disconnected"
 presence_text presences.Lost = codes "lost"
 
 -- whether the session began clean
-abbrev pub kind_word : Bool → List ℕ
-kind_word true = codes "clean"
-kind_word false = codes "kept"
+abbrev pub session_word : Bool → List ℕ
+session_word true = codes "clean"
+session_word false = codes "kept"
 
 -- a stamp: epoch and gateway
 abbrev pub stamp_text : Stamp → List ℕ
@@ -79,7 +79,7 @@ stamp_text stamp = decimal stamp.epoch ▹ codes "." ▹ decimal stamp.gateway
 -- what a session itself says: presence, clean or not, duration, next message id
 abbrev pub session_text : Session → List ℕ
 session_text session =
-    presence_text session.presence ▹ codes " " ▹ kind_word session.clean ▹ codes " "
+    presence_text session.presence ▹ codes " " ▹ session_word session.clean ▹ codes " "
     ▹ decimal session.duration ▹ codes " next "
     ▹ decimal session.next_id
 

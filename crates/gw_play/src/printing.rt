@@ -335,15 +335,15 @@ fn session_of(alloc: Global, session: &Session) -> Result<String, AllocError>
     ensures { IfOk result (λ text. string_bytes text ≡ session_text session.now) }
 {
     let presence = presence_text(session.presence);
-    let kind = kind_word(session.clean);
+    let kind = session_word(session.clean);
     let duration = session.duration;
     let next = session.next_id;
     format!(in alloc; "{presence} {kind} {duration} next {next}")
 }
 
 /// How it is written whether a session began clean.
-fn kind_word(clean: bool) -> &'static str
-    ensures { result.now ≡ spec.kind_word clean }
+fn session_word(clean: bool) -> &'static str
+    ensures { result.now ≡ spec.session_word clean }
 {
     if clean { "clean" } else { "kept" }
 }

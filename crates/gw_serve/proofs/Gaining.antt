@@ -24,7 +24,7 @@ use Rattle.gw_serve.specs.Count.{weigh}
 use Rattle.gw_serve.specs.inner.Queue.{hand}
 use Rattle.gw_serve.specs.Serving.{is_frame, Gains, HaveSeen}
 use Rattle.gw_serve.specs.inner.Handling.{IsHandled}
-use Rattle.gw_serve.specs.inner.Rows.{TakesNumbers, numbers_from}
+use Rattle.gw_serve.specs.inner.Rows.{TakesNumbers, row_numbers_from}
 use Rattle.gw_serve.specs.inner.Work.{IsWorked, IsWorking}
 use Rattle.gw_serve.proofs.Balance.{weigh-append}
 use Rattle.gw_shift.proofs.Gained.{with_none, with_both}
@@ -47,14 +47,14 @@ frames_held number (s ∷ steps) (a ∷ answers) are =
 
 -- their numbers
 numbers_held : (number : ℕ) (steps : List Step) (answers : List (Result Out Refusal)) → length answers ≤ length steps
-    → map (λ (m : Held). m.number) (held_from number steps answers) ≡ numbers_from number (length answers)
+    → map (λ (m : Held). m.number) (held_from number steps answers) ≡ row_numbers_from number (length answers)
 numbers_held number steps [] few = refl
 numbers_held number [] (a ∷ answers) few = absurd (omega (arith, few))
 numbers_held number (s ∷ steps) (a ∷ answers) few = ap (λ (ns : List ℕ). number ∷ ns) (numbers_held (number + 1) steps answers (omega (arith, few)))
 
 -- what calls in a row add
 pub gains_row : (before : Holder) (steps : List Step) (answers : List (Result Out Refusal)) (n : ℕ) (after : Holder) → All (λ (step : Step). is_frame step ≡ true) steps
-    → MadeInRow before steps answers n after → Gains before (numbers_from n (length answers)) after
+    → MadeInRow before steps answers n after → Gains before (row_numbers_from n (length answers)) after
 gains_row before steps answers n after frames made =
     (held_from n steps answers, made.holds, numbers_held n steps answers made.few, frames_held n steps answers frames)
 

@@ -9,7 +9,7 @@ ghost use Rattle.gw_shift.specs.Calls.{Holder};
 ghost use Rattle.gw_shift.specs.Calling.{NoneMade};
 ghost use Rattle.gw_serve.specs.Serving.{is_frame, Gains};
 ghost use Rattle.gw_serve.specs.inner.Queue.{hand};
-ghost use Rattle.gw_serve.specs.inner.Rows.{IsTakenRow, IsEmptyRow, TakesNumbers, AreCalled, IsEnd, numbers_from};
+ghost use Rattle.gw_serve.specs.inner.Rows.{IsTakenRow, IsEmptyRow, TakesNumbers, AreCalled, IsEnd, row_numbers_from};
 
 use crate::queue::{CAPACITY, Datagram, Receiver, Takes, Ticket};
 use crate::worker::{Shared, Taken, Trouble};
@@ -183,7 +183,7 @@ fn note_called(called: &mut Vec<Called>, numbers: &[u64], first: u64, answers: V
         ++ take (length answers.items) (drop (vec_len called.old) numbers.now) }
     ensures steps { map (λ c. c.taken.step) called.new.items
         ≡ map (λ c. c.taken.step) called.old.items
-        ++ numbers_from first (length answers.items) }
+        ++ row_numbers_from first (length answers.items) }
 {
     let mut step = first;
     for answer in answers {

@@ -16,7 +16,7 @@ use Rattle.rep_ops.proofs.Rising.{rising_apart}
 use Rattle.rep_op.proofs.Sets.{IsIn, at_in, any_in, one_of_name}
 use Rattle.rep_model.proofs.Joins.{within-left}
 use Rattle.rep_model.proofs.Readers.{operation_at_both, put_at_both, is_acknowledged_both, retain_at_both}
-use Rattle.sn_plan.specs.Own.{IsFresh}
+use Rattle.sn_plan.specs.Own.{IsFreshName}
 use Rattle.sn_local.proofs.Entries.{same_client-itself, none_or}
 use Rattle.gw_event.specs.Event.{HaveName}
 use Rattle.gw_node.proofs.Occurring.{is_there, operation_occurs, put_occurs, retain_occurs}
@@ -129,7 +129,7 @@ stands-left A B (OfRetain t k) h = (within-left A B).retains_in t (clock_of k) k
 stands-left A B (Ack c origin first last) h = λ seq lower upper. (within-left A B).acknowledgements_in c (seq, origin) (h seq lower upper)
 
 -- under a name that is fresh before it
-pub stands-right : (A B : List Op) (op : Op) → IsFresh A op → HasOperation B op → HasOperation (A ++ B) op
+pub stands-right : (A B : List Op) (op : Op) → IsFreshName A op → HasOperation B op → HasOperation (A ++ B) op
 stands-right A B (OfSession c s k o) fresh h = operation_at_both c A B (s, k) ∙ none_or (operation_at c A (s, k)) (operation_at c B (s, k)) fresh ∙ h
 stands-right A B (OfPut c p) fresh h = put_at_both c A B (p.seq, p.origin) ∙ none_or (put_at c A (p.seq, p.origin)) (put_at c B (p.seq, p.origin)) fresh ∙ h
 stands-right A B (OfRetain t k) fresh h = retain_at_both t A B (clock_of k) ∙ none_or (retain_at t A (clock_of k)) (retain_at t B (clock_of k)) fresh ∙ h

@@ -11,7 +11,7 @@ use Rattle.rep_op.specs.Sets.{operation_at, put_at, retain_at, HasOperation}
 use Rattle.rep_model.proofs.Joins.{all-moved}
 use Rattle.sn_plan.specs.declared.plan.Plan.{Plan}
 use Rattle.sn_local.specs.Seen.{seen_of}
-use Rattle.sn_plan.specs.Own.{IsOwnWrite, IsFresh, IsOfDraft}
+use Rattle.sn_plan.specs.Own.{IsOwnWrite, IsFreshName, IsOfDraft}
 use Rattle.sn_plan.specs.Flush.{HaveNoGap, stamp_of}
 use Rattle.sn_plan.proofs.Lists.{all-append, all-weaken}
 use Rattle.row_laws.proofs.Names.{plan-own}
@@ -167,7 +167,7 @@ same-number (OfRetain t k) (OfRetain u l) n h e = h.2 ∙ e
 same-number a b n h e = absurd h
 
 module _ (gs : List Gateway) (i : ℕ) (old next : Gateway) (made : List (List Op)) (is : slice_get gs i ≡ Some old) (f : First old.config.gateway gs i) (flush : HaveNoGap old.config.gateway old.taken) (u : Stepped old next made) where
-  new-fresh : (op : Op) → Contains u.delta op → IsFresh old.taken op
+  new-fresh : (op : Op) → Contains u.delta op → IsFreshName old.taken op
   new-fresh (OfSession c s k o) h = step-new_operation old.config.gateway old.taken u.plan u.drafted u.delta u.same flush c (s, k) (is_there u.delta (OfSession c s k o) h)
   new-fresh (OfPut c p) h = step-new_put old.config.gateway old.taken u.plan u.drafted u.delta u.same flush c (p.seq, p.origin) (is_there u.delta (OfPut c p) h)
   new-fresh (Ack c origin first last) h = tt

@@ -13,7 +13,7 @@ use Rattle.rep_ops.specs.Spelling.{max_octets}
 use Rattle.jr_journal.specs.declared.piece.Piece.{Piece}
 use Rattle.jr_journal.specs.declared.piece.Piece.TheVariants.{Whole, Seal, Torn, Bad}
 use Rattle.jr_journal.specs.declared.piece.Found.{Found}
-use Rattle.jr_journal.specs.Records.{delta_bytes, written, body_at, record_at, piece_at, found_of, ended, found_joined, one_record, one_seal, found}
+use Rattle.jr_journal.specs.Records.{delta_bytes, written, piece_body_at, record_at, piece_at, found_of, ended, found_joined, one_record, one_seal, found}
 use Rattle.jr_journal.specs.Readable.{IsReadable}
 use Rattle.jr_journal.proofs.Pieces.{IsRecord, record_shape, record_again, record_same, seal_same, found_record, found_seal, found_second_seal, found_torn, found_bad, found_nothing, found_passed, found_skip}
 
@@ -200,8 +200,8 @@ cut_piece rest xs n size small front lt =
           let number : from_be_bytes w32 (take 4 xs) ≡ n = ap (λ ys. from_be_bytes w32 ys) (front four) ∙ size in
           let fits : nat_lt max_octets n ≡ false = le-ltb max_octets n small in
           let short : nat_lt (length (drop 4 xs)) n ≡ true = lt-ltb (length (drop 4 xs)) n (omega (arith, length-drop 4 xs)) in
-          let first : record_at xs ≡ body_at n (drop 4 xs) = rw t (ap (λ k. body_at k (drop 4 xs)) number) in
-          let second : body_at n (drop 4 xs) ≡ Torn = rw (fits, short) refl in
+          let first : record_at xs ≡ piece_body_at n (drop 4 xs) = rw t (ap (λ k. piece_body_at k (drop 4 xs)) number) in
+          let second : piece_body_at n (drop 4 xs) ≡ Torn = rw (fits, short) refl in
           first ∙ second
     ]
 

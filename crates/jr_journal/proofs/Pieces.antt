@@ -11,7 +11,7 @@ use Rattle.rep_ops.specs.Reading.{delta_reading}
 use Rattle.rep_read.specs.Reading.{Fails}
 use Rattle.rep_ops.specs.Spelling.{max_octets}
 use Rattle.jr_journal.specs.declared.piece.Piece.TheVariants.{Whole, Seal, Torn, Bad}
-use Rattle.jr_journal.specs.Records.{whole_if, delta_piece, body_at, record_at, piece_at, ended, found_joined, one_record, one_seal, found}
+use Rattle.jr_journal.specs.Records.{whole_if, delta_piece, piece_body_at, record_at, piece_at, ended, found_joined, one_record, one_seal, found}
 use Rattle.jr_journal.specs.inner.Records.{refusal}
 
 -- ---- a delta of so many bytes
@@ -48,7 +48,7 @@ pub record IsRecord (tag : ℕ) (rest : List ℕ) (delta : List Op) (n : ℕ) : 
   pub limit : n ≤ max_octets
   pub read : delta_reading (take n (drop 4 rest)) ≡ Ok delta
 
-body_shape : (size : ℕ) (rest : List ℕ) (delta : List Op) (n : ℕ) → body_at size rest ≡ Whole delta n → (size ≡ n) × (n ≤ max_octets) × (n ≤ length rest) × (delta_reading (take n rest) ≡ Ok delta)
+body_shape : (size : ℕ) (rest : List ℕ) (delta : List Op) (n : ℕ) → piece_body_at size rest ≡ Whole delta n → (size ≡ n) × (n ≤ max_octets) × (n ≤ length rest) × (delta_reading (take n rest) ≡ Ok delta)
 unfolding delta_piece
 body_shape size rest delta n e =
     elim (cases_Bool (nat_lt max_octets size)) [
@@ -73,7 +73,7 @@ record_shape tag rest delta n e =
           elim (cases_Bool (nat_lt (length rest) 4)) [
             | inl short ↦ absurd (let wrong : Torn ≡ Whole delta n = rw short at e1 in cc)
             | inr long ↦
-                let e2 : body_at (from_be_bytes w32 (take 4 rest)) (drop 4 rest) ≡ Whole delta n = rw long at e1 in
+                let e2 : piece_body_at (from_be_bytes w32 (take 4 rest)) (drop 4 rest) ≡ Whole delta n = rw long at e1 in
                 let b = body_shape (from_be_bytes w32 (take 4 rest)) (drop 4 rest) delta n e2 in
                 let four : 4 ≤ length rest = ltb-false _ _ long in
                 record { tag_is = is; inside = omega (arith, b.2, length-drop 4 rest); size = b.0; limit = b.1; read = b.3 }
@@ -92,9 +92,9 @@ record_again tag rest delta n h =
     let long : nat_lt (length rest) 4 ≡ false = le-ltb (length rest) 4 (let i = h.inside in omega arith) in
     let small : nat_lt max_octets n ≡ false = le-ltb max_octets n h.limit in
     let inside : nat_lt (length (drop 4 rest)) n ≡ false = le-ltb (length (drop 4 rest)) n (let i = h.inside in omega (arith, length-drop 4 rest)) in
-    let first : piece_at tag rest ≡ body_at (from_be_bytes w32 (take 4 rest)) (drop 4 rest) = rw (h.tag_is, long) refl in
-    let second : body_at (from_be_bytes w32 (take 4 rest)) (drop 4 rest) ≡ body_at n (drop 4 rest) = ap (λ k. body_at k (drop 4 rest)) h.size in
-    let third : body_at n (drop 4 rest) ≡ Whole delta n = rw (small, inside, h.read) refl in
+    let first : piece_at tag rest ≡ piece_body_at (from_be_bytes w32 (take 4 rest)) (drop 4 rest) = rw (h.tag_is, long) refl in
+    let second : piece_body_at (from_be_bytes w32 (take 4 rest)) (drop 4 rest) ≡ piece_body_at n (drop 4 rest) = ap (λ k. piece_body_at k (drop 4 rest)) h.size in
+    let third : piece_body_at n (drop 4 rest) ≡ Whole delta n = rw (small, inside, h.read) refl in
     first ∙ (second ∙ third)
 
 -- a record is read from its own bytes alone
@@ -118,7 +118,7 @@ delta_not_seal : (r : Result (List Op) OpsFault) (size : ℕ) → whole_if r siz
 delta_not_seal (Ok d) size e = cc
 delta_not_seal (Err fault) size e = cc
 
-body_not_seal : (size : ℕ) (rest : List ℕ) → body_at size rest ≡ Seal → ⊥
+body_not_seal : (size : ℕ) (rest : List ℕ) → piece_body_at size rest ≡ Seal → ⊥
 unfolding delta_piece
 body_not_seal size rest e =
     elim (cases_Bool (nat_lt max_octets size)) [
@@ -140,7 +140,7 @@ seal_same tag xs ys e =
           let e1 : record_at xs ≡ Seal = rw is at e in
           elim (cases_Bool (nat_lt (length xs) 4)) [
             | inl short ↦ absurd (let wrong : Torn ≡ Seal = rw short at e1 in cc)
-            | inr long ↦ absurd (let e2 : body_at (from_be_bytes w32 (take 4 xs)) (drop 4 xs) ≡ Seal = rw long at e1 in body_not_seal (from_be_bytes w32 (take 4 xs)) (drop 4 xs) e2)
+            | inr long ↦ absurd (let e2 : piece_body_at (from_be_bytes w32 (take 4 xs)) (drop 4 xs) ≡ Seal = rw long at e1 in body_not_seal (from_be_bytes w32 (take 4 xs)) (drop 4 xs) e2)
           ]
       | inr other ↦
           let e1 : cond (tag == 83) Seal Bad ≡ Seal = rw other at e in

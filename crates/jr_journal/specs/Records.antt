@@ -56,15 +56,16 @@ unfoldable pub delta_piece : ℕ → List ℕ → Piece
 delta_piece size rest = whole_if (delta_reading (take size rest)) size
 
 -- the piece of a record with so many bytes of delta: bad above 8 MiB, torn if bytes are missing
-abbrev pub body_at : ℕ → List ℕ → Piece
-body_at size rest =
+abbrev pub piece_body_at : ℕ → List ℕ → Piece
+piece_body_at size rest =
     if nat_lt max_octets size then Bad
     else (if nat_lt (length rest) size then Torn else delta_piece size rest)
 
 -- the piece of a record, after its tag: torn if its length is not there
 abbrev pub record_at : List ℕ → Piece
 record_at rest =
-    if nat_lt (length rest) 4 then Torn else body_at (from_be_bytes w32 (take 4 rest)) (drop 4 rest)
+    if nat_lt (length rest) 4 then Torn
+    else piece_body_at (from_be_bytes w32 (take 4 rest)) (drop 4 rest)
 
 -- the piece that begins with this byte: a record, the seal, or bad
 unfoldable pub piece_at : ℕ → List ℕ → Piece

@@ -52,7 +52,7 @@ LacksPacket octets = (octets ≡ []) ⊎ (IsHeadThen octets faults.Short ⊎ IsU
 
 -- The octets begin with the head of a packet that is there as far as it is held, and this is wrong
 -- with it: with octets that have the same first octet, and as a body what is held.
-pub record IsRefused (octets : List ℕ) (fault : PacketFault) : Type 0 where
+pub record IsHeadRefused (octets : List ℕ) (fault : PacketFault) : Type 0 where
   pub first : ℕ
   pub said : ℕ
   pub body : List ℕ
@@ -68,7 +68,7 @@ pub record IsRefused (octets : List ℕ) (fault : PacketFault) : Type 0 where
 abbrev pub IsFaulty : List ℕ → PacketFault → Type 0
 IsFaulty octets fault =
     IsHeadFault octets fault
-    ⊎ (((fault ≡ faults.TooLong) × IsHeadThen octets faults.TooLong) ⊎ IsRefused octets fault)
+    ⊎ (((fault ≡ faults.TooLong) × IsHeadThen octets faults.TooLong) ⊎ IsHeadRefused octets fault)
 
 -- and that is why no further packet was read, or there is a fault
 abbrev pub EndsPackets : Option PacketFault → List ℕ → Type 0

@@ -56,7 +56,7 @@ use Rattle.sn_subscribe.specs.Subscription.{suback, refused, id_in_full, id_aske
 use Rattle.sn_subscribe.specs.Handing.{waiting_for, handed_for}
 use Rattle.sn_subscribe.specs.TopicRows.{register_of, subscribe_of, unsubscribe_of}
 use Rattle.sn_local.specs.WillDialogs.{dialog_at}
-use Rattle.sn_flow.specs.Wills.{congestion, not_supported, dismissed, concluded, topic_given, topic_row, will_topic_in, topic_at, will_of, message_row, message_in, message_at, topic_update_of, message_update_of}
+use Rattle.sn_flow.specs.Wills.{congestion, not_supported, dismissed, concluded, topic_given, topic_row, will_topic_in, will_topic_from, will_of, message_row, message_in, will_message_from, topic_update_of, message_update_of}
 use Rattle.sn_flow.specs.WillUpdate.{topic_asked, topic_set, will_topic_update as topic_update, has_no_place, will_msg_update as message_update}
 use Rattle.sn_publish.specs.declared.meaning.Meant.{Meant}
 use Rattle.sn_publish.specs.declared.meaning.Meant.TheVariants as meanings
@@ -150,7 +150,7 @@ module _ (g : ℕ) (S : List Op) where
   topic_in-fits a bound dialog will now Topic = heard-fits g S bound now (topic_row (seen_of S) dialog will now) (topic_row-fits dialog will now)
   topic_in-fits a bound dialog will now (Message topic) = stray-fits g S a bound now
 
-  pub will_topic-fits : (a : Addr) (bound : Option (List ℕ)) (dialog : Option WillDialog) (will : Option Will) (now : ℕ) → FitsRow g S (topic_at (seen_of S) a bound dialog will now)
+  pub will_topic-fits : (a : Addr) (bound : Option (List ℕ)) (dialog : Option WillDialog) (will : Option Will) (now : ℕ) → FitsRow g S (will_topic_from (seen_of S) a bound dialog will now)
   will_topic-fits a bound None will now = stray-fits g S a bound now
   will_topic-fits a bound (Some dialog) will now = topic_in-fits a bound dialog will now dialog.awaited
 
@@ -163,7 +163,7 @@ module _ (g : ℕ) (S : List Op) where
   message_in-fits a bound request message now (Message topic) =
       heard-fits g S bound now (message_row (seen_of S) request topic message now) (message_row-fits request topic message now)
 
-  pub will_msg-fits : (a : Addr) (bound : Option (List ℕ)) (dialog : Option WillDialog) (message : List ℕ) (now : ℕ) → FitsRow g S (message_at (seen_of S) a bound dialog message now)
+  pub will_msg-fits : (a : Addr) (bound : Option (List ℕ)) (dialog : Option WillDialog) (message : List ℕ) (now : ℕ) → FitsRow g S (will_message_from (seen_of S) a bound dialog message now)
   will_msg-fits a bound None message now = stray-fits g S a bound now
   will_msg-fits a bound (Some dialog) message now = message_in-fits a bound dialog.request message now dialog.awaited
 

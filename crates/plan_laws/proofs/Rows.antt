@@ -66,7 +66,7 @@ use Rattle.sn_subscribe.specs.Handing.{waiting_for, handed_for}
 use Rattle.sn_subscribe.specs.TopicRows.{register_of, register, subscribe_of, subscribe, unsubscribe_of, unsubscribe}
 use Rattle.sn_local.specs.Timers.{started}
 use Rattle.sn_local.specs.WillDialogs.{dialog_at}
-use Rattle.sn_flow.specs.Wills.{congestion, not_supported, dismissed, concluded, ask_message, topic_given, topic_row, will_topic_in, topic_at, will_topic, will_of, message_row, message_in, message_at, will_msg, topic_update_of, will_topic_update, message_update_of, will_msg_update}
+use Rattle.sn_flow.specs.Wills.{congestion, not_supported, dismissed, concluded, ask_message, topic_given, topic_row, will_topic_in, will_topic_from, will_topic, will_of, message_row, message_in, will_message_from, will_msg, topic_update_of, will_topic_update, message_update_of, will_msg_update}
 use Rattle.sn_flow.specs.WillUpdate.{topic_from, topic_asked, topic_accepted, topic_set, will_topic_update as topic_update, has_no_place, will_msg_update as message_update}
 use Rattle.sn_publish.specs.declared.meaning.Meant.{Meant}
 use Rattle.sn_publish.specs.declared.meaning.Meant.TheVariants as meanings
@@ -77,7 +77,7 @@ use Rattle.sn_exchange.specs.Following.{peer_at}
 use Rattle.sn_exchange.specs.Forms.{form_again}
 use Rattle.step_laws.specs.Laws.{AreNamedApart}
 use Rattle.sn_publish.specs.Publishing.{topic_meant, within_limit, publication_meant, publish_at_0, publish_at_1, publish_at_2, publish_at, publish_meant, publish, spread_meant, publish_unconnected, release, pubrel}
-use Rattle.sn_publish.specs.Recipients.{admitted, qos_at, qos_in, qos_for, message_for, put_for, puts_among, puts_for, is_another, puts_of_will}
+use Rattle.sn_publish.specs.Recipients.{admitted, effective_qos, qos_in, qos_for, message_for, put_for, puts_among, puts_for, is_another, puts_of_will}
 use Rattle.sn_deliver.specs.Serving.{publish_of, publish_in_at, publish_in, pubrel_of, ack_row, ack_in}
 use Rattle.sn_deliver.specs.Waking.{claimed, has_nothing, from_sleep, from_wake, woken_by, woken_if, woken, wake_of, wake}
 use Rattle.plan_laws.specs.KeepsWell.{is_asked, AreAsked}
@@ -256,7 +256,7 @@ module _ (S : List Op) (made : AreWellMade S) where
   topic_in-sound a bound dialog will now Topic = heard-sound bound now (topic_row (seen_of S) dialog will now) (topic_row-sound dialog will now)
   topic_in-sound a bound dialog will now (Message topic) = stray-sound a bound now
 
-  topic_at-sound : (a : Addr) (bound : Option (List ℕ)) (dialog : Option WillDialog) (will : Option Will) (now : ℕ) → IsSoundRow (topic_at (seen_of S) a bound dialog will now)
+  topic_at-sound : (a : Addr) (bound : Option (List ℕ)) (dialog : Option WillDialog) (will : Option Will) (now : ℕ) → IsSoundRow (will_topic_from (seen_of S) a bound dialog will now)
   topic_at-sound a bound None will now = stray-sound a bound now
   topic_at-sound a bound (Some dialog) will now = topic_in-sound a bound dialog will now dialog.awaited
 
@@ -274,7 +274,7 @@ module _ (S : List Op) (made : AreWellMade S) where
   message_in-sound a bound request message now Topic q = stray-sound a bound now
   message_in-sound a bound request message now (Message topic) q = heard-sound bound now (message_row (seen_of S) request topic message now) (message_row-sound request topic message now q)
 
-  message_at-sound : (a : Addr) (bound : Option (List ℕ)) (dialog : Option WillDialog) (message : List ℕ) (now : ℕ) → IfSome dialog (λ (d : WillDialog). is_asked d.awaited ≡ true) → IsSoundRow (message_at (seen_of S) a bound dialog message now)
+  message_at-sound : (a : Addr) (bound : Option (List ℕ)) (dialog : Option WillDialog) (message : List ℕ) (now : ℕ) → IfSome dialog (λ (d : WillDialog). is_asked d.awaited ≡ true) → IsSoundRow (will_message_from (seen_of S) a bound dialog message now)
   message_at-sound a bound None message now q = stray-sound a bound now
   message_at-sound a bound (Some dialog) message now q = message_in-sound a bound dialog.request message now dialog.awaited q
 

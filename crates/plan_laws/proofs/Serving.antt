@@ -65,7 +65,7 @@ use Rattle.sn_subscribe.specs.Subscription.{suback, refused, fixed_id, id_in_ful
 use Rattle.sn_subscribe.specs.TopicRows.{register_of, register, subscribe_of, subscribe, unsubscribe_of, unsubscribe}
 use Rattle.sn_local.specs.Timers.{started}
 use Rattle.sn_local.specs.WillDialogs.{dialog_at}
-use Rattle.sn_flow.specs.Wills.{congestion, not_supported, dismissed, concluded, ask_message, topic_given, topic_row, will_topic_in, topic_at, will_topic, will_of, message_row, message_in, message_at, will_msg, topic_update_of, will_topic_update, message_update_of, will_msg_update}
+use Rattle.sn_flow.specs.Wills.{congestion, not_supported, dismissed, concluded, ask_message, topic_given, topic_row, will_topic_in, will_topic_from, will_topic, will_of, message_row, message_in, will_message_from, will_msg, topic_update_of, will_topic_update, message_update_of, will_msg_update}
 use Rattle.sn_flow.specs.WillUpdate.{topic_from, topic_asked, topic_accepted, topic_set, will_topic_update as topic_update, has_no_place, will_msg_update as message_update}
 use Rattle.sn_publish.specs.declared.meaning.Meant.{Meant}
 use Rattle.sn_publish.specs.declared.meaning.Meant.TheVariants as meanings
@@ -77,7 +77,7 @@ use Rattle.sn_exchange.specs.Following.{peer_at}
 use Rattle.sn_exchange.specs.Forms.{form_again}
 use Rattle.step_laws.specs.Laws.{AreNamedApart}
 use Rattle.sn_publish.specs.Publishing.{topic_meant, within_limit, publication_meant, posted, publish_at_0, publish_at_1, publish_at_2, publish_at, publish_meant, publish, spread_meant, publish_unconnected, release, pubrel}
-use Rattle.sn_publish.specs.Recipients.{admitted, qos_at, qos_in, qos_for, message_for, put_for, puts_among, puts_for, is_another, puts_of_will}
+use Rattle.sn_publish.specs.Recipients.{admitted, effective_qos, qos_in, qos_for, message_for, put_for, puts_among, puts_for, is_another, puts_of_will}
 use Rattle.sn_publish.specs.Retaining.{has_place, retained_of}
 use Rattle.sn_deliver.specs.Serving.{publish_of, publish_in_at, publish_in, pubrel_of, ack_row, ack_in}
 use Rattle.sn_deliver.specs.Waking.{claimed, has_nothing, from_sleep, from_wake, woken_by, woken_if, woken, wake_of, wake}
@@ -94,7 +94,7 @@ admitted-fine : (b : Bool) (qos : ℕ) → nat_le qos 2 ≡ true → IfSome (if 
 admitted-fine true qos h = h
 admitted-fine false qos h = tt
 
-in-fine : (pending : List Put) (qos : ℕ) (s : Session) (asked : Option ℕ) → nat_le qos 2 ≡ true → IfSome (option_and_then (qos_at pending qos s) asked) (λ q. nat_le q 2 ≡ true)
+in-fine : (pending : List Put) (qos : ℕ) (s : Session) (asked : Option ℕ) → nat_le qos 2 ≡ true → IfSome (option_and_then (effective_qos pending qos s) asked) (λ q. nat_le q 2 ≡ true)
 in-fine pending qos s None h = tt
 in-fine pending qos s (Some asked) h = admitted-fine (nat_lt (length pending) 1024 && (is_up s.presence || nat_lt 0 (min qos asked))) (min qos asked) (least-two qos asked h)
 

@@ -33,7 +33,7 @@ use Rattle.sn_plan.specs.declared.plan.Plan.{Plan}
 use Rattle.sn_plan.specs.Drafts.{Drafted}
 use Rattle.sn_plan.specs.Flush.{IsFlush, stamp_of}
 use Rattle.sn_plan.specs.Numbering.{Written, another, taken_at, taken, counted, write, changes_written, own_counter, epoch_of, start_of, put_at_seq, with_puts, handed_to, handed_at_seq, with_handed, retain_at_clock, with_retain, ack_of}
-use Rattle.sn_plan.specs.Own.{IsFresh, AreFresh}
+use Rattle.sn_plan.specs.Own.{IsFreshName, AreFresh}
 use Rattle.sn_local.specs.Seen.{seen_of}
 use Rattle.sn_plan.specs.Plans.{plan_of}
 use Rattle.sn_local.proofs.Entries.{same_client-itself, at_own}
@@ -207,15 +207,15 @@ none_of : {X : Type 0} (a b : Option X) → or_else a b ≡ None → (a ≡ None
 none_of None b e = (refl, e)
 none_of (Some x) b e = absurd (cc)
 
-fresh-before : (S more : List Op) (op : Op) → IsFresh (S ++ more) op → IsFresh S op
+fresh-before : (S more : List Op) (op : Op) → IsFreshName (S ++ more) op → IsFreshName S op
 fresh-before S more (OfSession c s i o) h = (none_of (operation_at c S (s, i)) (operation_at c more (s, i)) (sym (operation_at_both c S more (s, i)) ∙ h)).0
 fresh-before S more (OfPut c p) h = (none_of (put_at c S (p.seq, p.origin)) (put_at c more (p.seq, p.origin)) (sym (put_at_both c S more (p.seq, p.origin)) ∙ h)).0
 fresh-before S more (Ack c origin first last) h = tt
 fresh-before S more (OfRetain t k) h = (none_of (retain_at t S (clock_of k)) (retain_at t more (clock_of k)) (sym (retain_at_both t S more (clock_of k)) ∙ h)).0
 
-fresh-all : (S ops : List Op) → AreFresh S ops → AllByRecursion (IsFresh S) ops
+fresh-all : (S ops : List Op) → AreFresh S ops → AllByRecursion (IsFreshName S) ops
 fresh-all S [] h = tt
-fresh-all S (op ∷ rest) h = (h.0, all-weaken (IsFresh (S ++ op ∷ [])) (IsFresh S) (fresh-before S (op ∷ [])) rest (fresh-all (S ++ op ∷ []) rest h.1))
+fresh-all S (op ∷ rest) h = (h.0, all-weaken (IsFreshName (S ++ op ∷ [])) (IsFreshName S) (fresh-before S (op ∷ [])) rest (fresh-all (S ++ op ∷ []) rest h.1))
 
 put-alone : (c : List ℕ) (p : Put) → put_at c (OfPut c p ∷ []) (p.seq, p.origin) ≡ Some p
 put-alone c p =
@@ -225,7 +225,7 @@ put-alone c p =
 some_none : {X : Type 0} (o : Option X) (x : X) → o ≡ Some x → o ≡ None → ⊥
 some_none o x e f = none-some x (sym f ∙ e)
 
-fresh-apart : (S : List Op) (a b : Op) → IsFresh (S ++ a ∷ []) b → IsNoAck a → Apart a b
+fresh-apart : (S : List Op) (a b : Op) → IsFreshName (S ++ a ∷ []) b → IsNoAck a → Apart a b
 fresh-apart S (OfSession c s i o) (OfSession d t j p) h n e =
     let free : operation_at d (OfSession c s i o ∷ []) (t, j) ≡ None = (none_of (operation_at d S (t, j)) (operation_at d (OfSession c s i o ∷ []) (t, j)) (sym (operation_at_both d S (OfSession c s i o ∷ []) (t, j)) ∙ h)).1 in
     let moved : operation_at c (OfSession c s i o ∷ []) (s, i) ≡ operation_at d (OfSession c s i o ∷ []) (t, j) = λ k. operation_at (e.0 k) (OfSession c s i o ∷ []) (e.1 k, e.2 k) in
@@ -254,7 +254,7 @@ abbrev ApartIfFresh : Op → Op → Type 0
 ApartIfFresh (Ack c origin first last) b = Unit {0}
 ApartIfFresh a b = Apart a b
 
-if-fresh : (S : List Op) (a b : Op) → IsFresh (S ++ a ∷ []) b → ApartIfFresh a b
+if-fresh : (S : List Op) (a b : Op) → IsFreshName (S ++ a ∷ []) b → ApartIfFresh a b
 if-fresh S (OfSession c s i o) b h = fresh-apart S (OfSession c s i o) b h tt
 if-fresh S (OfPut c p) b h = fresh-apart S (OfPut c p) b h tt
 if-fresh S (Ack c r f l) b h = tt
@@ -263,7 +263,7 @@ if-fresh S (OfRetain t k) b h = fresh-apart S (OfRetain t k) b h tt
 fresh-pairs : (S ops : List Op) → AreFresh S ops → Pairwise ApartIfFresh ops
 fresh-pairs S [] h = tt
 fresh-pairs S (op ∷ rest) h =
-    (all-weaken (IsFresh (S ++ op ∷ [])) (ApartIfFresh op) (if-fresh S op) rest (fresh-all (S ++ op ∷ []) rest h.1), fresh-pairs (S ++ op ∷ []) rest h.1)
+    (all-weaken (IsFreshName (S ++ op ∷ [])) (ApartIfFresh op) (if-fresh S op) rest (fresh-all (S ++ op ∷ []) rest h.1), fresh-pairs (S ++ op ∷ []) rest h.1)
 
 -- of acknowledgements alone
 abbrev ApartIfAck : Op → Op → Type 0

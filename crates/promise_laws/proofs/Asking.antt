@@ -24,7 +24,7 @@ use Rattle.sn_plan.specs.Others.{is_up}
 use Rattle.sn_publish.specs.declared.meaning.Meant.{Meant}
 use Rattle.sn_publish.specs.declared.meaning.Meant.TheVariants.{Topic, Refused}
 use Rattle.sn_publish.specs.Publishing.{topic_or_refused, short_name, entry_name, topic_meant, within_limit, publication_meant}
-use Rattle.sn_publish.specs.Recipients.{qos_at, qos_in, qos_for}
+use Rattle.sn_publish.specs.Recipients.{effective_qos, qos_in, qos_for}
 use Rattle.put_laws.proofs.Acked.{none-there}
 use Rattle.promise_laws.specs.Asked.{IsThere, AsksFor, IsNameFor, IsAbout}
 use Rattle.promise_laws.proofs.Serving.{head_there, behind_there, head_or}
@@ -131,7 +131,7 @@ there-or presence q e =
     ] refl e
 
 module _ (name : List ℕ) (qos : ℕ) (v : ClientView) (q : ℕ) where
-  of-greatest : (s : Session) → v.session ≡ Some s → (m : ℕ) → subscribed_qos name s.subscriptions ≡ Some m → qos_at v.pending qos s m ≡ Some q → AsksFor name qos v
+  of-greatest : (s : Session) → v.session ≡ Some s → (m : ℕ) → subscribed_qos name s.subscriptions ≡ Some m → effective_qos v.pending qos s m ≡ Some q → AsksFor name qos v
   of-greatest s is m greatest e =
       let test = and_parts (nat_lt (length v.pending) 1024) (is_up s.presence || nat_lt 0 (min qos m)) (if-some (nat_lt (length v.pending) 1024 && (is_up s.presence || nat_lt 0 (min qos m))) (min qos m) q e) in
       let w = asked-only name s.subscriptions m (greatest_is (asked_qos name s.subscriptions) (Some m) (sym greatest)).among in
@@ -147,7 +147,7 @@ module _ (name : List ℕ) (qos : ℕ) (v : ClientView) (q : ℕ) where
 
   of-session : (s : Session) → v.session ≡ Some s → qos_in v.pending name qos s ≡ Some q → AsksFor name qos v
   of-session s is e =
-      elim (subscribed_qos name s.subscriptions) as (λ o. subscribed_qos name s.subscriptions ≡ o → option_and_then (qos_at v.pending qos s) o ≡ Some q → AsksFor name qos v) [
+      elim (subscribed_qos name s.subscriptions) as (λ o. subscribed_qos name s.subscriptions ≡ o → option_and_then (effective_qos v.pending qos s) o ≡ Some q → AsksFor name qos v) [
         | None ↦ λ _ none. absurd (none-some q none)
         | Some m ↦ λ greatest gets. of-greatest s is m greatest gets
       ] refl e

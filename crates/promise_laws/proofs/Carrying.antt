@@ -42,7 +42,7 @@ use Rattle.sn_flow.specs.declared.accept.GivenWill.{GivenWill}
 use Rattle.sn_flow.specs.declared.accept.GivenWill.TheVariants.{AsItIs, Deleted, Replaced}
 use Rattle.sn_flow.specs.Accept.{going_on, accept, has_no_room}
 use Rattle.sn_flow.specs.Connection.{has_bit, request_of, refusal_of, connect_row, connect, leave, fall_asleep, disconnect_draft, disconnect_of}
-use Rattle.sn_flow.specs.Wills.{congestion, not_supported, dismissed, concluded, topic_given, topic_row, will_topic_in, topic_at, will_of, message_row, message_in, message_at, topic_update_of, message_update_of}
+use Rattle.sn_flow.specs.Wills.{congestion, not_supported, dismissed, concluded, topic_given, topic_row, will_topic_in, will_topic_from, will_of, message_row, message_in, will_message_from, topic_update_of, message_update_of}
 use Rattle.sn_flow.specs.WillUpdate.{topic_asked, topic_set, will_topic_update as topic_update, has_no_place, message_accepted}
 use Rattle.sn_plan.specs.declared.asking.Asked.{Asked}
 use Rattle.sn_plan.specs.declared.asking.Asked.TheVariants.{Topics, Refused}
@@ -187,7 +187,7 @@ module _ (seen : Seen) (A : List ℕ → ℕ → Type 0) where
   topic_in-carried a bound dialog will now Topic = heard-carried bound now (topic_row seen dialog will now) (topic_row-carried dialog will now)
   topic_in-carried a bound dialog will now (Message topic) = stray-carried a bound now
 
-  topic_at-carried : (a : Addr) (bound : Option (List ℕ)) (dialog : Option WillDialog) (will : Option Will) (now : ℕ) → CarriedRow (topic_at seen a bound dialog will now)
+  topic_at-carried : (a : Addr) (bound : Option (List ℕ)) (dialog : Option WillDialog) (will : Option Will) (now : ℕ) → CarriedRow (will_topic_from seen a bound dialog will now)
   topic_at-carried a bound None will now = stray-carried a bound now
   topic_at-carried a bound (Some dialog) will now = topic_in-carried a bound dialog will now dialog.awaited
 
@@ -200,7 +200,7 @@ module _ (seen : Seen) (A : List ℕ → ℕ → Type 0) where
   message_in-carried a bound request message now Topic = stray-carried a bound now
   message_in-carried a bound request message now (Message topic) = heard-carried bound now (message_row seen request topic message now) (message_row-carried request topic message now)
 
-  message_at-carried : (a : Addr) (bound : Option (List ℕ)) (dialog : Option WillDialog) (message : List ℕ) (now : ℕ) → CarriedRow (message_at seen a bound dialog message now)
+  message_at-carried : (a : Addr) (bound : Option (List ℕ)) (dialog : Option WillDialog) (message : List ℕ) (now : ℕ) → CarriedRow (will_message_from seen a bound dialog message now)
   message_at-carried a bound None message now = stray-carried a bound now
   message_at-carried a bound (Some dialog) message now = message_in-carried a bound dialog.request message now dialog.awaited
 

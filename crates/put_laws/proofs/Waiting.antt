@@ -14,7 +14,7 @@ use Rattle.rep_model.proofs.Thin.{pending_at-reads}
 use Rattle.sn_local.specs.Seen.{seen_of}
 use Rattle.sn_plan.specs.declared.plan.Plan.{Plan}
 use Rattle.sn_plan.specs.Flush.{HaveNoGap}
-use Rattle.sn_plan.specs.Own.{IsFresh, AreFresh}
+use Rattle.sn_plan.specs.Own.{IsFreshName, AreFresh}
 use Rattle.sn_plan.proofs.Lists.{all-both}
 use Rattle.sn_plan.proofs.Standing.{fresh-stand}
 use Rattle.row_laws.proofs.Freshness.{IsUnacknowledged, plan-fresh, plan-unacked}
@@ -35,7 +35,7 @@ first_none : (a b : Option Put) → or_else a b ≡ None → a ≡ None
 first_none None b e = refl
 first_none (Some x) b e = absurd (true≢false (ap is_some e))
 
-unput-one : (S A : List Op) (op : Op) → IsFresh (S ++ A) op → IsUnput S op
+unput-one : (S A : List Op) (op : Op) → IsFreshName (S ++ A) op → IsUnput S op
 unput-one S A (OfSession c stamp counter change) h = tt
 unput-one S A (OfPut c put) h = first_none (put_at c S (put.seq, put.origin)) (put_at c A (put.seq, put.origin)) (sym (put_at_both c S A (put.seq, put.origin)) ∙ h)
 unput-one S A (Ack c origin first last) h = tt

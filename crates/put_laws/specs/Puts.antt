@@ -34,8 +34,8 @@ use Rattle.sn_tick.specs.Ticking.{may_advertise, will_puts, tick}
 -- The message is for one of these clients, a recipient of a publication to this topic with this
 -- body that comes at this quality of service. It has the quality of service at which that client
 -- gets it.
-abbrev pub IsAmong : Seen → List (List ℕ) → List ℕ → ℕ → List ℕ → NewPut → Type 0
-IsAmong seen clients topic qos body p =
+abbrev pub IsAmongRecipients : Seen → List (List ℕ) → List ℕ → ℕ → List ℕ → NewPut → Type 0
+IsAmongRecipients seen clients topic qos body p =
     Contains clients p.client × (qos_for topic qos (seen.of p.client) ≡ Some p.qos)
     × (p.topic ≡ topic) × (p.body ≡ body)
 

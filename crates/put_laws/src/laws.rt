@@ -33,7 +33,7 @@ ghost use Rattle.sn_subscribe.specs.Handing.{at_most, handed_for};
 ghost use Rattle.sn_deliver.specs.Steps.{step};
 ghost use Rattle.sn_tick.specs.Ticking.{tick};
 ghost use Rattle.put_laws.specs.Retained.{handed_by, kept_of, kept_by_tick};
-ghost use Rattle.put_laws.specs.Puts.{HasReceived, IsAmong, IsReplyTo, IsWaiting, IsOfGateway, IsPublished, puts_by_tick, puts_of};
+ghost use Rattle.put_laws.specs.Puts.{HasReceived, IsAmongRecipients, IsReplyTo, IsWaiting, IsOfGateway, IsPublished, puts_by_tick, puts_of};
 
 /// What a gateway accepts it puts, with that step one message for each recipient, and they wait. A
 /// PUBLISH makes the messages of its recipients, a client that is taken for lost those of its will,
@@ -73,10 +73,12 @@ pub fn accepted_is_put()
         → IsPublished predefined seen local a flags.bits topic 2 body (new_messages plan.ops)
         ⊎ HasReceived seen local a msg_id }
     ensures recipients { (seen : Seen) (topic : List ℕ) (qos : ℕ) (body : List ℕ) (p : NewPut)
-        → Contains (puts_for seen topic qos body) p ↔ IsAmong seen seen.all topic qos body p }
+        → Contains (puts_for seen topic qos body) p ↔ IsAmongRecipients seen seen.all topic qos body
+        p }
     ensures wills { (seen : Seen) (c : List ℕ) (will : Will) (p : NewPut)
         → Contains (puts_of_will seen c will) p
-        ↔ IsAmong seen (filter (is_another c) seen.all) will.topic will.qos will.message p }
+        ↔ IsAmongRecipients seen
+        (filter (is_another c) seen.all) will.topic will.qos will.message p }
     ensures once { (g : ℕ) (S : List Op) (plan : Plan) → IsOfGateway g S plan
         → IsOneEach (new_messages plan.ops) }
     ensures kept { (g : ℕ) (S : List Op) (plan : Plan) → IsOfGateway g S plan → HaveNoGap g S

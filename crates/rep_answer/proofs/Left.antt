@@ -23,17 +23,17 @@ use Rattle.rep_digest.specs.declared.entry.OriginEntry.{OriginEntry}
 use Rattle.rep_digest.specs.declared.entry.ClientEntry.{ClientEntry}
 use Rattle.rep_digest.specs.Digests.{Digested}
 use Rattle.rep_answer.specs.Answers.{entry_of, ranges_of, acknowledged_in, waiting_in, sees, covers_operation, covers_put, covers_acknowledgement, covers_retain, IsRest}
-use Rattle.rep_digest.specs.WellMade.{IsOrigin, IsEntry, IsDigest}
-use Rattle.rep_answer.specs.inner.Steps.{outside, ack_of_range, left_by_digest, IsLeft}
+use Rattle.rep_digest.specs.WellMade.{IsOriginEntry, IsDigestEntry, IsDigest}
+use Rattle.rep_answer.specs.inner.Steps.{outside, ack_of_range, left_by_digest, IsLeftByDigest}
 use Rattle.rep_answer.proofs.Reaching.{in_outside, IsPartOf, parts}
 
 -- ---- the ranges that an entry has are apart
 
-found_origin : (test : OriginEntry → Bool) (os : List OriginEntry) → AllByRecursion IsOrigin os → AreApart (ranges_of (λ o. o.acknowledged) (find_first test os))
+found_origin : (test : OriginEntry → Bool) (os : List OriginEntry) → AllByRecursion IsOriginEntry os → AreApart (ranges_of (λ o. o.acknowledged) (find_first test os))
 found_origin test [] h = tt
 found_origin test (o ∷ os) h = elim (test o) as (λ b. AreApart (ranges_of (λ o. o.acknowledged) (cond b (Some o) (find_first test os)))) [ true ↦ h.0.acknowledged.1 | false ↦ found_origin test os h.1 ]
 
-found_entry : (test : ClientEntry → Bool) (origin : ℕ) (d : List ClientEntry) → AllByRecursion IsEntry d → AreApart (acknowledged_in origin (find_first test d))
+found_entry : (test : ClientEntry → Bool) (origin : ℕ) (d : List ClientEntry) → AllByRecursion IsDigestEntry d → AreApart (acknowledged_in origin (find_first test d))
 found_entry test origin [] h = tt
 found_entry test origin (e ∷ d) h = elim (test e) as (λ b. AreApart (acknowledged_in origin (cond b (Some e) (find_first test d)))) [ true ↦ found_origin (λ o. origin == o.origin) e.origins h.0.origins | false ↦ found_entry test origin d h.1 ]
 
@@ -283,11 +283,11 @@ module _ (d : Digested) (is : IsDigest d) where
   left_made (op ∷ W) made = all_of_both (left_by_digest d op) (flat_map (left_by_digest d) W) (made_one op made.0) (left_made W made.1)
 
   -- what is left of what a replica hands out
-  pub left_held : (K : List Op) (held : List (List Op)) (X : List Op) → IsHeld K held → X ≡ flat_map (left_by_digest d) (all_of held) → AreWellMade X × IsLeft d K X
+  pub left_held : (K : List Op) (held : List (List Op)) (X : List Op) → IsHeld K held → X ≡ flat_map (left_by_digest d) (all_of held) → AreWellMade X × IsLeftByDigest d K X
   left_held K held X h e =
       let W = all_of held in
       let whole : h.0 ≡ W = sym h.2.whole in
       let delta : IsDeltaOf (keep K) W = subst (λ (V : List Op). IsDeltaOf (keep K) V) whole h.1 in (
         subst AreWellMade (sym e) (left_made W delta.delta.well_made),
-        subst (λ (Y : List Op). IsLeft d K Y) (sym e) (is_rest (keep K) W delta.delta.well_made delta.same),
+        subst (λ (Y : List Op). IsLeftByDigest d K Y) (sym e) (is_rest (keep K) W delta.delta.well_made delta.same),
       )

@@ -8,9 +8,9 @@ ghost use Rattle.rep_op.specs.WellMade as made;
 ghost use Rattle.rep_model.specs.Ranges as range_list;
 ghost use Rattle.rep_answer.specs.Answers.{IsAnswer};
 ghost use Rattle.rep_answer.specs.Answers as spec;
-ghost use Rattle.rep_digest.specs.WellMade.{IsEntry, AreClients};
+ghost use Rattle.rep_digest.specs.WellMade.{IsDigestEntry, AreClients};
 ghost use Rattle.rep_answer.specs.Answers.{entry_of};
-ghost use Rattle.rep_answer.specs.inner.Steps.{before, outside, outside_from, ack_of_range, left_by_entry, left_by_digest, IsLeft};
+ghost use Rattle.rep_answer.specs.inner.Steps.{before, outside, outside_from, ack_of_range, left_by_entry, left_by_digest, IsLeftByDigest};
 ghost use Rattle.rep_answer.specs.inner.Steps as steps;
 
 use super::cover::{
@@ -44,7 +44,7 @@ fn left_of_replica<R: Replica>(
     digest: &Digest,
 ) -> Result<Vec<Op>, NoMemory>
     ensures { IfOk result (λ ops. AreWellMade ops.items
-        × IsLeft digest.now (R.kept replica.now) ops.items) }
+        × IsLeftByDigest digest.now (R.kept replica.now) ops.items) }
 {
     let _clients = digest.clients();
     let Ok(held) = replica.held(alloc) else {
@@ -121,7 +121,7 @@ fn add_left_by(
     entry: &ClientEntry,
     op: &Op,
 ) -> Result<(), NoMemory>
-    requires entry { IsEntry entry.now }
+    requires entry { IsDigestEntry entry.now }
     requires made { IsTrue (made.is_well_made op.now) }
     ensures { OnOk result
         (left.new.items ≡ left.old.items ++ left_by_entry (Some entry.now) op.now) }
@@ -167,7 +167,7 @@ fn add_copy(alloc: Global, left: &mut Vec<Op>, op: &Op) -> Result<(), NoMemory>
 
 /// Whether a message waits or is acknowledged.
 fn covers(entry: &ClientEntry, origin: u8, seq: u64) -> bool
-    requires { IsEntry entry.now }
+    requires { IsDigestEntry entry.now }
     ensures { result
         ≡ (range_list.in_ranges seq (spec.waiting_in origin (Some entry.now))
         || range_list.in_ranges seq

@@ -5,7 +5,7 @@ use Rattle.std.specs.Int.{w16, w32, w64, to_be_bytes}
 use Rattle.std.proofs.lemmas.Bool.{and_parts, and_from, ne_eqb, eqb-false}
 use Rattle.rep_op.specs.ClientIds.{IsClientId}
 use Rattle.rep_op.specs.declared.op.Stamp.{Stamp}
-use Rattle.rep_read.specs.Reading.{both, made_from, ranged, octet_at, number_at, is_positive, client_at, topic_at, range_at}
+use Rattle.rep_read.specs.Reading.{both, made_from, ranged, octet_at, number_at, is_positive, client_id_at, topic_at, range_at}
 use Rattle.sn_topic.specs.Topics.{IsName}
 use Rattle.rep_op.specs.Sessions.{text_octets}
 use Rattle.rep_op.specs.Spelling.{client_octets}
@@ -20,7 +20,7 @@ use Rattle.rep_digest.specs.declared.entry.RetainedEntry.{RetainedEntry}
 use Rattle.rep_digest.specs.Digests.{has_ranges}
 use Rattle.rep_digest.specs.WellMade.{IsRange, IsSeen}
 use Rattle.rep_digest.specs.Spelling.{range_octets, ranges_octets, origin_octets, seen_octets, origins_octets, entry_octets, retained_entry_octets}
-use Rattle.rep_digest.specs.Reading.{ranges_at, origin_of, origin_at, is_seen, stamp_from, seen_at, origins_at, client_entry_from, entry_at, retained_entry_from, retained_at}
+use Rattle.rep_digest.specs.Reading.{ranges_at, origin_of, origin_at, is_seen, stamp_from, seen_at, origins_at, client_entry_from, client_entry_at, retained_entry_from, retained_at}
 
 -- ---- ranges
 
@@ -167,11 +167,11 @@ entry_back e h =
     let same : client_entry_from x ≡ e = λ i. record { client = e.client; stamp = b.stamp i; prefix = b.prefix_is i; origins = e.origins } in
     (x, same, (h.client, (b.fits, h.origins)), ap (λ (z : List ℕ). client_octets e.client ++ (z ++ origins_octets e.origins)) b.text)
 
-pub entry_law : Law entry_at entry_octets FitsEntry
-unfolding entry_at
+pub entry_law : Law client_entry_at entry_octets FitsEntry
+unfolding client_entry_at
 entry_law =
-    made_law client_entry_from (both client_at (both seen_at origins_at)) entry_text FitsEntryParts
-    (both_law client_at client_octets IsClientId client_law (both seen_at origins_at) _ _ (both_law seen_at seen_text FitsSeen seen_law origins_at origins_octets FitsOrigins origins_law))
+    made_law client_entry_from (both client_id_at (both seen_at origins_at)) entry_text FitsEntryParts
+    (both_law client_id_at client_octets IsClientId client_law (both seen_at origins_at) _ _ (both_law seen_at seen_text FitsSeen seen_law origins_at origins_octets FitsOrigins origins_law))
     entry_octets FitsEntry entry_over entry_back
 
 -- ---- topics

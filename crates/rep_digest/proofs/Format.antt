@@ -25,10 +25,10 @@ use Rattle.rep_digest.specs.declared.entry.OriginEntry.{OriginEntry}
 use Rattle.rep_digest.specs.declared.entry.ClientEntry.{ClientEntry}
 use Rattle.rep_digest.specs.declared.entry.RetainedEntry.{RetainedEntry}
 use Rattle.rep_digest.specs.Digests.{Digested}
-use Rattle.rep_digest.specs.WellMade.{IsRange, IsOrigin, OriginsAscend, IsEntry, ClientsAscend, AreClients, IsRetained, TopicsAscend, AreTopics, IsDigest}
+use Rattle.rep_digest.specs.WellMade.{IsRange, IsOriginEntry, OriginsAscend, IsDigestEntry, ClientsAscend, AreClients, IsRetained, TopicsAscend, AreTopics, IsDigest}
 use Rattle.rep_digest.specs.Spelling.{ranges_octets, range_octets, origin_octets, seen_octets, origins_octets, entry_octets, retained_entry_octets, topics_octets, spelled, digest_spelling, IsDigestWithinLimit}
-use Rattle.rep_digest.specs.inner.Spelling.{HaveFewRanges, IsWritable}
-use Rattle.rep_digest.specs.Reading.{entry_at, retained_at, ranges_apart, are_apart, origins_ascend, is_ordered, is_client_next, entry_may_follow, topic_may_follow, topics_at, of_clients, of_both, clients_at, digest_at, digest_reading}
+use Rattle.rep_digest.specs.inner.Spelling.{HaveFewRanges, IsEntryWritable}
+use Rattle.rep_digest.specs.Reading.{client_entry_at, retained_at, ranges_apart, are_apart, origins_ascend, is_ordered, is_client_next, entry_may_follow, topic_may_follow, retained_entries_at, of_clients, of_both, clients_at, digest_at, digest_reading}
 use Rattle.rep_digest.proofs.Entries.{FitsOrigin, FitsEntry, entry_law, FitsRetained, retained_law}
 
 -- ---- the order
@@ -102,7 +102,7 @@ order = record {
 
 -- ---- what was read is a digest
 
-an_origin : (o : OriginEntry) → FitsOrigin o → are_apart o ≡ true → IsOrigin o
+an_origin : (o : OriginEntry) → FitsOrigin o → are_apart o ≡ true → IsOriginEntry o
 an_origin o h e =
     let w = and_parts (ranges_apart o.acknowledged) (ranges_apart o.waiting) e in
     record {
@@ -113,16 +113,16 @@ an_origin o h e =
       waiting = (h.0.1.1.1, apart_from o.waiting h.0.1.1.1 w.1);
     }
 
-some_origins : (os : List OriginEntry) → AllByRecursion FitsOrigin os → list_all are_apart os ≡ true → AllByRecursion IsOrigin os
+some_origins : (os : List OriginEntry) → AllByRecursion FitsOrigin os → list_all are_apart os ≡ true → AllByRecursion IsOriginEntry os
 some_origins [] h e = tt
 some_origins (o ∷ os) h e = let w = and_parts (are_apart o) (list_all are_apart os) e in (an_origin o h.0 w.0, some_origins os h.1 w.1)
 
-an_entry : (e : ClientEntry) → FitsEntry e → is_ordered e ≡ true → IsEntry e
+an_entry : (e : ClientEntry) → FitsEntry e → is_ordered e ≡ true → IsDigestEntry e
 an_entry e h t =
     let w = and_parts (list_all are_apart e.origins) (origins_ascend e.origins) t in
     record { client = h.client; seen = h.seen; origins = some_origins e.origins h.origins.1 w.0; ascend = ascend_from e.origins w.1 }
 
-some_entries : (d : List ClientEntry) → AllByRecursion FitsEntry d → AllByRecursion (λ e. is_ordered e ≡ true) d → AllByRecursion IsEntry d
+some_entries : (d : List ClientEntry) → AllByRecursion FitsEntry d → AllByRecursion (λ e. is_ordered e ≡ true) d → AllByRecursion IsDigestEntry d
 some_entries [] h up = tt
 some_entries (e ∷ d) h up = (an_entry e h.0 up.0, some_entries d h.1 up.1)
 
@@ -157,7 +157,7 @@ begins o [] up = (tt, tt)
 begins o (p ∷ os) up = (omega (arith, up.0), up.1)
 
 -- at most one origin for each number
-few_origins : (os : List OriginEntry) (start : ℕ) → AllByRecursion IsOrigin os → OriginsAscend os → BeginsAt start os → start ≤ 256 → length os + start ≤ 256
+few_origins : (os : List OriginEntry) (start : ℕ) → AllByRecursion IsOriginEntry os → OriginsAscend os → BeginsAt start os → start ≤ 256 → length os + start ≤ 256
 few_origins [] start h up low le = omega (arith, le)
 few_origins (o ∷ os) start h up low le =
     let top = h.0.octet in
@@ -171,7 +171,7 @@ few_ranges rs n size le =
     let sum = length-append (big_bytes 4 (length rs)) (flat_map range_octets rs) in
     omega (arith, some, sum, size, le)
 
-fits_origin : (o : OriginEntry) (n : ℕ) → length (origin_octets o) ≤ n → n ≤ max_octets → IsOrigin o → FitsOrigin o
+fits_origin : (o : OriginEntry) (n : ℕ) → length (origin_octets o) ≤ n → n ≤ max_octets → IsOriginEntry o → FitsOrigin o
 fits_origin o n size le h =
     let sum = length-append (ranges_octets o.acknowledged) (ranges_octets o.waiting) in
     let first : length (ranges_octets o.acknowledged) ≤ n = omega (arith, sum, size) in
@@ -187,11 +187,11 @@ followed : {A : Type 0} (P Q : A → Type 0) (xs : List A) → AllByRecursion (�
 followed P Q [] f h = tt
 followed P Q (x ∷ xs) f h = (f.0 h.0, followed P Q xs f.1 h.1)
 
-first_number : (os : List OriginEntry) → AllByRecursion IsOrigin os → BeginsAt 1 os
+first_number : (os : List OriginEntry) → AllByRecursion IsOriginEntry os → BeginsAt 1 os
 first_number [] h = tt
 first_number (o ∷ os) h = h.0.number
 
-fits_entry : (e : ClientEntry) (n : ℕ) → length (entry_octets e) ≤ n → n ≤ max_octets → IsEntry e → FitsEntry e
+fits_entry : (e : ClientEntry) (n : ℕ) → length (entry_octets e) ≤ n → n ≤ max_octets → IsDigestEntry e → FitsEntry e
 fits_entry e n size le h =
     let outer = length-append (client_octets e.client) (seen_octets e.stamp e.prefix ++ origins_octets e.origins) in
     let inner = length-append (seen_octets e.stamp e.prefix) (origins_octets e.origins) in
@@ -203,20 +203,20 @@ fits_entry e n size le h =
       seen = h.seen;
       origins = (
         omega (arith, few),
-        followed IsOrigin FitsOrigin e.origins
-            (each_within origin_octets (λ (o : OriginEntry). IsOrigin o → FitsOrigin o) e.origins n part (λ o s. fits_origin o n s le)) h.origins,
+        followed IsOriginEntry FitsOrigin e.origins
+            (each_within origin_octets (λ (o : OriginEntry). IsOriginEntry o → FitsOrigin o) e.origins n part (λ o s. fits_origin o n s le)) h.origins,
       );
     }
 
-all_apart : (os : List OriginEntry) → AllByRecursion IsOrigin os → list_all are_apart os ≡ true
+all_apart : (os : List OriginEntry) → AllByRecursion IsOriginEntry os → list_all are_apart os ≡ true
 all_apart [] h = refl
 all_apart (o ∷ os) h = and_from (are_apart o) (list_all are_apart os)
     (and_from (ranges_apart o.acknowledged) (ranges_apart o.waiting) (from_apart 0 o.acknowledged h.0.acknowledged.1) (from_apart 0 o.waiting h.0.waiting.1)) (all_apart os h.1)
 
-ordered : (e : ClientEntry) → IsEntry e → is_ordered e ≡ true
+ordered : (e : ClientEntry) → IsDigestEntry e → is_ordered e ≡ true
 ordered e h = and_from (list_all are_apart e.origins) (origins_ascend e.origins) (all_apart e.origins h.origins) (from_ascend e.origins h.ascend)
 
-all_ordered : (d : List ClientEntry) → AllByRecursion IsEntry d → AllByRecursion (λ e. is_ordered e ≡ true) d
+all_ordered : (d : List ClientEntry) → AllByRecursion IsDigestEntry d → AllByRecursion (λ e. is_ordered e ≡ true) d
 all_ordered [] h = tt
 all_ordered (e ∷ d) h = (ordered e h.0, all_ordered d h.1)
 
@@ -227,7 +227,7 @@ fits_text d h size =
     let part : length (flat_map entry_octets d) ≤ max_octets = omega (arith, sum, size) in
     record {
       few = omega (arith, some, part);
-      fits = followed IsEntry FitsEntry d (each_within entry_octets (λ (e : ClientEntry). IsEntry e → FitsEntry e) d max_octets part (λ e s. fits_entry e max_octets s (omega arith))) h.entries;
+      fits = followed IsDigestEntry FitsEntry d (each_within entry_octets (λ (e : ClientEntry). IsDigestEntry e → FitsEntry e) d max_octets part (λ e s. fits_entry e max_octets s (omega arith))) h.entries;
       ascending = (all_ordered d h.entries, h.ascend);
     }
 
@@ -287,7 +287,7 @@ abbrev FitsTopics : List RetainedEntry → Type 0
 FitsTopics ts = FitsText FitsRetained TopicsAscend ts
 
 clients_law : Law clients_at clients_text FitsClients
-clients_law = values_law entry_at entry_octets FitsEntry entry_law entry_may_follow Up order
+clients_law = values_law client_entry_at entry_octets FitsEntry entry_law entry_may_follow Up order
 
 listed_law : Law (values_at retained_at topic_may_follow) topics_octets FitsTopics
 listed_law = values_law retained_at retained_entry_octets FitsRetained retained_law topic_may_follow TopicsAscend topics_order
@@ -309,8 +309,8 @@ some_stable false x more = inr refl
 abbrev AreSome : List RetainedEntry → Type 0
 AreSome ts = FitsTopics ts × ((length ts == 0) ≡ false)
 
-topics_law : Law topics_at topics_octets AreSome
-unfolding topics_at
+topics_law : Law retained_entries_at topics_octets AreSome
+unfolding retained_entries_at
 topics_law = record {
   takes = λ bytes x fits e.
       let b = bind_ok (values_at retained_at topic_may_follow bytes) if_some x e in
@@ -335,9 +335,9 @@ FitsBoth d = FitsClients d.clients × AreSome d.topics
 abbrev both_text : Digested → List ℕ
 both_text d = clients_text d.clients ++ topics_octets d.topics
 
-two_law : Law (made_from of_both (both clients_at topics_at)) both_text FitsBoth
-two_law = made_law of_both (both clients_at topics_at) (λ x. clients_text x.0 ++ topics_octets x.1) (λ x. FitsClients x.0 × AreSome x.1)
-    (both_law clients_at clients_text FitsClients clients_law topics_at topics_octets AreSome topics_law) both_text FitsBoth
+two_law : Law (made_from of_both (both clients_at retained_entries_at)) both_text FitsBoth
+two_law = made_law of_both (both clients_at retained_entries_at) (λ x. clients_text x.0 ++ topics_octets x.1) (λ x. FitsClients x.0 × AreSome x.1)
+    (both_law clients_at clients_text FitsClients clients_law retained_entries_at topics_octets AreSome topics_law) both_text FitsBoth
     (λ x h. (refl, h)) (λ d h. ((d.clients, d.topics), refl, h, refl))
 
 abbrev pub FitsDigest : Digested → Type 0
@@ -360,7 +360,7 @@ took_one octet bytes after x is parts fits e =
       fits = (t.fits.0, subst FitsTopics (sym none) no_topics);
     }
 
-took_two : (octet : ℕ) (bytes after : List ℕ) (x : Digested × List ℕ) → octet ≡ 2 → bytes ≡ octet ∷ after → IsBytes after → made_from of_both (both clients_at topics_at) after ≡ Ok x → Taken digest_spelling FitsDigest bytes x
+took_two : (octet : ℕ) (bytes after : List ℕ) (x : Digested × List ℕ) → octet ≡ 2 → bytes ≡ octet ∷ after → IsBytes after → made_from of_both (both clients_at retained_entries_at) after ≡ Ok x → Taken digest_spelling FitsDigest bytes x
 took_two octet bytes after x is parts fits e =
     let t = two_law.takes after x fits e in
     record {
@@ -370,7 +370,7 @@ took_two octet bytes after x is parts fits e =
     }
 
 abbrev by_version : ℕ × List ℕ → Result (Digested × List ℕ) OpsFault
-by_version x = cond (x.0 == 1) (made_from of_clients clients_at x.1) (cond (x.0 == 2) (made_from of_both (both clients_at topics_at) x.1) (Err faults.Version))
+by_version x = cond (x.0 == 1) (made_from of_clients clients_at x.1) (cond (x.0 == 2) (made_from of_both (both clients_at retained_entries_at) x.1) (Err faults.Version))
 
 digest_takes : (bytes : List ℕ) (x : Digested × List ℕ) → IsBytes bytes → digest_at bytes ≡ Ok x → Taken digest_spelling FitsDigest bytes x
 unfolding digest_at
@@ -380,9 +380,9 @@ digest_takes bytes x fits e =
     elim (cases_Bool (b.0.0 == 1)) [
       | inl one ↦ (let read : made_from of_clients clients_at b.0.1 ≡ Ok x = rw one at b.2 in took_one b.0.0 bytes b.0.1 x (eqb-true _ _ one) t.parts t.rest read)
       | inr not_one ↦ (
-          let next : cond (b.0.0 == 2) (made_from of_both (both clients_at topics_at) b.0.1) (Err faults.Version) ≡ Ok x = rw not_one at b.2 in
+          let next : cond (b.0.0 == 2) (made_from of_both (both clients_at retained_entries_at) b.0.1) (Err faults.Version) ≡ Ok x = rw not_one at b.2 in
           elim (cases_Bool (b.0.0 == 2)) [
-            | inl two ↦ (let read : made_from of_both (both clients_at topics_at) b.0.1 ≡ Ok x = rw two at next in took_two b.0.0 bytes b.0.1 x (eqb-true _ _ two) t.parts t.rest read)
+            | inl two ↦ (let read : made_from of_both (both clients_at retained_entries_at) b.0.1 ≡ Ok x = rw two at next in took_two b.0.0 bytes b.0.1 x (eqb-true _ _ two) t.parts t.rest read)
             | inr neither ↦ absurd (let wrong : Err faults.Version ≡ Ok x = rw neither at next in cc)
           ])
     ]
@@ -438,11 +438,11 @@ fits_digest d h size =
 few_origin : (o : OriginEntry) → FitsOrigin o → HaveFewRanges o
 few_origin o h = (h.0.1.0.0, h.0.1.1.0)
 
-a_writable : (e : ClientEntry) → FitsEntry e → IsWritable e
+a_writable : (e : ClientEntry) → FitsEntry e → IsEntryWritable e
 a_writable e h = record { origins = h.origins.0; ranges = each_weaker FitsOrigin HaveFewRanges few_origin e.origins h.origins.1 }
 
-pub writable : (d : List ClientEntry) → AreClients d → length (text_of One entry_octets d) ≤ max_octets → AllByRecursion IsWritable d
-writable d h size = each_weaker FitsEntry IsWritable a_writable d (fits_text d h size).fits
+pub writable : (d : List ClientEntry) → AreClients d → length (text_of One entry_octets d) ≤ max_octets → AllByRecursion IsEntryWritable d
+writable d h size = each_weaker FitsEntry IsEntryWritable a_writable d (fits_text d h size).fits
 
 -- ---- the whole
 

@@ -26,7 +26,7 @@ use Rattle.rep_model.proofs.Greatest.{has, greatest-has}
 use Rattle.rep_model.proofs.Named.{clients-named, clients-ascend}
 use Rattle.rep_model.proofs.Limits.{in-acknowledged, apart-acknowledged}
 use Rattle.rep_digest.specs.Digests.{number_as_range, waiting, origin_entry, has_ranges, numbers_from, origin_entries, client_entry, client_entries, digest}
-use Rattle.rep_digest.specs.WellMade.{IsRange, IsOrigin, IsSeen, IsEntry, ClientsAscend, AreClients, IsDigest}
+use Rattle.rep_digest.specs.WellMade.{IsRange, IsOriginEntry, IsSeen, IsDigestEntry, ClientsAscend, AreClients, IsDigest}
 use Rattle.rep_digest.proofs.Waiting.{waiting_there}
 use Rattle.rep_digest.proofs.Said.{are_numbers}
 use Rattle.rep_digest.proofs.Occurring.{origins_up}
@@ -122,7 +122,7 @@ module _ (W : List Op) (made : AreWellMade W) (values : AreValues W) where
       let high = each r.1 (or_left (is_within r.1 r) (in_ranges r.1 rs) (and_from (nat_le r.0 r.1) (nat_le r.1 r.1) (le-leb r.0 r.1 h.1) (le-leb r.1 r.1 (omega arith)))) in
       (record { first = low.0; last = h.1; wide = high.1 }, are_ranges c (r.1 + 2) rs h.2 (λ n e. each n (or_right (is_within n r) (in_ranges n rs) e)))
 
-  an_origin : (c : List ℕ) (o : ℕ) → 1 ≤ o → o < 256 → has_ranges (origin_entry c W o) ≡ true → IsOrigin (origin_entry c W o)
+  an_origin : (c : List ℕ) (o : ℕ) → 1 ≤ o → o < 256 → has_ranges (origin_entry c W o) ≡ true → IsOriginEntry (origin_entry c W o)
   an_origin c o low high some = record {
     number = low;
     octet = high;
@@ -131,12 +131,12 @@ module _ (W : List Op) (made : AreWellMade W) (values : AreValues W) where
     waiting = (are_ranges c 0 (waiting c o W) (apart-waiting c o) (λ n e. put_there c (n, o) (waiting_there c o n W e)), apart-waiting c o);
   }
 
-  origins_made : (c : List ℕ) (start n : ℕ) → 1 ≤ start → start + n ≤ 256 → AllByRecursion IsOrigin (filter has_ranges (map (origin_entry c W) (numbers_from start n)))
+  origins_made : (c : List ℕ) (start n : ℕ) → 1 ≤ start → start + n ≤ 256 → AllByRecursion IsOriginEntry (filter has_ranges (map (origin_entry c W) (numbers_from start n)))
   unfolding numbers_from
   origins_made c start zero low high = tt
   origins_made c start (suc n) low high =
       let rest = origins_made c (start + 1) n (omega (arith, low)) (omega (arith, high)) in
-      elim (has_ranges (origin_entry c W start)) as (λ b. has_ranges (origin_entry c W start) ≡ b → AllByRecursion IsOrigin (cond b (origin_entry c W start ∷ filter has_ranges (map (origin_entry c W) (numbers_from (start + 1) n))) (filter has_ranges (map (origin_entry c W) (numbers_from (start + 1) n))))) [
+      elim (has_ranges (origin_entry c W start)) as (λ b. has_ranges (origin_entry c W start) ≡ b → AllByRecursion IsOriginEntry (cond b (origin_entry c W start ∷ filter has_ranges (map (origin_entry c W) (numbers_from (start + 1) n))) (filter has_ranges (map (origin_entry c W) (numbers_from (start + 1) n))))) [
         | true ↦ λ some. (an_origin c start low (omega (arith, high)) some, rest)
         | false ↦ λ _. rest
       ] refl
@@ -184,7 +184,7 @@ module _ (W : List Op) (made : AreWellMade W) (values : AreValues W) where
             | false ↦ λ _ rest. named_in c V v.1 rest
           ] refl e
 
-  entry_made : (c : List ℕ) → is_named c W ≡ true → IsEntry (client_entry W c)
+  entry_made : (c : List ℕ) → is_named c W ≡ true → IsDigestEntry (client_entry W c)
   unfolding origin_entries
   entry_made c named = record {
     client = client_made c named;
@@ -193,7 +193,7 @@ module _ (W : List Op) (made : AreWellMade W) (values : AreValues W) where
     ascend = (origins_up (origin_entry c W) (λ m. refl) 1 255).1;
   }
 
-  entries_made : (cs : List (List ℕ)) → AllByRecursion (λ c. is_named c W ≡ true) cs → AllByRecursion IsEntry (map (client_entry W) cs)
+  entries_made : (cs : List (List ℕ)) → AllByRecursion (λ c. is_named c W ≡ true) cs → AllByRecursion IsDigestEntry (map (client_entry W) cs)
   entries_made [] h = tt
   entries_made (c ∷ cs) h = (entry_made c h.0, entries_made cs h.1)
 

@@ -8,7 +8,7 @@ use Rattle.rep_op.specs.declared.fault.OpsFault.TheVariants as faults
 use Rattle.rep_op.specs.declared.op.TheConstants.{MAX_OPERATIONS}
 use Rattle.rep_op.specs.declared.op.Stamp.{Stamp}
 use Rattle.rep_op.specs.Orders.{client_cmp, topic_name_cmp}
-use Rattle.rep_read.specs.Reading.{Reader, ◌>>=◌, both, made_from, ranged, octet_at, number_at, is_positive, client_at, topic_at, range_at, counted_by}
+use Rattle.rep_read.specs.Reading.{Reader, ◌>>=◌, both, made_from, ranged, octet_at, number_at, is_positive, client_id_at, topic_at, range_at, counted_by}
 use Rattle.rep_ops.specs.Reading.{follows_last, values_at, reading_by}
 use Rattle.rep_digest.specs.declared.entry.OriginEntry.{OriginEntry}
 use Rattle.rep_digest.specs.declared.entry.ClientEntry.{ClientEntry}
@@ -55,8 +55,8 @@ client_entry_from x =
     record { client = x.0; stamp = stamp_from x.1.0; prefix = x.1.0.1.1; origins = x.1.1 }
 
 -- a client's entry: its name, epoch, gateway, prefix, and origins
-unfoldable pub entry_at : Reader ClientEntry
-entry_at = made_from client_entry_from (both client_at (both seen_at origins_at))
+unfoldable pub client_entry_at : Reader ClientEntry
+client_entry_at = made_from client_entry_from (both client_id_at (both seen_at origins_at))
 
 -- a topic's entry, of its name, clock and gateway
 abbrev pub retained_entry_from : List ℕ × (ℕ × ℕ) → RetainedEntry
@@ -109,8 +109,8 @@ topic_may_follow entries e = follows_last is_next_topic entries e
 -- ---- the whole
 
 -- entries of topics, which version 2 needs. That there is one is checked after them.
-unfoldable pub topics_at : Reader (List RetainedEntry)
-topics_at bytes =
+unfoldable pub retained_entries_at : Reader (List RetainedEntry)
+retained_entries_at bytes =
     values_at retained_at topic_may_follow bytes >>= λ x.
     if length x.0 == 0 then Err faults.Version else Ok x
 
@@ -124,7 +124,7 @@ of_both x = record { clients = x.0; topics = x.1 }
 
 -- the entries of clients
 abbrev pub clients_at : Reader (List ClientEntry)
-clients_at = values_at entry_at entry_may_follow
+clients_at = values_at client_entry_at entry_may_follow
 
 -- a digest of version 1, after its version
 abbrev pub alone_at : Reader Digested
@@ -132,7 +132,7 @@ alone_at = made_from of_clients clients_at
 
 -- a digest of version 2, after its version
 abbrev pub both_at : Reader Digested
-both_at = made_from of_both (both clients_at topics_at)
+both_at = made_from of_both (both clients_at retained_entries_at)
 
 -- the version, the entries of clients, and in version 2 the entries of topics
 unfoldable pub digest_at : Reader Digested

@@ -9,7 +9,7 @@ ghost use Rattle.std.specs.Prelude.{◌≡◌, []};
 ghost use Rattle.rep_read.specs.Reading.{ReadsAs};
 ghost use Rattle.rep_ops.specs.Reading.{listed_at, values_at};
 ghost use Rattle.rep_digest.specs.Digests.{digested};
-ghost use Rattle.rep_digest.specs.Reading.{entry_at, retained_at, topics_at, digest_at, digest_reading};
+ghost use Rattle.rep_digest.specs.Reading.{client_entry_at, retained_at, retained_entries_at, digest_at, digest_reading};
 ghost use Rattle.rep_digest.specs.Reading as spec;
 
 use super::entry::{ClientEntry, RetainedEntry};
@@ -26,7 +26,7 @@ fn read_entries(
     bytes: &[u8],
 ) -> Result<(Vec<ClientEntry>, &[u8]), OpsFault>
     ensures { ReadsAs (λ x. (x.0.items, x.1.now)) result
-        (listed_at entry_at spec.entry_may_follow count []
+        (listed_at client_entry_at spec.entry_may_follow count []
         bytes.now) }
 {
     let mut entries = Vec::new(alloc);
@@ -46,7 +46,7 @@ fn read_entries(
 /// The count, and so many entries of clients.
 fn read_clients(alloc: Global, bytes: &[u8]) -> Result<(Vec<ClientEntry>, &[u8]), OpsFault>
     ensures { ReadsAs (λ x. (x.0.items, x.1.now)) result
-        (values_at entry_at spec.entry_may_follow bytes.now) }
+        (values_at client_entry_at spec.entry_may_follow bytes.now) }
 {
     let (count, rest) = read_four(bytes)?;
     read_entries(alloc, count, rest)
@@ -86,9 +86,9 @@ fn read_listed(alloc: Global, bytes: &[u8]) -> Result<(Vec<RetainedEntry>, &[u8]
 }
 
 /// Entries of topics, of which there is one at least.
-#[tactic(auto, unfolding(crate::specs::Reading::topics_at))]
+#[tactic(auto, unfolding(crate::specs::Reading::retained_entries_at))]
 fn read_topics(alloc: Global, bytes: &[u8]) -> Result<(Vec<RetainedEntry>, &[u8]), OpsFault>
-    ensures { ReadsAs (λ x. (x.0.items, x.1.now)) result (topics_at bytes.now) }
+    ensures { ReadsAs (λ x. (x.0.items, x.1.now)) result (retained_entries_at bytes.now) }
 {
     let (topics, rest) = read_listed(alloc, bytes)?;
     if topics.as_slice().is_empty() {

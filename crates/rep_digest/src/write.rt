@@ -10,7 +10,7 @@ ghost use Rattle.rep_op.specs.declared.version.Version.TheVariants.{One, Two};
 ghost use Rattle.rep_ops.specs.Spelling.{text_of, max_octets};
 ghost use Rattle.rep_digest.specs.WellMade.{AreClients, AreTopics};
 ghost use Rattle.rep_digest.specs.Spelling.{range_octets, ranges_octets, origin_octets, origins_octets, seen_octets, entry_octets, retained_entry_octets, topics_octets, spelled};
-ghost use Rattle.rep_digest.specs.inner.Spelling.{HaveFewRanges, IsWritable};
+ghost use Rattle.rep_digest.specs.inner.Spelling.{HaveFewRanges, IsEntryWritable};
 
 use super::entry::{ClientEntry, OriginEntry, RetainedEntry};
 use octets::{NoMemory, append_u16, append_u32, append_u64};
@@ -90,7 +90,7 @@ fn write_seen(out: &mut Vec<u8>, stamp: Option<Stamp>, prefix: u16) -> Result<()
 
 /// Writes an entry.
 fn write_entry(out: &mut Vec<u8>, entry: &ClientEntry) -> Result<(), NoMemory>
-    requires { IsWritable entry.now }
+    requires { IsEntryWritable entry.now }
     ensures { Writes (entry_octets entry.now) out.old.items out.new.items result }
 {
     write_client(out, &entry.client)?;
@@ -102,7 +102,7 @@ fn write_entry(out: &mut Vec<u8>, entry: &ClientEntry) -> Result<(), NoMemory>
 
 /// Writes entries one after the other.
 fn write_entries(out: &mut Vec<u8>, entries: &[ClientEntry]) -> Result<(), NoMemory>
-    requires { AllByRecursion IsWritable entries.now }
+    requires { AllByRecursion IsEntryWritable entries.now }
     ensures { Writes (flat_map entry_octets entries.now) out.old.items out.new.items result }
 {
     for entry in entries {

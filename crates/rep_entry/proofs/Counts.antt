@@ -15,7 +15,7 @@ use Rattle.rep_shared.specs.Steps.{waits}
 use Rattle.rep_shared.proofs.Workings.{parked_names}
 use Rattle.rep_log.specs.Logs.{visible_in, history_in, IsFoldedOf}
 use Rattle.rep_log.specs.Mail.{Range, is_uncovered, NoneCovered}
-use Rattle.rep_log.specs.Origins.{ranges_at, ranges_in, AreOrigins, above_gaps}
+use Rattle.rep_log.specs.Origins.{ranges_of_origin, ranges_in, AreOrigins, origins_above_gaps}
 use Rattle.rep_log.specs.Kept.{kept_ops}
 use Rattle.rep_log.proofs.Logging.{NoneBelow}
 use Rattle.rep_entry.proofs.Client.{kept_operations, kept_acknowledged}
@@ -46,12 +46,12 @@ module _ (c : List ℕ) (es : List ((Stamp × ℕ) × SessionOp)) (ps : List Put
       v
       (h.prefix ∙ (λ i. length (history_in (sym all i) (v i))))
 
-  acknowledged_row : (os : List (ℕ × List (ℕ × ℕ))) → AreOrigins os → (origin : ℕ) → ranges_at origin os ≡ acknowledged c origin (kept_ops c es ps (ranges_in os))
+  acknowledged_row : (os : List (ℕ × List (ℕ × ℕ))) → AreOrigins os → (origin : ℕ) → ranges_of_origin origin os ≡ acknowledged c origin (kept_ops c es ps (ranges_in os))
   acknowledged_row os h origin =
       let S = kept_ops c es ps (ranges_in os) in
-      same_ranges 1 0 (ranges_at origin os) (acknowledged c origin S) (apart_at origin os h) (apart-acknowledged c origin S)
+      same_ranges 1 0 (ranges_of_origin origin os) (acknowledged c origin S) (apart_at origin os h) (apart-acknowledged c origin S)
       (λ n. sym (covers_at (n, origin) os h.sorted) ∙ sym (kept_acknowledged c es ps (ranges_in os) (n, origin)) ∙ sym (in-acknowledged c origin n S))
 
-  pub exceptions_row : (os : List (ℕ × List (ℕ × ℕ))) → AreOrigins os → above_gaps os 255 ≡ exceptions c (kept_ops c es ps (ranges_in os))
-  unfolding exceptions above_gaps
+  pub exceptions_row : (os : List (ℕ × List (ℕ × ℕ))) → AreOrigins os → origins_above_gaps os 255 ≡ exceptions c (kept_ops c es ps (ranges_in os))
+  unfolding exceptions origins_above_gaps
   exceptions_row os h = λ i. sum_to (λ origin. above_a_gap (acknowledged_row os h origin i)) 255

@@ -56,8 +56,8 @@ abbrev pub planned_row : List ℕ → Base → Change → List Op
 planned_row c base change = row_on c base change.log change.news.items change.acks
 
 -- the operations that are kept of each client that the changes name
-abbrev pub planned : List (List ℕ × List Op) → List (List ℕ × Change) → List (List ℕ × List Op)
-planned rows gs = map (λ g. (g.0, planned_row g.0 (base_in g.0 (own g.0 rows)) g.1)) gs
+abbrev pub planned_rows : List (List ℕ × List Op) → List (List ℕ × Change) → List (List ℕ × List Op)
+planned_rows rows gs = map (λ g. (g.0, planned_row g.0 (base_in g.0 (own g.0 rows)) g.1)) gs
 
 -- if these operations were there, the log is folded, and there is room for all
 abbrev pub IsLogFit : List ((Stamp × ℕ) × SessionOp) → Option Log → ℕ → Type 0

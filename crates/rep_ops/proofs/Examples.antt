@@ -8,7 +8,7 @@ use Rattle.rep_op.specs.declared.op.Op.{Op}
 use Rattle.rep_op.specs.declared.op.Op.TheVariants.{Session as OfSession, Put as OfPut, Ack, Retain as OfRetain}
 use Rattle.rep_ops.specs.inner.Joining.{joined_ops}
 use Rattle.rep_ops.specs.Reading.{delta_reading, reading_one, whole_at, text_at, needed_at, delta_at, listed_at}
-use Rattle.rep_read.specs.Reading.{op_at, ack_at, range_at, client_at, retain_op_at, topic_at, qos_at, body_at}
+use Rattle.rep_read.specs.Reading.{op_at, ack_at, range_at, client_id_at, retain_op_at, topic_at, qos_at, body_at}
 use Rattle.rep_ops.specs.Spelling.{delta_spelling}
 
 -- a client `s1`
@@ -37,7 +37,7 @@ acknowledged_spelled : delta_spelling (Ack s1 2 1 1 ∷ []) ≡ acknowledged_oct
 acknowledged_spelled = refl
 
 acknowledged_read : delta_reading acknowledged_octets ≡ Ok (Ack s1 2 1 1 ∷ [])
-unfolding whole_at delta_at listed_at op_at ack_at range_at client_at
+unfolding whole_at delta_at listed_at op_at ack_at range_at client_id_at
 acknowledged_read = refl
 
 -- the first message of gateway 1 on the topic t, which was retained

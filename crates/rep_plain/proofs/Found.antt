@@ -12,7 +12,7 @@ use Rattle.rep_op.specs.Sets.{same_client}
 use Rattle.rep_plain.specs.declared.entry.Entry.{Entry}
 use Rattle.rep_shared.specs.Rows.{flat, own, or_nothing, IsOwn}
 use Rattle.rep_shared.specs.inner.Rows.{AreRows, of_client}
-use Rattle.rep_plain.specs.Tables.{rows_of, AreEntries, IsTable}
+use Rattle.rep_plain.specs.Tables.{rows_of, AreEntries, IsPlainTable}
 use Rattle.rep_plain.specs.inner.Tables.{is_op_there, has_range}
 use Rattle.rep_shared.proofs.Maps.{lookup_is_find}
 use Rattle.rep_shared.proofs.Single.{tests_own}
@@ -34,7 +34,7 @@ owned_rows : (es : List (List ℕ × Entry)) → AreEntries es → AllByRecursio
 owned_rows [] h = tt
 owned_rows (e ∷ es) h = (h.0.own, owned_rows es h.1)
 
-pub table_rows : (es : List (List ℕ × Entry)) (n : ℕ) → IsTable es n → AreRows (rows_of es)
+pub table_rows : (es : List (List ℕ × Entry)) (n : ℕ) → IsPlainTable es n → AreRows (rows_of es)
 table_rows es n h = record { sorted = subst T (sym (sorted_map client_cmp (λ (e : Entry). e.ops.items) es)) h.sorted; owned = owned_rows es h.each }
 
 -- ---- one operation against the rows

@@ -22,7 +22,7 @@ use Rattle.rep_plain.specs.Entries.{IsWorkedOut}
 use Rattle.rep_shared.specs.Rows.{flat, own, rows_with, has_any, count_named, IsOwn, IsOwnOp}
 use Rattle.rep_shared.specs.inner.Rows.{count_new, AreRows, of_client}
 use Rattle.rep_plain.specs.inner.Rows.{row_grown, IsGrown}
-use Rattle.rep_plain.specs.Tables.{rows_of, AreEntries, IsTable}
+use Rattle.rep_plain.specs.Tables.{rows_of, AreEntries, IsPlainTable}
 use Rattle.rep_plain.specs.inner.Tables.{IsRoomier, is_op_there, passed_by, too_many_pending, too_many_parked, too_many_exceptions}
 use Rattle.rep_shared.proofs.Flat.{of_flat, found_own, all_filter}
 use Rattle.rep_plain.proofs.Found.{table_rows}
@@ -83,7 +83,7 @@ grown_some rows N c ops are each is =
 
 -- ---- the fresh entries
 
-module _ (es : List (List ℕ × Entry)) (n : ℕ) (t : IsTable es n) (D : List Op) (made : AreWellMade D) (clients : AreOfClients D) (N : List Op)
+module _ (es : List (List ℕ × Entry)) (n : ℕ) (t : IsPlainTable es n) (D : List Op) (made : AreWellMade D) (clients : AreOfClients D) (N : List Op)
     (news : N ≡ filter (λ op. not (is_op_there (flat (rows_of es)) op)) D) (fs : List (List ℕ × Entry))
     (g : IsGrown (rows_of es) N (rows_of fs)) (sorted : T (is_sorted client_cmp (rows_of fs)))
     (worked : AllByRecursion (λ f. IsWorkedOut f.0 f.1) fs) where

@@ -34,11 +34,11 @@ impl Model for PlainClients {
 
     ghost Value = { List (List ℕ × List Op) };
 
-    ghost use Rattle.rep_plain.specs.Tables.{rows_of, IsTable};
+    ghost use Rattle.rep_plain.specs.Tables.{rows_of, IsPlainTable};
 
     ghost view = { λ p. rows_of p.table.entries };
 
-    ghost invariant = { λ p. IsTable p.table.entries p.named };
+    ghost invariant = { λ p. IsPlainTable p.table.entries p.named };
 }
 
 /// Operations that fit: the entries of the clients that they name, with them.

@@ -11,7 +11,7 @@ use Rattle.sn_session.specs.declared.outbound.Phase.{Phase}
 use Rattle.sn_session.specs.declared.outbound.Phase.TheVariants as phases
 use Rattle.rep_op.specs.ClientIds.{IsClientId}
 use Rattle.sn_tables.specs.Levels.{is_qos}
-use Rattle.rep_read.specs.Reading.{ranged, octet_at, number_at, sized_at, client_at, topic_at, filter_at, body_at, flag_at, presence_of, presence_at, phase_from, phase_at, qos_at}
+use Rattle.rep_read.specs.Reading.{ranged, octet_at, number_at, sized_at, client_id_at, topic_at, filter_at, body_at, flag_at, presence_of, presence_at, phase_from, phase_at, qos_at}
 use Rattle.rep_op.specs.Spelling.{client_octets}
 use Rattle.rep_op.specs.Sessions.{text_octets, flag_octet, presence_octet, phase_octet}
 use Rattle.rep_read.proofs.Laws.{Law, made_law, ranged_law, same_law, octet_law, wide16, number_law, sized_law}
@@ -24,10 +24,10 @@ IsOctet n = n < 256
 
 -- ---- texts
 
-pub client_law : Law client_at client_octets IsClientId
-unfolding client_at
+pub client_law : Law client_id_at client_octets IsClientId
+unfolding client_id_at
 client_law =
-    same_law client_at (λ t. one_octet (length t) ++ t) (λ t. IsOctet (length t) × ((nat_le 1 (length t) && nat_le (length t) 23) ≡ true))
+    same_law client_id_at (λ t. one_octet (length t) ++ t) (λ t. IsOctet (length t) × ((nat_le 1 (length t) && nat_le (length t) 23) ≡ true))
     (sized_law (λ n. nat_le 1 n && nat_le n 23) octet_at one_octet IsOctet octet_law) client_octets IsClientId
     (λ c h. (refl, let p = and_parts _ _ h.1 in (leb-true _ _ p.0, leb-true _ _ p.1)))
     (λ c h. (let most = h.1 in omega arith, and_from _ _ (le-leb _ _ h.0) (le-leb _ _ h.1)))

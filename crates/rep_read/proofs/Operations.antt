@@ -11,7 +11,7 @@ use Rattle.rep_op.specs.ClientIds.{IsClientId}
 use Rattle.rep_op.specs.declared.op.Put.{Put}
 use Rattle.rep_op.specs.declared.op.Op.{Op}
 use Rattle.rep_op.specs.declared.op.Op.TheVariants.{Session as OfSession, Put as OfPut, Ack, Retain as OfRetain}
-use Rattle.rep_read.specs.Reading.{Reader, both, by_first, ranged, octet_at, number_at, is_positive, client_at, topic_at, flag_at, qos_at, body_at, change_at, session_op_of, session_op_at, later_at, put_op_of, content_at, put_op_at, ack_from, range_at, ack_at, retain_op_of, retain_op_at, is_kind, of_kind_at, op_at}
+use Rattle.rep_read.specs.Reading.{Reader, both, by_first, ranged, octet_at, number_at, is_positive, client_id_at, topic_at, flag_at, qos_at, body_at, change_at, session_op_of, session_op_at, later_at, put_op_of, content_at, put_op_at, ack_from, range_at, ack_at, retain_op_of, retain_op_at, is_kind, of_kind_at, op_at}
 use Rattle.rep_op.specs.Spelling.{client_octets, later_octets, put_octets, retained_octets, op_octets}
 use Rattle.rep_op.specs.Sessions.{text_octets, flag_octet, change_octets}
 use Rattle.rep_op.specs.Values.{IsOpValue}
@@ -108,8 +108,8 @@ session_back v (OfSession c s i o) h =
 session_op_law : (v : Version) → Law session_op_at (tail_octets v) (FitsSessionOp v)
 unfolding session_op_at
 session_op_law v =
-    made_law session_op_of (both client_at (both (ranged is_positive (number_at w64)) (both (ranged is_positive octet_at) (by_first octet_at change_at)))) session_text FitsSessionParts
-    (both_law client_at client_octets IsClientId client_law
+    made_law session_op_of (both client_id_at (both (ranged is_positive (number_at w64)) (both (ranged is_positive octet_at) (by_first octet_at change_at)))) session_text FitsSessionParts
+    (both_law client_id_at client_octets IsClientId client_law
     (both (ranged is_positive (number_at w64)) (both (ranged is_positive octet_at) (by_first octet_at change_at))) _ _ (both_law (ranged is_positive (number_at w64)) (to_be_bytes w64) IsEight eight_law
     (both (ranged is_positive octet_at) (by_first octet_at change_at)) _ _ (both_law (ranged is_positive octet_at) one_octet IsOne one_law
     (by_first octet_at change_at) (λ x. one_octet x.0 ++ change_octets x.1) (λ x. IsOctet x.0 × FitsChange x.0 x.1) (by_first_law octet_at one_octet IsOctet octet_law change_at (λ _. change_octets) FitsChange change_law))))
@@ -209,8 +209,8 @@ put_back v (OfPut c p) h =
 put_op_law : (v : Version) → Law (put_op_at v) (tail_octets v) (FitsPutOp v)
 unfolding put_op_at content_at
 put_op_law v =
-    made_law put_op_of (both client_at (both (ranged is_positive octet_at) (both (ranged is_positive (number_at w64)) (both topic_at (both qos_at (both (later_at v) body_at)))))) (put_text v) (FitsPutParts v)
-    (both_law client_at client_octets IsClientId client_law
+    made_law put_op_of (both client_id_at (both (ranged is_positive octet_at) (both (ranged is_positive (number_at w64)) (both topic_at (both qos_at (both (later_at v) body_at)))))) (put_text v) (FitsPutParts v)
+    (both_law client_id_at client_octets IsClientId client_law
     (both (ranged is_positive octet_at) (both (ranged is_positive (number_at w64)) (both topic_at (both qos_at (both (later_at v) body_at))))) _ _ (both_law (ranged is_positive octet_at) one_octet IsOne one_law
     (both (ranged is_positive (number_at w64)) (both topic_at (both qos_at (both (later_at v) body_at)))) _ _ (both_law (ranged is_positive (number_at w64)) (to_be_bytes w64) IsEight eight_law
     (both topic_at (both qos_at (both (later_at v) body_at))) _ _ (both_law topic_at text_octets IsName topic_law
@@ -267,8 +267,8 @@ ack_back v (Ack c r f l) h =
 ack_law : (v : Version) → Law ack_at (tail_octets v) (FitsAck v)
 unfolding ack_at
 ack_law v =
-    made_law ack_from (both client_at (both (ranged is_positive octet_at) range_at)) ack_text FitsAckParts
-    (both_law client_at client_octets IsClientId client_law (both (ranged is_positive octet_at) range_at) _ _ (both_law (ranged is_positive octet_at) one_octet IsOne one_law range_at range_text FitsRange range_law))
+    made_law ack_from (both client_id_at (both (ranged is_positive octet_at) range_at)) ack_text FitsAckParts
+    (both_law client_id_at client_octets IsClientId client_law (both (ranged is_positive octet_at) range_at) _ _ (both_law (ranged is_positive octet_at) one_octet IsOne one_law range_at range_text FitsRange range_law))
     (tail_octets v) (FitsAck v) (ack_over v) (ack_back v)
 
 -- ---- what is retained

@@ -105,8 +105,8 @@ abbrev pub is_positive : ℕ → Bool
 is_positive n = nat_le 1 n
 
 -- a client: a size of one octet, 1 to 23, and its octets
-unfoldable pub client_at : Reader (List ℕ)
-client_at = sized_at (λ n. nat_le 1 n && nat_le n MAX_CLIENT_ID) octet_at
+unfoldable pub client_id_at : Reader (List ℕ)
+client_id_at = sized_at (λ n. nat_le 1 n && nat_le n MAX_CLIENT_ID) octet_at
 
 -- a topic name: a size of two octets, 1 to 256, and its octets, none of them a wildcard
 unfoldable pub topic_at : Reader (List ℕ)
@@ -327,7 +327,7 @@ session_op_of x = OfSession x.0 (record { epoch = x.1.0; gateway = x.1.1.0 }) x.
 -- a session operation: client, epoch, gateway, counter, change
 unfoldable pub session_op_at : Reader Op
 session_op_at =
-    made_from session_op_of (both client_at
+    made_from session_op_of (both client_id_at
     (both (ranged is_positive (number_at w64))
     (both (ranged is_positive octet_at) (by_first octet_at change_at))))
 
@@ -358,7 +358,7 @@ content_at version = both qos_at (both (later_at version) body_at)
 -- a message: client, origin, sequence number, topic, content
 unfoldable pub put_op_at : Version → Reader Op
 put_op_at version =
-    made_from put_op_of (both client_at
+    made_from put_op_of (both client_id_at
     (both (ranged is_positive octet_at)
     (both (ranged is_positive (number_at w64))
     (both topic_at (content_at version)))))
@@ -373,7 +373,7 @@ range_at = ranged (λ x. nat_le x.0 x.1) (both (ranged is_positive (number_at w6
 
 -- a range of acknowledgements: client, origin, first and last sequence number
 unfoldable pub ack_at : Reader Op
-ack_at = made_from ack_from (both client_at (both (ranged is_positive octet_at) range_at))
+ack_at = made_from ack_from (both client_id_at (both (ranged is_positive octet_at) range_at))
 
 -- what is retained, of its topic, clock, gateway, quality of service and octets
 abbrev pub retain_op_of : List ℕ × (ℕ × (ℕ × (ℕ × List ℕ))) → Op

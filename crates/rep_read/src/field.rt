@@ -3,7 +3,7 @@
 ghost use Rattle.std.specs.Prelude.{◌≡◌};
 ghost use Rattle.std.specs.Int.{w16, w32, w64};
 ghost use Rattle.sn_topic.specs.Table as topics;
-ghost use Rattle.rep_read.specs.Reading.{ReadsAs, octet_at, octets_at, number_at, ranged, client_at, topic_at, body_at};
+ghost use Rattle.rep_read.specs.Reading.{ReadsAs, octet_at, octets_at, number_at, ranged, client_id_at, topic_at, body_at};
 ghost use Rattle.rep_read.specs.Reading as spec;
 
 use octets::{MAX_CLIENT_ID, Octets, read_u16, read_u32, read_u64};
@@ -110,9 +110,9 @@ pub fn read_counted_eight(bytes: &[u8]) -> Result<(u64, &[u8]), OpsFault>
 }
 
 /// A client.
-#[tactic(auto, unfolding(crate::specs::Reading::client_at))]
+#[tactic(auto, unfolding(crate::specs::Reading::client_id_at))]
 pub fn read_client(alloc: Global, bytes: &[u8]) -> Result<(ClientId, &[u8]), OpsFault>
-    ensures { ReadsAs (λ x. (x.0, x.1.now)) result (client_at bytes.now) }
+    ensures { ReadsAs (λ x. (x.0, x.1.now)) result (client_id_at bytes.now) }
 {
     let (size, rest) = read_octet(bytes)?;
     if size == 0 || size as usize > MAX_CLIENT_ID {

@@ -32,7 +32,7 @@ use Rattle.rep_log.specs.declared.log.Log.{Log}
 use Rattle.rep_entry.specs.declared.change.Change.{Change}
 use Rattle.rep_log.specs.Logs.{session_on}
 use Rattle.rep_entry.specs.Applied.{entry_applied}
-use Rattle.rep_state.specs.Tables.{arrivals, names_at, rows_of, ArePlaces, IsKept, IsTable}
+use Rattle.rep_state.specs.Tables.{arrivals, names_at, rows_of, ArePlaces, IsKept, IsEntryTable}
 use Rattle.rep_state.specs.inner.Tables.{place_cmp}
 use Rattle.rep_entry.specs.Interests.{mark_of, has_mark, AskWithin, SessionWithin}
 use Rattle.rep_state.specs.Interests.{EntryWithin, AreMarked}
@@ -262,7 +262,7 @@ module _ (topic : List ℕ) (es : List (List ℕ × Entry)) (cs : List (List ℕ
 
 -- ---- what a view says of a client that is silent
 
-module _ (topic : List ℕ) (es : List (List ℕ × Entry)) (n : ℕ) (t : IsTable es n) where
+module _ (topic : List ℕ) (es : List (List ℕ × Entry)) (n : ℕ) (t : IsEntryTable es n) where
   pub silent_view : (c : List ℕ) → IsSilent topic (find client_cmp c es) → is_subscribed topic (view c (flat (rows_of es))) ≡ false
   silent_view c h =
       let shown : view c (flat (rows_of es)) ≡ view c (own c (rows_of es)) = view_own c (flat (rows_of es)) ∙ ap (view c) (of_flat c (rows_of es) (table_rows es n t)) in

@@ -28,7 +28,7 @@ use Rattle.rep_entry.specs.Interests.{SessionWithin}
 use Rattle.rep_entry.specs.Staging.{staged_of, AreReady}
 use Rattle.rep_entry.proofs.Owning.{found_holds}
 use Rattle.rep_state.specs.declared.places.Place.{Place}
-use Rattle.rep_state.specs.Tables.{by_client, rows_of, names_at, IsKept, AreKept, IsTable}
+use Rattle.rep_state.specs.Tables.{by_client, rows_of, names_at, IsKept, AreKept, IsEntryTable}
 use Rattle.rep_state.specs.Interests.{EntryWithin, AreMarked}
 use Rattle.rep_state.specs.inner.Staging.{HavePlaces}
 use Rattle.rep_state.specs.inner.Tables.{place_cmp, IsSaving, HaveTheirPlaces, AreKeptAside}
@@ -78,7 +78,7 @@ module _ (es new : Entries) (c : List ℕ) (e : Entry) (at : new ≡ put client_
       }
 
   -- one more of them has operations, or as many as before
-  pub aside_more : (n m : ℕ) → IsTable es n → IsKept c e → m ≡ n + one_if (has_any (entry_row c e)) → count_named (put client_cmp c (entry_row c e) (rows_of es)) ≤ MOST_CLIENTS → IsTable new m
+  pub aside_more : (n m : ℕ) → IsEntryTable es n → IsKept c e → m ≡ n + one_if (has_any (entry_row c e)) → count_named (put client_cmp c (entry_row c e) (rows_of es)) ≤ MOST_CLIENTS → IsEntryTable new m
   aside_more n m t entry count few =
       let counts = count_put c (entry_row c e) (rows_of es) (rows_sorted es t.sorted) in
       let none : one_if (has_any (own c (rows_of es))) ≡ 0 = ap (λ (o : Option (List Op)). one_if (has_any (or_nothing o))) (none_of_rows c es absent) in
@@ -95,7 +95,7 @@ module _ (es new : Entries) (c : List ℕ) (e : Entry) (at : new ≡ put client_
   row_there = subst (λ (o : Option (List Op)). IsSome o) (sym (ap (find client_cmp c) with_row ∙ there_put c (entry_row c e) (rows_of es))) refl
 
 -- there is room for a row more
-pub few_more : (rows : Rows) (xs : Entries) (n : ℕ) (c : List ℕ) (S : List Op) → T (is_sorted client_cmp rows) → IsTable xs n → CanGoBack rows (rows_of xs) → IsSome (find client_cmp c rows) → find client_cmp c xs ≡ None → own c rows ≡ S → count_named (put client_cmp c S (rows_of xs)) ≤ MOST_CLIENTS
+pub few_more : (rows : Rows) (xs : Entries) (n : ℕ) (c : List ℕ) (S : List Op) → T (is_sorted client_cmp rows) → IsEntryTable xs n → CanGoBack rows (rows_of xs) → IsSome (find client_cmp c rows) → find client_cmp c xs ≡ None → own c rows ≡ S → count_named (put client_cmp c S (rows_of xs)) ≤ MOST_CLIENTS
 few_more rows xs n c S sorted t can there absent own_is =
     let order = rows_sorted xs t.sorted in
     subst (λ (ops : List Op). count_named (put client_cmp c ops (rows_of xs)) ≤ MOST_CLIENTS) own_is

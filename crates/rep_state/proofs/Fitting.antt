@@ -14,7 +14,7 @@ use Rattle.rep_shared.proofs.Flat.{of_flat}
 use Rattle.rep_shared.proofs.Counting.{count_moved}
 use Rattle.rep_entry.specs.declared.entry.Entry.{Entry}
 use Rattle.rep_entry.specs.Entries.{IsEntry}
-use Rattle.rep_state.specs.Tables.{rows_of, AreKept, IsTable}
+use Rattle.rep_state.specs.Tables.{rows_of, AreKept, IsEntryTable}
 use Rattle.rep_state.specs.inner.Tables.{IsRoomier, passed_by, too_many_pending, too_many_parked, too_many_exceptions}
 use Rattle.rep_state.specs.inner.Groups.{AreRowsOf}
 use Rattle.rep_state.proofs.Rows.{table_rows}
@@ -24,7 +24,7 @@ use Rattle.rep_state.proofs.Passing.{AreFresh, first_passed_after}
 
 -- ---- the fresh entries, where their rows are those of the delta
 
-module _ (es : List (List ℕ × Entry)) (n : ℕ) (t : IsTable es n) (D : List Op) (fs : List (List ℕ × Entry)) (h : AreFresh fs) (rows : AreRowsOf es D (rows_of fs)) where
+module _ (es : List (List ℕ × Entry)) (n : ℕ) (t : IsEntryTable es n) (D : List Op) (fs : List (List ℕ × Entry)) (h : AreFresh fs) (rows : AreRowsOf es D (rows_of fs)) where
   pub own_room : (room : List (List ℕ × Entry)) → IsRoomier es room → (c : List ℕ) → own c (rows_of room) ≡ own c (rows_of es)
   own_room room r c = sym (of_flat c (rows_of room) (table_rows room n (r.table n t))) ∙ ap (of_client c) r.same ∙ of_flat c (rows_of es) (table_rows es n t)
 

@@ -18,7 +18,7 @@ use Rattle.rep_shared.specs.Rows.{IsOwn}
 use Rattle.rep_shared.specs.inner.Rows.{AreRows}
 use Rattle.rep_entry.specs.declared.entry.Entry.{Entry}
 use Rattle.rep_entry.specs.Entries.{entry_row}
-use Rattle.rep_state.specs.Tables.{plain_of, by_client, rows_of, AreKept, IsTable}
+use Rattle.rep_state.specs.Tables.{plain_of, by_client, rows_of, AreKept, IsEntryTable}
 use Rattle.rep_state.proofs.Entering.{own_entry}
 use Rattle.indexmap.specs.IndexMap.{insert_entry}
 
@@ -53,7 +53,7 @@ owned_rows : (es : List (List ℕ × Entry)) → AreKept es → AllByRecursion (
 owned_rows [] h = tt
 owned_rows (e ∷ es) h = (own_entry e.0 e.1 h.0.entry_is, owned_rows es h.1)
 
-pub table_rows : (es : List (List ℕ × Entry)) (n : ℕ) → IsTable es n → AreRows (rows_of es)
+pub table_rows : (es : List (List ℕ × Entry)) (n : ℕ) → IsEntryTable es n → AreRows (rows_of es)
 table_rows es n h = record { sorted = subst T (sym (sorted_rows es)) h.sorted; owned = owned_rows es h.each }
 
 -- ---- look-ups by octets

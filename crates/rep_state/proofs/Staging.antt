@@ -24,10 +24,10 @@ use Rattle.rep_log.specs.Origins.{ranges_in}
 use Rattle.rep_log.specs.Kept.{of_log, of_mail, of_acks, kept_ops}
 use Rattle.rep_entry.specs.Entries.{IsEntry, messages, entry_row, base_of}
 use Rattle.rep_state.specs.Tables.{rows_of, IsKept, AreKept}
-use Rattle.rep_entry.specs.Staging.{staged_of, IsChange, acked_range, base_in, planned_row, planned, IsReady, AreReady, AreStaged}
+use Rattle.rep_entry.specs.Staging.{staged_of, IsChange, acked_range, base_in, planned_row, planned_rows, IsReady, AreReady, AreStaged}
 use Rattle.rep_state.specs.inner.Groups.{held_of, base_at, or_nothing_held}
 use Rattle.rep_state.specs.inner.Tables.{IsRoomier, passed_by, too_many_pending, too_many_parked, too_many_exceptions}
-use Rattle.rep_state.specs.inner.Staging.{future, AreMovable, HavePlaces, AreWorkedOut}
+use Rattle.rep_state.specs.inner.Staging.{future, AreMovable, HavePlaces, AreChangesWorkedOut}
 use Rattle.rep_entry.specs.Applied.{entry_applied}
 use Rattle.rep_entry.proofs.Client.{kept_operations, kept_puts}
 use Rattle.rep_entry.proofs.Rising.{values_named}
@@ -73,7 +73,7 @@ there_same c es = ap is_some (find_rows c es) ∙ at (find client_cmp c es)
     at None = refl
     at (Some e) = refl
 
-pub planned_future : (rows : List (List ℕ × List Op)) (es : List (List ℕ × Entry)) → ((c : List ℕ) → own c rows ≡ own c (rows_of es)) → (gs : List (List ℕ × Change)) → planned rows gs ≡ rows_of (future es gs)
+pub planned_future : (rows : List (List ℕ × List Op)) (es : List (List ℕ × Entry)) → ((c : List ℕ) → own c rows ≡ own c (rows_of es)) → (gs : List (List ℕ × Change)) → planned_rows rows gs ≡ rows_of (future es gs)
 planned_future rows es same [] = refl
 planned_future rows es same (g ∷ gs) =
     let row = ap (λ ops. planned_row g.0 (base_in g.0 ops) g.1) (same g.0) ∙ ap (λ base. planned_row g.0 base g.1) (base_same g.0 es) ∙ sym (row_applied g.0 (held_of g.0 es) g.1) in
@@ -87,7 +87,7 @@ sorted_future : (es : List (List ℕ × Entry)) (gs : List (List ℕ × Change))
 sorted_future es [] = refl
 sorted_future es (g ∷ gs) = λ i. below_future es g.0 gs i && sorted_future es gs i
 
-pub future_worked_out : (es : List (List ℕ × Entry)) (gs : List (List ℕ × Change)) → ((c : List ℕ) → IsEntry c (held_of c es)) → AreWorkedOut es gs → AllByRecursion (λ f. IsEntry f.0 f.1) (future es gs)
+pub future_worked_out : (es : List (List ℕ × Entry)) (gs : List (List ℕ × Change)) → ((c : List ℕ) → IsEntry c (held_of c es)) → AreChangesWorkedOut es gs → AllByRecursion (λ f. IsEntry f.0 f.1) (future es gs)
 future_worked_out es [] held h = tt
 future_worked_out es (g ∷ gs) held h = (entry_of g.0 (held_of g.0 es) g.1 (held g.0) h.0.change_is h.0.fit, future_worked_out es gs held h.1)
 
@@ -97,7 +97,7 @@ pub any_staged : (test : Change → Bool) (xs : List (Vec ℕ Global × Change))
 any_staged test [] = refl
 any_staged test (x ∷ xs) = ap (λ b. test x.1 || b) (any_staged test xs)
 
-any_pending : (es : List (List ℕ × Entry)) (gs : List (List ℕ × Change)) → AreWorkedOut es gs → list_any (λ (g : List ℕ × Change). nat_lt 16384 g.1.pending) gs ≡ list_any too_many_pending (future es gs)
+any_pending : (es : List (List ℕ × Entry)) (gs : List (List ℕ × Change)) → AreChangesWorkedOut es gs → list_any (λ (g : List ℕ × Change). nat_lt 16384 g.1.pending) gs ≡ list_any too_many_pending (future es gs)
 any_pending es [] h = refl
 any_pending es (g ∷ gs) h = λ i. nat_lt 16384 (h.0.counted i) || any_pending es gs h.1 i
 
@@ -109,7 +109,7 @@ any_exceptions : (es : List (List ℕ × Entry)) (gs : List (List ℕ × Change)
 any_exceptions es [] = refl
 any_exceptions es (g ∷ gs) = ap (λ b. nat_lt 16384 g.1.exceptions || b) (any_exceptions es gs)
 
-pub passed_future : (n : ℕ) (es : List (List ℕ × Entry)) (xs : List (Vec ℕ Global × Change)) → AreWorkedOut es (staged_of xs)
+pub passed_future : (n : ℕ) (es : List (List ℕ × Entry)) (xs : List (Vec ℕ Global × Change)) → AreChangesWorkedOut es (staged_of xs)
     → passed_of n (list_any (λ (x : Vec ℕ Global × Change). nat_lt 16384 x.1.pending) xs) (list_any (λ (x : Vec ℕ Global × Change). nat_lt 4096 x.1.parked) xs) (list_any (λ (x : Vec ℕ Global × Change). nat_lt 16384 x.1.exceptions) xs) ≡ passed_by n (future es (staged_of xs))
 passed_future n es xs h =
     let a = any_staged (λ ch. nat_lt 16384 ch.pending) xs ∙ any_pending es (staged_of xs) h in
@@ -129,7 +129,7 @@ count_future test es xs = sym (length-filter (λ (x : Vec ℕ Global × Change).
 
 -- ---- what fits is ready
 
-changes_each : (es : List (List ℕ × Entry)) (gs : List (List ℕ × Change)) → AreWorkedOut es gs → AllByRecursion (λ g. IsChange g.1) gs
+changes_each : (es : List (List ℕ × Entry)) (gs : List (List ℕ × Change)) → AreChangesWorkedOut es gs → AllByRecursion (λ g. IsChange g.1) gs
 changes_each es [] h = tt
 changes_each es (g ∷ gs) h = (h.0.change_is, changes_each es gs h.1)
 
@@ -141,7 +141,7 @@ few_exceptions : (es : List (List ℕ × Entry)) (gs : List (List ℕ × Change)
 few_exceptions es [] h = tt
 few_exceptions es (g ∷ gs) h = (h.0.exceptions, few_exceptions es gs h.1)
 
-pub are_staged : (es : List (List ℕ × Entry)) (gs : List (List ℕ × Change)) → AreWorkedOut es gs → T (is_sorted client_cmp (rows_of (future es gs))) → AreKept (future es gs) → AreStaged gs
+pub are_staged : (es : List (List ℕ × Entry)) (gs : List (List ℕ × Change)) → AreChangesWorkedOut es gs → T (is_sorted client_cmp (rows_of (future es gs))) → AreKept (future es gs) → AreStaged gs
 are_staged es gs h sorted kept = record {
   sorted = subst T (sorted_future es gs) sorted;
   each = changes_each es gs h;
@@ -149,7 +149,7 @@ are_staged es gs h sorted kept = record {
   exceptions = few_exceptions es gs kept;
 }
 
-pub are_ready : (es room : List (List ℕ × Entry)) (gs : List (List ℕ × Change)) → ((c : List ℕ) → own c (rows_of room) ≡ own c (rows_of es)) → HavePlaces room gs → AreWorkedOut es gs → AreKept (future es gs) → AreReady (rows_of room) gs
+pub are_ready : (es room : List (List ℕ × Entry)) (gs : List (List ℕ × Change)) → ((c : List ℕ) → own c (rows_of room) ≡ own c (rows_of es)) → HavePlaces room gs → AreChangesWorkedOut es gs → AreKept (future es gs) → AreReady (rows_of room) gs
 are_ready es room [] same r h kept = tt
 are_ready es room (g ∷ gs) same r h kept =
     let base = ap (base_in g.0) (same g.0) ∙ base_same g.0 es in (

@@ -24,7 +24,7 @@ use Rattle.rep_shared.proofs.Flat.{of_flat, found_own}
 use Rattle.rep_entry.specs.declared.entry.Entry.{Entry}
 use Rattle.rep_entry.specs.declared.fresh.Fresh.{Fresh}
 use Rattle.rep_entry.specs.Entries.{entry_row, IsEntry, IsFresh, fresh_row}
-use Rattle.rep_state.specs.Tables.{rows_of, AreKept, IsKept, IsTable}
+use Rattle.rep_state.specs.Tables.{rows_of, AreKept, IsKept, IsEntryTable}
 use Rattle.rep_state.specs.inner.Tables.{AreWorkedOut}
 use Rattle.rep_state.specs.inner.Groups.{held_of, or_nothing_held, IsKeptAfter, IsGroup, IsGroupOf, AreGroups, fresh_rows, IsRowOf, AreRowsOf}
 use Rattle.rep_entry.proofs.Client.{itself}
@@ -113,7 +113,7 @@ owned_entries : (fs : List (List ℕ × Entry)) → AreWorkedOut fs → AllByRec
 owned_entries [] h = tt
 owned_entries (f ∷ fs) h = (own_entry f.0 f.1 h.0, owned_entries fs h.1)
 
-module _ (es : List (List ℕ × Entry)) (n : ℕ) (t : IsTable es n) (D : List Op) (clients : AreOfClients D) (made : AllByRecursion (λ op. IsTrue (is_well_made op)) D) (fs : List (List ℕ × Entry)) (groups : List (List ℕ × Fresh)) (h : AreGroups es D groups) (sorted : T (is_sorted client_cmp groups)) (is : rows_of fs ≡ fresh_rows es groups) (worked : AreWorkedOut fs) where
+module _ (es : List (List ℕ × Entry)) (n : ℕ) (t : IsEntryTable es n) (D : List Op) (clients : AreOfClients D) (made : AllByRecursion (λ op. IsTrue (is_well_made op)) D) (fs : List (List ℕ × Entry)) (groups : List (List ℕ × Fresh)) (h : AreGroups es D groups) (sorted : T (is_sorted client_cmp groups)) (is : rows_of fs ≡ fresh_rows es groups) (worked : AreWorkedOut fs) where
   pub fresh_rows_of : AreRowsOf es D (rows_of fs)
   fresh_rows_of = subst (AreRowsOf es D) (sym is) (rows_of_groups es D groups h)
 
@@ -138,7 +138,7 @@ module _ (es : List (List ℕ × Entry)) (n : ℕ) (t : IsTable es n) (D : List 
 
 -- ---- what is held
 
-module _ (es : List (List ℕ × Entry)) (n : ℕ) (t : IsTable es n) where
+module _ (es : List (List ℕ × Entry)) (n : ℕ) (t : IsEntryTable es n) where
   pub made_flat : AreWellMade (flat (rows_of es))
   made_flat = made_rows (rows_of es) (table_rows es n t).owned
 

@@ -50,7 +50,7 @@ abbrev pub AreKept : List (List ℕ × Entry) → Type 0
 AreKept es = AllByRecursion (λ e. IsKept e.0 e.1) es
 
 -- entries in the order of their clients; so many of them have operations
-pub record IsTable (es : List (List ℕ × Entry)) (count : ℕ) : Type 0 where
+pub record IsEntryTable (es : List (List ℕ × Entry)) (count : ℕ) : Type 0 where
   pub sorted : T (is_sorted client_cmp es)
   pub each : AreKept es
   pub counted : count ≡ count_named (rows_of es)

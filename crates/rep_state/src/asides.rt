@@ -8,7 +8,7 @@ ghost use Rattle.rep_model.specs.declared.fault.TheConstants.{MOST_CLIENTS};
 ghost use Rattle.rep_shared.specs.Rows.{own, rows_with, count_named, CanGoBack, AreSaved};
 ghost use Rattle.rep_entry.specs.Entries.{entry_row};
 ghost use Rattle.rep_entry.specs.Staging.{staged_of};
-ghost use Rattle.rep_state.specs.Tables.{by_client, rows_of, IsKept, AreKept, IsTable, ArePlaces};
+ghost use Rattle.rep_state.specs.Tables.{by_client, rows_of, IsKept, AreKept, IsEntryTable, ArePlaces};
 ghost use Rattle.rep_state.specs.Interests.{AreMarked};
 ghost use Rattle.rep_state.specs.inner.Tables.{IsSaving, HaveTheirPlaces, AreKeptAside};
 ghost use Rattle.rep_state.specs.inner.Staging.{HavePlaces};
@@ -32,12 +32,12 @@ pub(crate) fn save_all(
 ) -> Result<(), NoMemory>
     requires kept { AreKept (by_client table.now.entries) }
     requires room { HavePlaces (by_client table.now.entries) (staged_of changes.now) }
-    requires aside { IsTable (by_client aside.old.entries) count.old }
+    requires aside { IsEntryTable (by_client aside.old.entries) count.old }
     requires places { ArePlaces aside.old.entries places.old.items }
     requires marks { AreMarked (by_client aside.old.entries) places.old.items }
     requires can { CanGoBack (rows_of (by_client table.now.entries))
         (rows_of (by_client aside.old.entries)) }
-    ensures table { IsTable (by_client aside.new.entries) count.new }
+    ensures table { IsEntryTable (by_client aside.new.entries) count.new }
     ensures places { ArePlaces aside.new.entries places.new.items }
     ensures marks { AreMarked (by_client aside.new.entries) places.new.items }
     ensures saving { IsSaving (rows_of (by_client table.now.entries))
@@ -63,12 +63,12 @@ fn save_one(
     requires kept { AreKept (by_client table.now.entries) }
     requires there { IsSome (find client_cmp client.now
         (rows_of (by_client table.now.entries))) }
-    requires aside { IsTable (by_client aside.old.entries) count.old }
+    requires aside { IsEntryTable (by_client aside.old.entries) count.old }
     requires places { ArePlaces aside.old.entries places.old.items }
     requires marks { AreMarked (by_client aside.old.entries) places.old.items }
     requires can { CanGoBack (rows_of (by_client table.now.entries))
         (rows_of (by_client aside.old.entries)) }
-    ensures table { IsTable (by_client aside.new.entries) count.new }
+    ensures table { IsEntryTable (by_client aside.new.entries) count.new }
     ensures places { ArePlaces aside.new.entries places.new.items }
     ensures marks { AreMarked (by_client aside.new.entries) places.new.items }
     ensures saving { IsSaving (rows_of (by_client table.now.entries))
@@ -96,12 +96,12 @@ fn put_aside(
 ) -> Result<(), NoMemory>
     requires kept { IsKept client.now held.now }
     requires absent { find client_cmp client.now (by_client aside.old.entries) ≡ None }
-    requires aside { IsTable (by_client aside.old.entries) count.old }
+    requires aside { IsEntryTable (by_client aside.old.entries) count.old }
     requires places { ArePlaces aside.old.entries places.old.items }
     requires marks { AreMarked (by_client aside.old.entries) places.old.items }
     requires few { count_named (put client_cmp client.now (entry_row client.now held.now)
         (rows_of (by_client aside.old.entries))) ≤ MOST_CLIENTS }
-    ensures table { IsTable (by_client aside.new.entries) count.new }
+    ensures table { IsEntryTable (by_client aside.new.entries) count.new }
     ensures places { ArePlaces aside.new.entries places.new.items }
     ensures marks { AreMarked (by_client aside.new.entries) places.new.items }
     ensures saving { (rows : List (List ℕ × List Op)) → T (is_sorted client_cmp rows)

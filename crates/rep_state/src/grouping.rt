@@ -10,7 +10,7 @@ ghost use Rattle.rep_op.specs.WellMade.{is_well_made};
 ghost use Rattle.rep_entry.specs.Entries.{IsEntry, IsFresh, fresh_row};
 ghost use Rattle.rep_state.specs.Tables.{by_client, rows_of, AreKept};
 ghost use Rattle.rep_entry.specs.Staging.{staged_of};
-ghost use Rattle.rep_state.specs.inner.Staging.{future, AreWorkedOut};
+ghost use Rattle.rep_state.specs.inner.Staging.{future, AreChangesWorkedOut};
 ghost use Rattle.rep_state.specs.inner.Groups.{held_of, IsFirstChange, AreGroups, fresh_rows};
 ghost use Rattle.rep_entry.specs.Applied.{nothing_held};
 
@@ -172,7 +172,7 @@ pub(crate) fn staged_changes(
         rows_of (future (by_client table.now.entries) (staged_of changes.items))
         ≡ fresh_rows (by_client table.now.entries) groups.items) }
     ensures worked_out { IfOk result (λ changes.
-        AreWorkedOut (by_client table.now.entries) (staged_of changes.items)) }
+        AreChangesWorkedOut (by_client table.now.entries) (staged_of changes.items)) }
 {
     let nothing = Entry::empty(alloc);
     let made = changes_of(alloc, table, &nothing, groups);
@@ -194,7 +194,7 @@ fn changes_of(
         rows_of (future (by_client table.now.entries) (staged_of changes.items))
         ≡ fresh_rows (by_client table.now.entries) groups.items) }
     ensures worked_out { IfOk result (λ changes.
-        AreWorkedOut (by_client table.now.entries) (staged_of changes.items)) }
+        AreChangesWorkedOut (by_client table.now.entries) (staged_of changes.items)) }
 {
     let mut made = Vec::with_capacity(alloc, groups.len())?;
     for (client, fresh) in groups {
@@ -220,8 +220,10 @@ fn stage_client(
           client.now,
           fresh_row client.now (held_of client.now (by_client table.now.entries)) fresh,
         ) ∷ []) }
-    ensures worked_out { AreWorkedOut (by_client table.now.entries) (staged_of made.old.items)
-        → OnOk result (AreWorkedOut (by_client table.now.entries) (staged_of made.new.items)) }
+    ensures worked_out { AreChangesWorkedOut (by_client table.now.entries)
+        (staged_of made.old.items)
+        → OnOk result (AreChangesWorkedOut (by_client table.now.entries)
+        (staged_of made.new.items)) }
 {
     let change = fresh.into_change(alloc, entry_or_nothing(table, nothing, client))?;
     match copy_octets(alloc, client.bytes()) {

@@ -38,12 +38,12 @@ impl Model for FoldedClients {
 
     ghost Value = { List (List ℕ × List Op) };
 
-    ghost use Rattle.rep_state.specs.Tables.{by_client, rows_of, IsTable, ArePlaces};
+    ghost use Rattle.rep_state.specs.Tables.{by_client, rows_of, IsEntryTable, ArePlaces};
     ghost use Rattle.rep_state.specs.Interests.{AreMarked};
 
     ghost view = { λ p. rows_of (by_client p.table.entries) };
 
-    ghost invariant = { λ p. IsTable (by_client p.table.entries) p.named
+    ghost invariant = { λ p. IsEntryTable (by_client p.table.entries) p.named
         × ArePlaces p.table.entries p.places.items
         × AreMarked (by_client p.table.entries) p.places.items };
 }
@@ -73,16 +73,16 @@ impl Model for Staged {
 impl ClientSet for FoldedClients {
     ghost use Rattle.std.specs.Prelude.{◌≡◌};
     ghost use Rattle.rep_shared.specs.Rows.{flat, rows_with, count_named, CanGoBack, AreSaved};
-    ghost use Rattle.rep_entry.specs.Staging.{planned, AreReady};
+    ghost use Rattle.rep_entry.specs.Staging.{planned_rows, AreReady};
 
     type Staged = Staged;
 
     ghost kept = { λ rows. flat rows };
 
-    ghost after = { λ rows staged. flat (rows_with rows (planned rows staged.0)) };
+    ghost after = { λ rows staged. flat (rows_with rows (planned_rows rows staged.0)) };
 
     ghost ready = { λ rows staged. AreReady rows staged.0
-        × (staged.1 ≡ count_named (rows_with rows (planned rows staged.0))) };
+        × (staged.1 ≡ count_named (rows_with rows (planned_rows rows staged.0))) };
 
     ghost back = { λ rows aside. flat (rows_with rows aside) };
 

@@ -16,7 +16,7 @@ use Rattle.sn_plan.specs.Drafts.{Drafted}
 use Rattle.sn_plan.specs.Numbering.{put_at_seq, with_puts, handed_to, handed_at_seq, with_handed, retain_at_clock, with_retain, ack_of}
 use Rattle.sn_local.specs.Seen.{Seen, seen_of}
 use Rattle.sn_plan.specs.Plans.{plan_of}
-use Rattle.sn_plan.specs.Own.{IsApart, WaitsOrIsAcked, new_message_of, new_messages, handed_of, handed_in, posted_of, retained_in}
+use Rattle.sn_plan.specs.Own.{PutsApart, WaitsOrIsAcked, new_message_of, new_messages, handed_of, handed_in, posted_of, retained_in}
 use Rattle.sn_plan.specs.Flush.{IsFlush}
 use Rattle.sn_plan.proofs.Lists.{and_then-some, map-some, all-both}
 use Rattle.row_laws.proofs.Planned.{Parts, planned-parts, puts-passed, retain-passed, handed-passed}
@@ -118,7 +118,7 @@ module _ (g : ℕ) (c : List ℕ) (S : List Op) (d : Drafted) (plan : Plan) (pla
   waits (Ack e origin first last) h u = tt
   waits (OfRetain topic kept) h u = tt
 
-  pub plan-waits : IsFlush g c S → IsApart d → AllByRecursion (WaitsOrIsAcked (S ++ plan.ops) c d.acks) plan.ops
+  pub plan-waits : IsFlush g c S → PutsApart d → AllByRecursion (WaitsOrIsAcked (S ++ plan.ops) c d.acks) plan.ops
   plan-waits flush apart = all-both (HasOperation (S ++ plan.ops)) (IsUnacknowledged S) (WaitsOrIsAcked (S ++ plan.ops) c d.acks) waits plan.ops
       (fresh-stand S plan.ops (plan-fresh g c S d plan planned flush apart))
       (plan-unacked g c S d plan planned)

@@ -30,7 +30,7 @@ ghost use Rattle.sn_plan.specs.Others.{other};
 ghost use Rattle.sn_plan.specs.Numbering.{Written, start_of, changes_written, handed_to, kept_as};
 ghost use Rattle.sn_local.specs.Seen.{Seen, seen_of};
 ghost use Rattle.sn_plan.specs.Plans.{plan_of};
-ghost use Rattle.sn_plan.specs.Own.{IsOwnWrite, HasNoneOf, AddsNothingOwn, AreFresh, IsApart, HasMoment, WaitsOrIsAcked, new_messages, handed_in, retained_in, IsOfDraft, PublishesNothing, MakesNoMessage};
+ghost use Rattle.sn_plan.specs.Own.{IsOwnWrite, HasNoneOf, AddsNothingOwn, AreFresh, PutsApart, HasMoment, WaitsOrIsAcked, new_messages, handed_in, retained_in, IsOfDraft, PublishesNothing, MakesNoMessage};
 ghost use Rattle.sn_plan.specs.Flush.{IsFlush, HaveNoGap, Shows, session_with};
 
 /// A gateway writes under names of its own: the session operations of a plan are of the client that
@@ -89,12 +89,12 @@ pub fn reads_back()
 /// the set stays consistent, and a gateway never refuses what it made itself for a conflict.
 pub fn fresh_names()
     ensures fresh { (g : ℕ) (c : List ℕ) (S : List Op) (d : Drafted) (plan : Plan) → IsFlush g c S
-        → IsApart d → plan_of g c (seen_of S) d ≡ Some plan → AreFresh S plan.ops }
+        → PutsApart d → plan_of g c (seen_of S) d ≡ Some plan → AreFresh S plan.ops }
     ensures fits { (g : ℕ) (c : List ℕ) (S : List Op) (d : Drafted) (plan : Plan) → IsFlush g c S
-        → IsApart d → plan_of g c (seen_of S) d ≡ Some plan → (delta : List Op)
+        → PutsApart d → plan_of g c (seen_of S) d ≡ Some plan → (delta : List Op)
         → Same delta plan.ops → AllAgree S delta × AllAgree (keep S) delta }
     ensures consistent { (g : ℕ) (c : List ℕ) (S : List Op) (d : Drafted) (plan : Plan)
-        → IsFlush g c S → IsApart d → plan_of g c (seen_of S) d ≡ Some plan → IsConsistent S
+        → IsFlush g c S → PutsApart d → plan_of g c (seen_of S) d ≡ Some plan → IsConsistent S
         → IsConsistent (S ++ plan.ops) }
 {}
 
@@ -119,7 +119,7 @@ pub fn messages_wait()
         → plan_of g c (seen_of S) d ≡ Some plan → IfSome d.retain (λ m. ¬ (m.topic ≡ t))
         → retained t (S ++ plan.ops) ≡ retained t S }
     ensures waiting { (g : ℕ) (c : List ℕ) (S : List Op) (d : Drafted) (plan : Plan) → IsFlush g c S
-        → IsApart d → plan_of g c (seen_of S) d ≡ Some plan
+        → PutsApart d → plan_of g c (seen_of S) d ≡ Some plan
         → AllByRecursion (WaitsOrIsAcked (S ++ plan.ops) c d.acks) plan.ops }
 {}
 
@@ -186,7 +186,7 @@ pub fn rows_make_no_message()
 /// never refuses for a conflict what it made itself, stays flush when it takes it, and loses a
 /// message by it only where the step itself acknowledges it.
 pub fn every_row()
-    ensures drafted { (g : ℕ) (seen : Seen) (row : Row) (plan : Plan) → IsApart row.draft
+    ensures drafted { (g : ℕ) (seen : Seen) (row : Row) (plan : Plan) → PutsApart row.draft
         → plan_of_row g seen row ≡ Some plan → IsOfDraft g seen plan }
     ensures fits { (g : ℕ) (S : List Op) (plan : Plan) → HaveNoGap g S
         → IsOfDraft g (seen_of S) plan

@@ -71,15 +71,16 @@ will_topic_in seen a bound dialog will now Topic =
 will_topic_in seen a bound dialog will now (Message topic) = unexpected_row a bound now
 
 -- WILLTOPIC at an address; without a dialog there nothing waits for it
-abbrev pub topic_at : Seen → Addr → Option (List ℕ) → Option WillDialog → Option Will → ℕ → Row
-topic_at seen a bound None will now = unexpected_row a bound now
-topic_at seen a bound (Some dialog) will now =
+abbrev pub will_topic_from : Seen → Addr → Option (List ℕ) → Option WillDialog → Option Will → ℕ
+    → Row
+will_topic_from seen a bound None will now = unexpected_row a bound now
+will_topic_from seen a bound (Some dialog) will now =
     will_topic_in seen a bound dialog will now dialog.awaited
 
 -- the row of WILLTOPIC (6.2)
 abbrev pub will_topic : Seen → Local → Addr → Option Will → ℕ → Row
 will_topic seen local a will now =
-    topic_at seen a (client_at a local.bindings) (dialog_at a local.dialogs) will now
+    will_topic_from seen a (client_at a local.bindings) (dialog_at a local.dialogs) will now
 
 -- the will of this topic with this message
 abbrev pub will_of : WillTopic → List ℕ → SessionWill
@@ -99,15 +100,15 @@ message_in seen a bound request message now (Message topic) =
     row_with_timer bound now (message_row seen request topic message now)
 
 -- WILLMSG at an address; without a dialog there nothing waits for it
-abbrev pub message_at : Seen → Addr → Option (List ℕ) → Option WillDialog → List ℕ → ℕ → Row
-message_at seen a bound None message now = unexpected_row a bound now
-message_at seen a bound (Some dialog) message now =
+abbrev pub will_message_from : Seen → Addr → Option (List ℕ) → Option WillDialog → List ℕ → ℕ → Row
+will_message_from seen a bound None message now = unexpected_row a bound now
+will_message_from seen a bound (Some dialog) message now =
     message_in seen a bound dialog.request message now dialog.awaited
 
 -- the row of WILLMSG (6.2)
 abbrev pub will_msg : Seen → Local → Addr → List ℕ → ℕ → Row
 will_msg seen local a message now =
-    message_at seen a (client_at a local.bindings) (dialog_at a local.dialogs) message now
+    will_message_from seen a (client_at a local.bindings) (dialog_at a local.dialogs) message now
 
 -- WILLTOPICUPD of the bound client; without one the address is turned away
 abbrev pub topic_update_of : Addr → Option (List ℕ) → Option Will → ℕ → Row

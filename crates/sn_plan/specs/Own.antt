@@ -37,16 +37,16 @@ AddsNothingOwn g c S D =
     → operation_at c S (stamp_of epoch g, counter) ≡ Some change
 
 -- the set has nothing under the name of the session operation or message, or of what is retained
-abbrev pub IsFresh : List Op → Op → Type 0
-IsFresh S (OfSession c stamp counter change) = operation_at c S (stamp, counter) ≡ None
-IsFresh S (OfPut c put) = put_at c S (put.seq, put.origin) ≡ None
-IsFresh S (Ack c origin first last) = Unit {0}
-IsFresh S (OfRetain t kept) = retain_at t S (clock_of kept) ≡ None
+abbrev pub IsFreshName : List Op → Op → Type 0
+IsFreshName S (OfSession c stamp counter change) = operation_at c S (stamp, counter) ≡ None
+IsFreshName S (OfPut c put) = put_at c S (put.seq, put.origin) ≡ None
+IsFreshName S (Ack c origin first last) = Unit {0}
+IsFreshName S (OfRetain t kept) = retain_at t S (clock_of kept) ≡ None
 
 -- each is fresh in the set with the operations before it, so no name occurs twice
 abbrev pub AreFresh : List Op → List Op → Type 0
 AreFresh S [] = Unit {0}
-AreFresh S (op ∷ rest) = IsFresh S op × AreFresh (S ++ op ∷ []) rest
+AreFresh S (op ∷ rest) = IsFreshName S op × AreFresh (S ++ op ∷ []) rest
 
 -- messages for clients that are all different
 abbrev pub IsOneEach : List NewPut → Type 0
@@ -56,7 +56,7 @@ IsOneEach (p ∷ rest) =
 
 -- what a draft may put and hand: messages for clients that are all different, and none of them
 -- where its own client is handed what was retained
-pub record IsApart (d : Drafted) : Type 0 where
+pub record PutsApart (d : Drafted) : Type 0 where
   pub one_each : IsOneEach d.puts
   pub alone : (d.handed ≡ []) ⊎ (d.puts ≡ [])
 
@@ -118,7 +118,7 @@ WaitsOrIsAcked S c acks (OfRetain t kept) = Unit {0}
 pub record IsOfDraft (g : ℕ) (seen : Seen) (plan : Plan) : Type 0 where
   pub client : List ℕ
   pub draft : Drafted
-  pub apart : IsApart draft
+  pub apart : PutsApart draft
   pub is : plan_of g client seen draft ≡ Some plan
 
 -- the row makes no message of a publication, and retains nothing

@@ -47,7 +47,7 @@ use Rattle.sn_local.specs.Locals.{Local}
 use Rattle.sn_plan.specs.Bound.{bound_to, session_of}
 use Rattle.sn_plan.specs.Rows.{row_of, row_of_none, row_lasting, row_with_timer}
 use Rattle.sn_plan.specs.Asking.{retain_asked}
-use Rattle.sn_plan.specs.Own.{IsOneEach, IsApart, IsOfDraft}
+use Rattle.sn_plan.specs.Own.{IsOneEach, PutsApart, IsOfDraft}
 use Rattle.sn_plan.proofs.Made.{Made, made, SameMade, no_puts, no_handed}
 use Rattle.row_laws.proofs.Drafting.{row-drafted, connect-made, disconnect-made, will_topic-made, will_msg-made, will_topic_update-made, will_msg_update-made, register-made, subscribe-puts, unsubscribe-made, other-made}
 use Rattle.sn_exchange.specs.declared.form.Form.{Form}
@@ -195,14 +195,14 @@ pub followed_for_puts : (predefined : Entries) (seen : Seen) (a : Addr) (now : �
 followed_for_puts predefined seen a now d follow client = ap (λ (m : Made). m.0) (followed_for_made predefined seen a now d follow client)
 
 -- a draft that makes the same is as well apart
-apart_as : (d e : Drafted) → SameMade e d → IsApart d → IsApart e
+apart_as : (d e : Drafted) → SameMade e d → PutsApart d → PutsApart e
 apart_as d e same h = record {
   one_each = subst (λ (m : Made). IsOneEach m.0) (sym same) h.one_each;
   alone = subst (λ (m : Made). (m.1 ≡ []) ⊎ (m.0 ≡ [])) (sym same) h.alone;
 }
 
 -- the plan of a row with what follows it
-pub next-drafted : (g : ℕ) (predefined : Entries) (seen : Seen) (a : Addr) (now : ℕ) (row : Row) (plan : Plan) → IsApart row.draft → deliver_next g predefined seen a now row ≡ Some plan → IsOfDraft g seen plan
+pub next-drafted : (g : ℕ) (predefined : Entries) (seen : Seen) (a : Addr) (now : ℕ) (row : Row) (plan : Plan) → PutsApart row.draft → deliver_next g predefined seen a now row ≡ Some plan → IsOfDraft g seen plan
 next-drafted g predefined seen a now row plan apart e =
     row-drafted g seen (followed predefined seen a now row) plan
     (apart_as row.draft (followed_for predefined seen a now row.draft row.follow row.client) (followed_for_made predefined seen a now row.draft row.follow row.client) apart) e
@@ -277,16 +277,16 @@ module _ (seen : Seen) (topic : List ℕ) (qos : ℕ) (body : List ℕ) where
 
 -- ---- the rows of publications
 
-no_message : (d : Drafted) → d.puts ≡ [] → IsApart d
+no_message : (d : Drafted) → d.puts ≡ [] → PutsApart d
 no_message d h = record { one_each = subst IsOneEach (sym h) tt; alone = inr h }
 
-none_one : (d : Drafted) → MakesNone d → IsApart d
+none_one : (d : Drafted) → MakesNone d → PutsApart d
 none_one d h = no_message d (no_puts d h)
 
-none_row : (row : Row) → MakesNone row.draft → IsApart row.draft
+none_row : (row : Row) → MakesNone row.draft → PutsApart row.draft
 none_row row h = none_one row.draft h
 
-choose_one : (b : Bool) (x y : Drafted) → IsApart x → IsApart y → IsApart (if b then x else y)
+choose_one : (b : Bool) (x y : Drafted) → PutsApart x → PutsApart y → PutsApart (if b then x else y)
 choose_one true x y h k = h
 choose_one false x y h k = k
 
@@ -298,35 +298,35 @@ module _ (S : List Op) where
   will_one c None = tt
   will_one c (Some will) = among_each (seen_of S) will.topic will.qos will.message (filter (is_another c) (clients S)) (filter_apart (is_another c) (clients S) (clients_apart S))
 
-  twice_one : (asked : Bool) (a : Addr) (s : Session) (topic msg_id : ℕ) (body name : List ℕ) → IsApart (publish_at_2 (seen_of S) asked a s topic msg_id body name)
+  twice_one : (asked : Bool) (a : Addr) (s : Session) (topic msg_id : ℕ) (body name : List ℕ) → PutsApart (publish_at_2 (seen_of S) asked a s topic msg_id body name)
   twice_one asked a s topic msg_id body name =
       choose_one (is_received msg_id s.received) _ _ (record { one_each = tt; alone = inl refl })
       (choose_one (id_has_no_room msg_id s.received) _ _ (record { one_each = tt; alone = inl refl }) (record { one_each = puts_one name 2 body; alone = inl refl }))
 
-  publish_at_one : (asked : Bool) (a : Addr) (s : Session) (topic msg_id : ℕ) (body name : List ℕ) (qos : Qos) → IsApart (publish_at (seen_of S) asked a s topic msg_id body name qos)
+  publish_at_one : (asked : Bool) (a : Addr) (s : Session) (topic msg_id : ℕ) (body name : List ℕ) (qos : Qos) → PutsApart (publish_at (seen_of S) asked a s topic msg_id body name qos)
   publish_at_one asked a s topic msg_id body name levels.Zero = record { one_each = puts_one name 0 body; alone = inl refl }
   publish_at_one asked a s topic msg_id body name levels.One = record { one_each = puts_one name 1 body; alone = inl refl }
   publish_at_one asked a s topic msg_id body name levels.Two = twice_one asked a s topic msg_id body name
   publish_at_one asked a s topic msg_id body name levels.MinusOne = record { one_each = puts_one name 0 body; alone = inl refl }
 
-  publish_meant_one : (asked : Bool) (a : Addr) (s : Session) (topic msg_id : ℕ) (body : List ℕ) (qos : Qos) (meant : Meant) → IsApart (publish_meant (seen_of S) asked a s topic msg_id body qos meant)
+  publish_meant_one : (asked : Bool) (a : Addr) (s : Session) (topic msg_id : ℕ) (body : List ℕ) (qos : Qos) (meant : Meant) → PutsApart (publish_meant (seen_of S) asked a s topic msg_id body qos meant)
   publish_meant_one asked a s topic msg_id body qos (Refused code) = record { one_each = tt; alone = inl refl }
   publish_meant_one asked a s topic msg_id body qos (Topic name) = publish_at_one asked a s topic msg_id body name qos
 
-  spread_meant_one : (asked : Bool) (body : List ℕ) (meant : Meant) → IsApart (spread_meant (seen_of S) asked body meant)
+  spread_meant_one : (asked : Bool) (body : List ℕ) (meant : Meant) → PutsApart (spread_meant (seen_of S) asked body meant)
   spread_meant_one asked body (Refused code) = record { one_each = tt; alone = inl refl }
   spread_meant_one asked body (Topic name) = record { one_each = puts_one name 0 body; alone = inl refl }
 
-  heard_one : (c : List ℕ) (now : ℕ) (d : Drafted) → IsApart d → IsApart (moved (Heard c now) d)
+  heard_one : (c : List ℕ) (now : ℕ) (d : Drafted) → PutsApart d → PutsApart (moved (Heard c now) d)
   heard_one c now d h = record { one_each = h.one_each; alone = h.alone }
 
-  publish_of_one : (predefined : Entries) (a : Addr) (bound : Option (List ℕ)) (bits topic msg_id : ℕ) (body : List ℕ) (now : ℕ) → IsApart (publish_of predefined (seen_of S) a bound bits topic msg_id body now).draft
+  publish_of_one : (predefined : Entries) (a : Addr) (bound : Option (List ℕ)) (bits topic msg_id : ℕ) (body : List ℕ) (now : ℕ) → PutsApart (publish_of predefined (seen_of S) a bound bits topic msg_id body now).draft
   publish_of_one predefined a None bits topic msg_id body now = record { one_each = tt; alone = inl refl }
   publish_of_one predefined a (Some c) bits topic msg_id body now =
       heard_one c now _
       (publish_meant_one (retain_asked bits) a (session_of (seen_of S) c) topic msg_id body (qos_of bits) (publication_meant predefined (session_of (seen_of S) c) bits topic body))
 
-  publish_in_one : (predefined : Entries) (local : Local) (a : Addr) (bits topic msg_id : ℕ) (body : List ℕ) (now : ℕ) (qos : Qos) → IsApart (publish_in_at predefined (seen_of S) local a bits topic msg_id body now qos).draft
+  publish_in_one : (predefined : Entries) (local : Local) (a : Addr) (bits topic msg_id : ℕ) (body : List ℕ) (now : ℕ) (qos : Qos) → PutsApart (publish_in_at predefined (seen_of S) local a bits topic msg_id body now qos).draft
   publish_in_one predefined local a bits topic msg_id body now levels.MinusOne = spread_meant_one (retain_asked bits) body (publication_meant predefined empty_session bits topic body)
   publish_in_one predefined local a bits topic msg_id body now levels.Zero = publish_of_one predefined a (client_at a local.bindings) bits topic msg_id body now
   publish_in_one predefined local a bits topic msg_id body now levels.One = publish_of_one predefined a (client_at a local.bindings) bits topic msg_id body now
@@ -414,7 +414,7 @@ wake_made g seen local a c now =
 
 -- ---- each row has at most one message a client
 
-row_one : (g : ℕ) (predefined : Entries) (S : List Op) (local : Local) (a : Addr) (frame : Frame) (now : ℕ) → IsApart (row_for g predefined (seen_of S) local a frame now).draft
+row_one : (g : ℕ) (predefined : Entries) (S : List Op) (local : Local) (a : Addr) (frame : Frame) (now : ℕ) → PutsApart (row_for g predefined (seen_of S) local a frame now).draft
 row_one g predefined S local a (frames.Connect flags protocol duration client) now = none_row (row_for g predefined (seen_of S) local a (frames.Connect flags protocol duration client) now) (connect-made (seen_of S) local a flags.bits protocol duration client now)
 row_one g predefined S local a (frames.WillTopic will) now = none_row (row_for g predefined (seen_of S) local a (frames.WillTopic will) now) (will_topic-made (seen_of S) a now local will)
 row_one g predefined S local a (frames.WillMsg message) now = none_row (row_for g predefined (seen_of S) local a (frames.WillMsg message) now) (will_msg-made (seen_of S) a now local message)
@@ -434,7 +434,7 @@ row_one g predefined S local a (frames.PingReq client) now = none_row (row_for g
 row_one g predefined S local a frame now = none_row (row_for g predefined (seen_of S) local a frame now) (other-made g local a frame now)
 
 -- a moment makes no message
-lasting_one : (moment : ℕ) (d : Drafted) → IsApart d → IsApart (lasting moment d)
+lasting_one : (moment : ℕ) (d : Drafted) → PutsApart d → PutsApart (lasting moment d)
 lasting_one moment d h = record { one_each = h.one_each; alone = h.alone }
 
 pub step-drafted : (g lifetime : ℕ) (predefined : Entries) (S : List Op) (local : Local) (a : Addr) (frame : Frame) (now : ℕ) (plan : Plan) → step g lifetime predefined (seen_of S) local a frame now ≡ Some plan → IsOfDraft g (seen_of S) plan

@@ -15,9 +15,9 @@ use Rattle.gw_serve.specs.inner.Queue.{hand}
 use Rattle.gw_serve.specs.Serving.{is_frame, Gains}
 
 -- so many numbers that follow each other, of which this is the first
-abbrev pub numbers_from : ℕ → ℕ → List ℕ
-numbers_from first zero = []
-numbers_from first (suc count) = first ∷ numbers_from (first + 1) count
+abbrev pub row_numbers_from : ℕ → ℕ → List ℕ
+row_numbers_from first zero = []
+row_numbers_from first (suc count) = first ∷ row_numbers_from (first + 1) count
 
 -- nothing was taken, and there is room for as many datagrams as the queue holds
 pub record IsEmptyRow (row : Row) : Type 0 where

@@ -78,5 +78,5 @@ left_by_digest digest (Ack c origin first last) =
 left_by_digest digest (OfRetain t kept) = left_retained (topic_entry_of t digest.topics) t kept
 
 -- the operations are what a digest leaves of what must be kept
-abbrev pub IsLeft : Digested → List Op → List Op → Type 0
-IsLeft digest K X = IsRest digest (keep K) X
+abbrev pub IsLeftByDigest : Digested → List Op → List Op → Type 0
+IsLeftByDigest digest K X = IsRest digest (keep K) X

@@ -11,7 +11,7 @@ abbrev pub HaveFewRanges : OriginEntry → Type 0
 HaveFewRanges o = (length o.acknowledged < 2 ^ 32) × (length o.waiting < 2 ^ 32)
 
 -- the counts of an entry fit the octets that they are written in
-pub record IsWritable (e : ClientEntry) : Type 0 where
+pub record IsEntryWritable (e : ClientEntry) : Type 0 where
   pub origins : length e.origins < 2 ^ 16
   pub ranges : AllByRecursion HaveFewRanges e.origins
 

@@ -2,7 +2,7 @@
 
 ghost use Rattle.std.specs.Prelude.{◌≡◌, []};
 ghost use Rattle.rep_read.specs.Reading.{ReadsAs, many_at};
-ghost use Rattle.rep_digest.specs.Reading.{origin_at, origins_at, entry_at};
+ghost use Rattle.rep_digest.specs.Reading.{origin_at, origins_at, client_entry_at};
 ghost use Rattle.rep_digest.specs.Reading as spec;
 
 use super::part::{read_origin, read_seen};
@@ -51,9 +51,9 @@ fn stamp_from(epoch: u64, gateway: u8, prefix: u16) -> Option<Stamp>
 }
 
 /// An entry.
-#[tactic(auto, unfolding(crate::specs::Reading::entry_at))]
+#[tactic(auto, unfolding(crate::specs::Reading::client_entry_at))]
 pub fn read_entry(alloc: Global, bytes: &[u8]) -> Result<(ClientEntry, &[u8]), OpsFault>
-    ensures { ReadsAs (λ x. (x.0, x.1.now)) result (entry_at bytes.now) }
+    ensures { ReadsAs (λ x. (x.0, x.1.now)) result (client_entry_at bytes.now) }
 {
     let (client, rest) = read_client(alloc, bytes)?;
     let ((epoch, gateway, prefix), rest) = read_seen(rest)?;

@@ -7,7 +7,7 @@ use Rattle.rep_shared.specs.Steps.{capped, waits}
 use Rattle.rep_log.specs.declared.log.Log.{Log}
 use Rattle.rep_entry.specs.declared.entry.Entry.{Entry}
 use Rattle.rep_log.specs.Logs.{all_in_log, stamp_on, prefix_on, session_on, known_on}
-use Rattle.rep_log.specs.Origins.{above_gaps}
+use Rattle.rep_log.specs.Origins.{origins_above_gaps}
 
 -- the entry with the log, if one is staged
 abbrev pub with_log : Entry → Option Log → Entry
@@ -33,7 +33,7 @@ parked_on entry (Some log) =
 -- how many acknowledgements are above a gap; the count stays if none are staged
 abbrev pub exceptions_on : Entry → Option (List (ℕ × List (ℕ × ℕ))) → ℕ
 exceptions_on entry None = entry.exceptions
-exceptions_on entry (Some acks) = capped (above_gaps acks 255)
+exceptions_on entry (Some acks) = capped (origins_above_gaps acks 255)
 
 -- there is room for the operations after those that are there
 abbrev pub HasLogRoom : List ((Stamp × ℕ) × SessionOp) → Option Log → ℕ → Type 0

@@ -12,7 +12,7 @@ use Rattle.rep_model.specs.declared.fault.Limit.{Limit}
 use Rattle.rep_shared.specs.inner.Tables.{passed_of}
 use Rattle.rep_plain.specs.declared.entry.Entry.{Entry}
 use Rattle.rep_shared.specs.Rows.{flat, rows_with, CanGoBack}
-use Rattle.rep_plain.specs.Tables.{rows_of, AreEntries, IsTable}
+use Rattle.rep_plain.specs.Tables.{rows_of, AreEntries, IsPlainTable}
 
 -- the operations of each client, if there is nothing else yet
 abbrev pub groups_of : List (List ℕ × Vec Op Global) → List (List ℕ × List Op)
@@ -21,10 +21,10 @@ groups_of groups = map (λ e. (e.0, e.1.items)) groups
 -- the table with more places, and nothing in them
 pub record IsRoomier (old new : List (List ℕ × Entry)) : Type 0 where
   pub same : flat (rows_of new) ≡ flat (rows_of old)
-  pub table : (count : ℕ) → IsTable old count → IsTable new count
+  pub table : (count : ℕ) → IsPlainTable old count → IsPlainTable new count
   pub found : (c : List ℕ) → IsSome (find client_cmp c (rows_of old))
       → IsSome (find client_cmp c (rows_of new))
-  pub back : (count : ℕ) → IsTable old count → (aside : List (List ℕ × List Op))
+  pub back : (count : ℕ) → IsPlainTable old count → (aside : List (List ℕ × List Op))
       → CanGoBack (rows_of old) aside → CanGoBack (rows_of new) aside
       × (flat (rows_with (rows_of new) aside) ≡ flat (rows_with (rows_of old) aside))
 

@@ -25,11 +25,11 @@ AreMovable es gs =
     AllByRecursion (λ g. IsReady (is_some (find client_cmp g.0 es)) g.0 (base_at g.0 es) g.1) gs
 
 -- the changes are what they are said to be, whether they pass a limit or not
-pub record IsWorkedOut (c : List ℕ) (base : Base) (change : Change) : Type 0 where
+pub record IsChangeWorkedOut (c : List ℕ) (base : Base) (change : Change) : Type 0 where
   pub change_is : IsChange change
   pub fit : IsFit c base change
   pub counted : change.pending ≡ length (left_on base change.news.items change.acks)
 
 -- each client has its change worked out, whether it passes a limit or not
-abbrev pub AreWorkedOut : List (List ℕ × Entry) → List (List ℕ × Change) → Type 0
-AreWorkedOut es gs = AllByRecursion (λ g. IsWorkedOut g.0 (base_at g.0 es) g.1) gs
+abbrev pub AreChangesWorkedOut : List (List ℕ × Entry) → List (List ℕ × Change) → Type 0
+AreChangesWorkedOut es gs = AllByRecursion (λ g. IsChangeWorkedOut g.0 (base_at g.0 es) g.1) gs

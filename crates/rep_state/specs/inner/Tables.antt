@@ -12,7 +12,7 @@ use Rattle.rep_shared.specs.inner.Tables.{passed_of}
 use Rattle.rep_entry.specs.declared.entry.Entry.{Entry}
 use Rattle.rep_state.specs.declared.places.Place.{Place}
 use Rattle.rep_entry.specs.Entries.{IsEntry}
-use Rattle.rep_state.specs.Tables.{rows_of, IsKept, IsTable}
+use Rattle.rep_state.specs.Tables.{rows_of, IsKept, IsEntryTable}
 
 -- places are in the order of their names
 abbrev pub place_cmp : Place → Place → Ordering
@@ -30,10 +30,10 @@ AreWorkedOut es = AllByRecursion (λ e. IsEntry e.0 e.1) es
 -- the table with more places, and nothing in them
 pub record IsRoomier (old new : List (List ℕ × Entry)) : Type 0 where
   pub same : flat (rows_of new) ≡ flat (rows_of old)
-  pub table : (count : ℕ) → IsTable old count → IsTable new count
+  pub table : (count : ℕ) → IsEntryTable old count → IsEntryTable new count
   pub found : (c : List ℕ) → IsSome (find client_cmp c (rows_of old))
       → IsSome (find client_cmp c (rows_of new))
-  pub back : (count : ℕ) → IsTable old count → (aside : List (List ℕ × List Op))
+  pub back : (count : ℕ) → IsEntryTable old count → (aside : List (List ℕ × List Op))
       → CanGoBack (rows_of old) aside → CanGoBack (rows_of new) aside
       × (flat (rows_with (rows_of new) aside) ≡ flat (rows_with (rows_of old) aside))
 

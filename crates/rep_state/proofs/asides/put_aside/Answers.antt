@@ -8,7 +8,7 @@ use Rattle.rep_shared.specs.Rows.{has_any}
 use Rattle.rep_shared.proofs.Flat.{one_if}
 use Rattle.rep_entry.specs.declared.entry.Entry.{Entry}
 use Rattle.rep_entry.specs.Entries.{entry_row}
-use Rattle.rep_state.specs.Tables.{by_client, rows_of, IsTable}
+use Rattle.rep_state.specs.Tables.{by_client, rows_of, IsEntryTable}
 use Rattle.rep_state.specs.inner.Tables.{place_cmp, IsSaving}
 use Rattle.rep_state.specs.declared.places.Place.{Place}
 use Rattle.rep_state.proofs.Rows.{put_by_client, found_by_client}
@@ -38,7 +38,7 @@ returns-in_err-insert-clause-saving c =
     λ rows sorted there own. subst (λ (es : List (Vec ℕ Global × Entry)). IsSaving rows (rows_of (by_client old)) (rows_of (by_client es))) (sym c.in_err-insert.ensures.err) (saving_itself rows (rows_of (by_client old)))
 
 pub returns-in_err-insert-clause-table : goal.returns-in_err-insert-clause-table
-returns-in_err-insert-clause-table c = subst (λ (es : List (Vec ℕ Global × Entry)). IsTable (by_client es) c.args.count.now) (sym c.in_err-insert.ensures.err) c.requires.aside
+returns-in_err-insert-clause-table c = subst (λ (es : List (Vec ℕ Global × Entry)). IsEntryTable (by_client es) c.args.count.now) (sym c.in_err-insert.ensures.err) c.requires.aside
 
 -- it has operations
 pub returns-then-has_operations-clause-table : goal.returns-then-has_operations-clause-table

@@ -7,7 +7,7 @@ use Rattle.rep_entry.specs.Entries.{IsFresh, fresh_row, entry_row, base_of}
 use Rattle.rep_state.specs.Tables.{by_client, rows_of}
 use Rattle.rep_state.specs.inner.Groups.{held_of, base_at}
 use Rattle.rep_entry.specs.Staging.{staged_of, planned_row}
-use Rattle.rep_state.specs.inner.Staging.{future, IsWorkedOut, AreWorkedOut}
+use Rattle.rep_state.specs.inner.Staging.{future, IsChangeWorkedOut, AreChangesWorkedOut}
 use Rattle.rep_entry.specs.Applied.{entry_applied}
 use Rattle.rep_state.proofs.Placing.{rows_last}
 use Rattle.rep_state.proofs.Staging.{staged_last, future_last}
@@ -40,6 +40,6 @@ returns-in_ok-push-in-Ok-clause-worked_out c =
     let octets = c.in-Ok.ensures ∙ c.bytes.ensures.octets in
     let held = c.entry_or_nothing.ensures in
     let fresh = subst (λ (e : Entry). IsFresh client e c.args.fresh) (sym held) c.requires.fresh in
-    let is = subst (λ (e : Entry). IsWorkedOut client (base_of e) change) held (record { change_is = c.in_ok-change.ensures.change client fresh; fit = c.in_ok-change.ensures.fit client fresh; counted = c.in_ok-change.ensures.counted client fresh }) in
-    subst (AreWorkedOut es) (sym (ap staged_of c.in_ok-push-in-Ok.ensures.items ∙ staged_last c.args.made.now.items (key, change)))
-    (all-both (λ (g : List ℕ × Change). IsWorkedOut g.0 (base_at g.0 es) g.1) (staged_of c.args.made.now.items) ((key.items, change) ∷ []) h (subst (λ (k : List ℕ). IsWorkedOut k (base_at k es) change) (sym octets) is, tt))
+    let is = subst (λ (e : Entry). IsChangeWorkedOut client (base_of e) change) held (record { change_is = c.in_ok-change.ensures.change client fresh; fit = c.in_ok-change.ensures.fit client fresh; counted = c.in_ok-change.ensures.counted client fresh }) in
+    subst (AreChangesWorkedOut es) (sym (ap staged_of c.in_ok-push-in-Ok.ensures.items ∙ staged_last c.args.made.now.items (key, change)))
+    (all-both (λ (g : List ℕ × Change). IsChangeWorkedOut g.0 (base_at g.0 es) g.1) (staged_of c.args.made.now.items) ((key.items, change) ∷ []) h (subst (λ (k : List ℕ). IsChangeWorkedOut k (base_at k es) change) (sym octets) is, tt))
