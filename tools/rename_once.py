@@ -5,11 +5,17 @@
     python3 tools/rename_once.py --check MAP    writes nothing
     python3 tools/rename_once.py --uses         prints each name of a `use` line that its module does not define
 
-A line of MAP is `CRATE MODULE OLD NEW` for a definition, with the module as `inner/Reading`, `fn CRATE FILE OLD NEW` for a function of
-src/FILE.rt, or `const CRATE FILE OLD NEW`; `#` begins a comment. A word is followed through the `use` lines of its file, with aliases and modules, to the definition, so that an
-equal word of another crate stays; a word that a binder of its paragraph binds stays too. An alias that a `use` line gave to a renamed definition
-becomes the new name. Edits that must fail are renamed as the text that they would make. What a line names and is not there (any more) is
-passed over, so that the script can be run again on another text.
+A line of MAP is one of these; `#` begins a comment:
+
+    CRATE MODULE OLD NEW            a definition; a module is written as inner/Reading
+    fn CRATE FILE OLD NEW           a function of src/FILE.rt
+    const CRATE FILE OLD NEW        a constant of src/FILE.rt
+    word OLD NEW CRATE ..           every such word of these crates
+
+A word is followed through the `use` lines of its file, with aliases and modules, to the definition, so that an equal word of another crate
+stays; a word that a binder of its paragraph binds stays too. An alias that a `use` line gave to a renamed definition becomes the new name.
+Goals that are called after a function are renamed with it, and so is the folder of its proof. Edits that must fail are renamed as the text
+that they would make. What a line names and is not there (any more) is passed over, so that the script can be run again on another text.
 """
 import collections
 import pathlib
@@ -25,13 +31,15 @@ TOKEN = re.compile(r"\[\]|[()\[\]{};,]|[^\s()\[\]{};,]+")
 
 
 def read_map(path):
-    defs, fns, consts = {}, {}, {}
+    defs, fns, consts, words_of = {}, {}, {}, {}
     for number, line in enumerate(pathlib.Path(path).read_text(encoding="utf-8").split("\n"), 1):
         words = line.partition("#")[0].split()
         if not words:
             continue
         if words[0] == "fn" and len(words) == 5:
             fns[words[1], words[2], words[3]] = words[4]
+        elif words[0] == "word" and len(words) > 3:
+            words_of[words[1], words[2]] = set(words[3:])
         elif words[0] == "const" and len(words) == 5:
             consts[words[1], words[2], words[3]] = words[4]
         elif len(words) == 4:
@@ -41,7 +49,7 @@ def read_map(path):
             defs[key] = words[3]
         else:
             print(f"{path}:{number}: no line of a map")
-    return defs, fns, consts
+    return defs, fns, consts, words_of
 
 
 def blank(text, pattern):
@@ -110,8 +118,8 @@ def module_of(path):
 
 
 class Renamer:
-    def __init__(self, defs, fns, consts):
-        self.consts = consts
+    def __init__(self, defs, fns, consts, words_of):
+        self.consts, self.words_of = consts, words_of
         self.defs, self.fns, self.report, self.passed = defs, fns, [], {}
         self.by_module = collections.defaultdict(dict)
         for (crate, module, old), new in defs.items():
@@ -513,7 +521,10 @@ class Renamer:
         return found
 
     def constants(self, path, crate, text, changes):
-        """Constants: a private one in its file, with the comments there; a public one in its crate and wherever a `use` line brings it."""
+        """Constants: a private one in its file, with the comments there; a public one in its crate and wherever a `use` line brings it. And words."""
+        for (old, new), crates in self.words_of.items():
+            for found in re.finditer(r"(?<!\w)" + old + r"(?!\w)", text) if crate in crates else ():
+                changes.put(*found.span(), new)
         file = "/".join(path.relative_to(CRATES / crate / ("src" if path.suffix == ".rt" else "")).with_suffix("").parts)
         for (where, home, old), new in self.consts.items():
             source = CRATES / where / "src" / (home + ".rt")
@@ -635,7 +646,7 @@ def main(words):
     if words == ["--uses"]:
         return check_uses()
     only_check = words[:1] == ["--check"]
-    defs, fns, consts = read_map(words[-1])
+    defs, fns, consts, words_of = read_map(words[-1])
     # every new name must be new
     known = collections.defaultdict(set)
     for path in CRATES.glob("*/specs/**/*.antt"):
@@ -646,7 +657,7 @@ def main(words):
             print(f"{new} is the new name of {count}")
         if new in known:
             print(f"{new} is defined already: {sorted(known[new])}")
-    renamer = Renamer(defs, fns, consts)
+    renamer = Renamer(defs, fns, consts, words_of)
     files = [*sorted(CRATES.glob("*/specs/**/*.antt")), *sorted(CRATES.glob("*/proofs/**/*.antt")), *sorted(CRATES.glob("*/src/**/*.rt"))]
     made = {}
     for path in files:

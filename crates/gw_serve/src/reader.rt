@@ -74,7 +74,7 @@ pub fn read_all<R: Wait, W: Wire>(
                     bell.note_put();
                     bell.ring(rt);
                 } else {
-                    wire.unheard();
+                    wire.note_dropped();
                 }
             }
         }

@@ -170,7 +170,7 @@ impl<R: Replica, D: Disk + Drop> Locked<R, D> {
 
     /// Shares of what was answered to the calls above a number that made a delta, with the numbers
     /// of the calls: the first of them, at most so many.
-    pub(crate) fn made_above(
+    pub(crate) fn deltas_made_after(
         &self,
         alloc: Global,
         pass: &Pass,

@@ -209,7 +209,10 @@ impl<R: Replica, D: Disk + Drop> Shift<R, D> {
         ensures most { IfOk result (λ all. length all.items ≤ max) }
         ensures err { IfErr result (MayNotTell pass.now) }
     {
-        let found = self.locked.lock(rt).made_above(alloc, pass, number, max);
+        let found = self
+            .locked
+            .lock(rt)
+            .deltas_made_after(alloc, pass, number, max);
         match found {
             Ok(shares) => Ok(copies(alloc, shares.as_slice())?),
             Err(fault) => Err(fault),

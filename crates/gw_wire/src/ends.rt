@@ -53,7 +53,7 @@ pub trait Wire {
             × (drops self.new ≡ drops self.old) };
 
     /// The last datagram was dropped: more waited than there was room for.
-    fn unheard(&mut self)
+    fn note_dropped(&mut self)
         ensures failures { failures self.new ≡ failures self.old }
         ensures dropped { (arrivals self.new ≡ arrivals self.old)
             × (drops self.new ≡ drops self.old + 1) };

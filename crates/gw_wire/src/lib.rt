@@ -1,7 +1,7 @@
 //! Where datagrams come from and where replies go.
 //!
 //! - `ends`: what a gateway asks of the outside (`Wire`, `Post`, `Gate`).
-//! - `udp`: a wire and a post over one UDP socket (`Socket`, with `Ears` and `Mouth`).
+//! - `udp`: a wire and a post over one UDP socket (`Socket`, with `UdpReceiver` and `UdpSender`).
 //! - `clock`: the clock of a field, which stands still while its gateway does, with its moments
 //!   (`FieldClock`), and the date of the machine.
 //! - `outage`: while nothing can be sent, no time passes either (`Outage`).
@@ -27,4 +27,4 @@ pub use clock::{
 };
 pub use ends::{Arrival, Gate, OpenGate, Post, Tally, Unsent, Wire, WireFault};
 pub use outage::{LONGEST_OUTAGE, OUTAGE_LINE_PAUSE, Outage, is_long, is_outage};
-pub use udp::{Ears, Mouth, Socket, address};
+pub use udp::{Socket, UdpReceiver, UdpSender, address};

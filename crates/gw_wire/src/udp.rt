@@ -55,7 +55,7 @@ pub struct Socket {
 
 /// The reader's side of a socket.
 #[derive(Drop)]
-pub struct Ears<'a> {
+pub struct UdpReceiver<'a> {
     clock: &'a FieldClock,
     socket: &'a UdpSocket,
     poll: &'a mut Poll,
@@ -70,7 +70,7 @@ pub struct Ears<'a> {
 
 /// The side by which threads send.
 #[derive(Clone, Copy, Drop)]
-pub struct Mouth<'a> {
+pub struct UdpSender<'a> {
     socket: &'a UdpSocket,
     /// Whether the system had no room for the last datagram, however often that was offered.
     choked: &'a AtomicBool,
@@ -119,7 +119,7 @@ impl Socket {
 
     /// The two sides, of which one gives each datagram the moment of this clock. Those who read
     /// count from here on.
-    pub fn sides<'a>(&'a mut self, clock: &'a FieldClock) -> (Ears<'a>, Mouth<'a>)
+    pub fn sides<'a>(&'a mut self, clock: &'a FieldClock) -> (UdpReceiver<'a>, UdpSender<'a>)
         ensures failures { result.0.failures.count ≡ 0 }
         ensures datagrams { (result.0.arrivals.count ≡ 0) × (result.0.drops.count ≡ 0) }
     {
@@ -131,7 +131,7 @@ impl Socket {
             local: _,
             failures: _,
         } = self;
-        let ears = Ears {
+        let ears = UdpReceiver {
             clock,
             socket,
             poll,
@@ -140,7 +140,7 @@ impl Socket {
             arrivals: Tally::none(),
             drops: Tally::none(),
         };
-        (ears, Mouth { socket, choked })
+        (ears, UdpSender { socket, choked })
     }
 }
 
@@ -196,7 +196,7 @@ fn value_of(room: i32) -> [u8; 16] {
     value
 }
 
-impl<'a> Ears<'a> {
+impl<'a> UdpReceiver<'a> {
     /// A datagram that is there, or nothing. A sender that has no IPv4 address is nothing.
     fn look(&self, buffer: &mut [u8]) -> io::Result<Option<(usize, Addr)>> {
         match self.socket.recv_from(buffer) {
@@ -247,7 +247,7 @@ impl<'a> Ears<'a> {
     }
 }
 
-impl<'a> Wire for Ears<'a> {
+impl<'a> Wire for UdpReceiver<'a> {
     ghost failures = { λ w. w.failures.count };
 
     ghost arrivals = { λ w. w.arrivals.count };
@@ -271,7 +271,7 @@ impl<'a> Wire for Ears<'a> {
         }
     }
 
-    fn unheard(&mut self) {
+    fn note_dropped(&mut self) {
         self.drops = Tally::next(&self.drops);
     }
 
@@ -282,7 +282,7 @@ impl<'a> Wire for Ears<'a> {
     }
 }
 
-impl<'a> Post for Mouth<'a> {
+impl<'a> Post for UdpSender<'a> {
     /// Where the system has no room, the datagram is offered again while other threads run: a
     /// client that wakes is sent all that waits at quality of service 0 at once, and nothing sends
     /// that again.

@@ -13,7 +13,7 @@ ghost use Rattle.rep_log.specs.Origins.{ranges_in};
 use super::span::{Span, between};
 use super::weaving::{goes_before, merge};
 use octets::NoMemory;
-use rep_log::{Acks, put_behind};
+use rep_log::{Acks, append_reusing};
 use rep_model::Puts;
 use rep_ops::Put;
 use std::collections::VecDeque;
@@ -111,7 +111,7 @@ fn with_new_messages(room: Vec<Put>, mut waiting: Vec<Put>, news: Vec<Put>) -> V
         return waiting;
     }
     if all_come_after(waiting.as_slice(), news.as_slice()) {
-        put_behind(&mut waiting, news, room);
+        append_reusing(&mut waiting, news, room);
         return waiting;
     }
     merge(room, VecDeque::from_vec(waiting), VecDeque::from_vec(news))

@@ -13,7 +13,7 @@ ghost use Rattle.rep_op.specs.Orders.{operation_cmp};
 ghost use Rattle.rep_model.specs.Keep as spec;
 ghost use Rattle.rep_shared.specs.Steps.{waits};
 
-use super::behind::put_behind;
+use super::behind::append_reusing;
 use octets::NoMemory;
 use rep_ops::Stamp;
 use sn_session::SessionOp;
@@ -114,7 +114,7 @@ impl Known {
         requires ordered { T (is_sorted operation_cmp (self.old ++ more)) }
         ensures { self.new ≡ self.old ++ more }
     {
-        put_behind(&mut self.ops, more.ops, room);
+        append_reusing(&mut self.ops, more.ops, room);
     }
 }
 

@@ -24,7 +24,7 @@ mod log;
 mod replay;
 
 pub use acks::Acks;
-pub use behind::put_behind;
+pub use behind::append_reusing;
 pub use known::{Known, NamedOp};
 pub use log::Log;
 pub use octets::NoMemory;

@@ -5,7 +5,7 @@ ghost use Rattle.std.specs.Prelude.{◌≡◌, ◌≤◌, length, true, IfSome};
 use crate::admission::Admission;
 use crate::board::{Board, Number};
 use crate::posting::Fence;
-use gw_wire::{Arrival, Ears, FieldClock, Socket};
+use gw_wire::{Arrival, FieldClock, Socket, UdpReceiver};
 use std::alloc::Global;
 
 /// How many octets a datagram has at most.
@@ -75,7 +75,7 @@ impl Late {
     }
 
     /// Where none came late, one that is there already counts as such: a shift begins with it.
-    pub(crate) fn look(&mut self, ears: &Ears<'_>) {
+    pub(crate) fn look(&mut self, ears: &UdpReceiver<'_>) {
         if self.arrival.is_none() {
             self.arrival = ears.waiting(self.bytes.as_mut_slice());
         }

@@ -216,7 +216,7 @@ impl<'a, T: Wait + Clock, W: Wire, P: Post> Wire for Watched<'a, T, W, P> {
         }
     }
 
-    fn unheard(&mut self) {
+    fn note_dropped(&mut self) {
         self.drops = Tally::next(&self.drops);
         self.shared.board.add(Number::Dropped);
         self.stage.give_back();
