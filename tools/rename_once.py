@@ -10,6 +10,7 @@ A line of MAP is one of these; `#` begins a comment:
     CRATE MODULE OLD NEW            a definition; a module is written as inner/Reading
     fn CRATE FILE OLD NEW           a function of src/FILE.rt
     const CRATE FILE OLD NEW        a constant of src/FILE.rt
+    file CRATE OLD NEW              src/OLD.rt, with the folder of its proofs
     word OLD NEW CRATE ..           every such word of these crates
 
 A word is followed through the `use` lines of its file, with aliases and modules, to the definition, so that an equal word of another crate
@@ -31,13 +32,15 @@ TOKEN = re.compile(r"\[\]|[()\[\]{};,]|[^\s()\[\]{};,]+")
 
 
 def read_map(path):
-    defs, fns, consts, words_of = {}, {}, {}, {}
+    defs, fns, consts, words_of, moves = {}, {}, {}, {}, {}
     for number, line in enumerate(pathlib.Path(path).read_text(encoding="utf-8").split("\n"), 1):
         words = line.partition("#")[0].split()
         if not words:
             continue
         if words[0] == "fn" and len(words) == 5:
             fns[words[1], words[2], words[3]] = words[4]
+        elif words[0] == "file" and len(words) == 4:
+            moves[words[1], words[2]] = words[3]
         elif words[0] == "word" and len(words) > 3:
             words_of[words[1], words[2]] = set(words[3:])
         elif words[0] == "const" and len(words) == 5:
@@ -49,7 +52,7 @@ def read_map(path):
             defs[key] = words[3]
         else:
             print(f"{path}:{number}: no line of a map")
-    return defs, fns, consts, words_of
+    return defs, fns, consts, words_of, moves
 
 
 def blank(text, pattern):
@@ -118,8 +121,8 @@ def module_of(path):
 
 
 class Renamer:
-    def __init__(self, defs, fns, consts, words_of):
-        self.consts, self.words_of = consts, words_of
+    def __init__(self, defs, fns, consts, words_of, moves):
+        self.consts, self.words_of, self.moves = consts, words_of, moves
         self.defs, self.fns, self.report, self.passed = defs, fns, [], {}
         self.by_module = collections.defaultdict(dict)
         for (crate, module, old), new in defs.items():
@@ -525,6 +528,16 @@ class Renamer:
         for (old, new), crates in self.words_of.items():
             for found in re.finditer(r"(?<!\w)" + old + r"(?!\w)", text) if crate in crates else ():
                 changes.put(*found.span(), new)
+        for (where, old), new in self.moves.items():
+            if not (CRATES / where / "src" / (old + ".rt")).is_file():
+                continue
+            self.hit["file", where, old] += 1
+            paths = rf"\bRattle\.{where}\.(?:proofs|specs\.declared|specs\.contracts)\.({old})(?=\.)"
+            if where == crate:
+                paths += rf"|\bmod ({old});|\buse ({old})::|\b(?:crate|super)::({old})(?=::)|^//! .*?`({old})`|\bproofs::({old})(?=::)"
+            for found in re.finditer(paths, text, re.M):
+                group = next(number for number in range(1, len(found.groups()) + 1) if found[number])
+                changes.put(*found.span(group), new)
         file = "/".join(path.relative_to(CRATES / crate / ("src" if path.suffix == ".rt" else "")).with_suffix("").parts)
         for (where, home, old), new in self.consts.items():
             source = CRATES / where / "src" / (home + ".rt")
@@ -554,6 +567,9 @@ class Renamer:
             if line.startswith("file: "):
                 path = crate / line[6:].strip()
                 made.append(line)
+                for (where, before), after in self.moves.items():
+                    if where == crate.name and line.strip() == f"file: src/{before}.rt" and path.is_file():
+                        made[-1] = f"file: src/{after}.rt"
             elif line.startswith("old: "):
                 old = line[5:]
                 made.append(None)
@@ -646,7 +662,7 @@ def main(words):
     if words == ["--uses"]:
         return check_uses()
     only_check = words[:1] == ["--check"]
-    defs, fns, consts, words_of = read_map(words[-1])
+    defs, fns, consts, words_of, moves = read_map(words[-1])
     # every new name must be new
     known = collections.defaultdict(set)
     for path in CRATES.glob("*/specs/**/*.antt"):
@@ -657,7 +673,7 @@ def main(words):
             print(f"{new} is the new name of {count}")
         if new in known:
             print(f"{new} is defined already: {sorted(known[new])}")
-    renamer = Renamer(defs, fns, consts, words_of)
+    renamer = Renamer(defs, fns, consts, words_of, moves)
     files = [*sorted(CRATES.glob("*/specs/**/*.antt")), *sorted(CRATES.glob("*/proofs/**/*.antt")), *sorted(CRATES.glob("*/src/**/*.rt"))]
     made = {}
     for path in files:
@@ -669,7 +685,7 @@ def main(words):
     for edit in sorted([*CRATES.glob("*/must-fail/*"), *CRATES.glob("*/edits/*")]):
         text = edit.read_text(encoding="utf-8")
         paths = {edit.parent.parent / line[6:].strip() for line in text.split("\n") if line.startswith("file: ")}
-        if paths & made.keys():
+        if paths & made.keys() or any(path == CRATES / where / "src" / (old + ".rt") for path in paths for where, old in moves):
             new = renamer.edit(edit.parent.parent, edit, None)
             if new != text:
                 made[edit] = new
@@ -679,6 +695,9 @@ def main(words):
     for key in fns:
         if ("fn", *key) not in hit:
             print("no function", *key)
+    for key in moves:
+        if ("file", *key) not in hit:
+            print("no file", *key)
     for key in consts:
         if ("const", *key) not in hit:
             print("no constant", *key)
@@ -690,6 +709,10 @@ def main(words):
             folder = CRATES / crate / "proofs" / file / old
             if folder.is_dir():
                 folder.rename(folder.parent / new)
+        for (crate, old), new in moves.items():
+            for before, after in (("src/" + old + ".rt", "src/" + new + ".rt"), ("proofs/" + old, "proofs/" + new)):
+                if (CRATES / crate / before).exists():
+                    (CRATES / crate / before).rename(CRATES / crate / after)
     print(f"{len(made)} files")
     return 0
 

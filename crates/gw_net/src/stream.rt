@@ -4,7 +4,7 @@ ghost use Rattle.std.specs.Prelude.{◌≡◌, ◌⊎◌, ◌↔◌, ◌-◌, �
 ghost use Rattle.gw_net.specs.Streams.{IsRead};
 
 use super::fault::LinkFault;
-use super::front::front;
+use super::framing::front;
 use super::message::LinkMessage;
 use octets::NoMemory;
 use std::alloc::Global;

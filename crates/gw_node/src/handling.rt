@@ -13,9 +13,9 @@ ghost use Rattle.gw_node.specs.Calls.{OwnCall, ViewCall, DigestCall, AnswerCall,
 ghost use Rattle.gw_node.specs.inner.Handling.{IsNoFrameBy, IsNoPlan, planned_for, ticked, CarriedOut, Answers, IsIdleAt};
 ghost use Rattle.gw_event.specs.Event.{shows};
 
-use super::anew::{handle_compact, handle_reopen};
 use super::carrying::{apply_local, write_and_apply, write_and_take};
 use super::node::Node;
+use super::rewriting::{handle_compact, handle_reopen};
 use gw_answer::{Out, Refusal, Shares, Step};
 use gw_own::excuses;
 use jr_journal::Disk;

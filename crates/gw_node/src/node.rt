@@ -13,13 +13,13 @@ ghost use Rattle.std.specs.Prelude.{◌≡◌, true};
 ghost use Rattle.gw_node.specs.inner.Resting.{rests};
 ghost use Rattle.gw_own.specs.inner.Tidy.{tidied};
 
-use super::anew::{handle_compact, handle_reopen};
 use super::carrying::write_and_take;
 use super::handling::{
     handle_answer, handle_digest, handle_frame, handle_step, handle_tick, handle_view,
 };
 use super::opening::{not_opened, nothing, start};
 use super::retained::retained_of;
+use super::rewriting::{handle_compact, handle_reopen};
 use super::row::{Reply, USUAL, WHOLE, play};
 use gw_answer::{Answer, NodeFault, Step, one_share, three_shares};
 use gw_glance::{glance, messages_known};

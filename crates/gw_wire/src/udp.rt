@@ -5,7 +5,7 @@ ghost use Rattle.gw_wire.specs.Addresses.{IsAddress};
 ghost use Rattle.gw_wire.specs.inner.Addresses as spec;
 
 use super::clock::FieldClock;
-use super::ends::{Arrival, Post, Tally, Unsent, Wire, WireFault};
+use super::traits::{Arrival, Post, Tally, Unsent, Wire, WireFault};
 use jr_disk::Failures;
 use libc::net::{SO_RCVBUF, SO_SNDBUF, SOL_SOCKET, setsockopt};
 use mio::net::UdpSocket;

@@ -16,7 +16,7 @@ ghost use Rattle.rep_shared.specs.Steps.{waits};
 ghost use Rattle.rep_log.specs.Logs.{history_in};
 ghost use Rattle.rep_log.specs.Logs.{IsKeptIn};
 
-use super::known::{Known, NamedOp, count_waiting, from_stamp};
+use super::named_ops::{Known, NamedOp, count_waiting, from_stamp};
 use super::replay::{find_among, go_on};
 use octets::NoMemory;
 use rep_model::ClientView;

@@ -9,7 +9,7 @@ ghost use Rattle.rep_model.specs.Views.{session_made};
 ghost use Rattle.rep_log.specs.Logs.{history_in};
 ghost use Rattle.rep_shared.specs.inner.Replays.{IsReplayed};
 
-use super::known::{NamedOp, find_op};
+use super::named_ops::{NamedOp, find_op};
 use octets::NoMemory;
 use rep_ops::{MAX_OPERATIONS, Stamp};
 use rep_shared::changed;

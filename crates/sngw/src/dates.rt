@@ -9,7 +9,7 @@ ghost use Rattle.std.specs.Prelude.{◌≡◌, if◌then◌else◌};
 ghost use Rattle.gw_wire.specs.Clock as clocks;
 
 use crate::board::{Number, Shared};
-use crate::late::Inlet;
+use crate::held_over::Inlet;
 use crate::lines::Said;
 use crate::running::tell;
 use crate::stop::Stop;

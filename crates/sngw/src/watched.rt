@@ -4,7 +4,7 @@ ghost use Rattle.std.specs.Prelude.{◌≡◌, ◌+◌};
 
 use crate::admission::{Admission, CONGESTION, Verdict};
 use crate::board::{Number, Shared};
-use crate::late::Late;
+use crate::held_over::Late;
 use gw_link::{Phase, Stage};
 use gw_wire::{Arrival, Post, Tally, Wire, WireFault};
 use jr_disk::Failures;
