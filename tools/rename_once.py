@@ -275,15 +275,19 @@ class Renamer:
     def parts_of(mask):
         """The signatures, definitions and equations of a text, each with the parameters of the modules around it."""
         known = set(re.findall(r"^\s*(?:pub\s+)?(\S+)\s+:\s", mask, re.M)) | {"module"}
-        starts, at, depth = [], 0, 0
+        starts, at, depth, record = [], 0, 0, None
         for line in mask.split("\n"):
             words = line.split()
             first = next((word for word in words if word != "pub"), "")
             depth = 0 if line[:1].strip() else depth
             begins = first in ("abbrev", "unfoldable", "record", "data", "module") or re.match(r"\s*(?:pub\s+)?\S+\s+:\s", line)
             begins = begins or first in known and re.search(r"\s=(\s|$)", re.sub(r"\([^()]*\)|\{[^{}]*\}", "", line))
-            if line[:1].strip() or begins and depth == 0:
-                starts.append((at, len(line) - len(line.lstrip()), first, line))
+            indent = len(line) - len(line.lstrip())
+            # (the fields of a record see its parameters)
+            record = None if words and record is not None and indent <= record else record
+            if line[:1].strip() or begins and depth == 0 and record is None:
+                starts.append((at, indent, first, line))
+                record = indent if {"record", "data"} & set(words[:3]) and words[-1:] != ["}"] and "=" not in words else record
             depth += sum(line.count(it) for it in "([{") - sum(line.count(it) for it in ")]}")
             at += len(line) + 1
         starts.append((len(mask), 0, "", ""))

@@ -83,7 +83,7 @@ pub record LeadsTo {D : Type 0} {G : Ghosts D} (Happens : Gateway → Gateway �
   pub stands : Represents next new
   pub foreseen : G.honest → G.starved (disk_under new.journal) ≡ false → IsForeseen gateway old
       → (fate ≡ gateway.drive.plan) × IsForeseen next new
-  pub lasts : CallAgrees → G.honest → Lasts gateway → Lasts next
+  pub lasts : Agrees → G.honest → Lasts gateway → Lasts next
 
 -- whatever delta a datagram or a tick makes contradicts nothing that the gateway has taken
 abbrev pub OwnAgrees : Gateway → Occasion → ℕ → Type 0
