@@ -10,6 +10,7 @@ A line of MAP is one of these; `#` begins a comment:
     CRATE MODULE OLD NEW            a definition; a module is written as inner/Reading
     fn CRATE FILE OLD NEW           a function of src/FILE.rt
     const CRATE FILE OLD NEW        a constant of src/FILE.rt
+    type CRATE FILE OLD NEW         a type of src/FILE.rt that only definitions and clauses name above its crate
     file CRATE OLD NEW              src/OLD.rt, with the folder of its proofs
     word OLD NEW CRATE ..           every such word of these crates
 
@@ -32,13 +33,15 @@ TOKEN = re.compile(r"\[\]|[()\[\]{};,]|[^\s()\[\]{};,]+")
 
 
 def read_map(path):
-    defs, fns, consts, words_of, moves = {}, {}, {}, {}, {}
+    defs, fns, consts, words_of, moves, types = {}, {}, {}, {}, {}, {}
     for number, line in enumerate(pathlib.Path(path).read_text(encoding="utf-8").split("\n"), 1):
         words = line.partition("#")[0].split()
         if not words:
             continue
         if words[0] == "fn" and len(words) == 5:
             fns[words[1], words[2], words[3]] = words[4]
+        elif words[0] == "type" and len(words) == 5:
+            types[words[1], words[2], words[3]] = words[4]
         elif words[0] == "file" and len(words) == 4:
             moves[words[1], words[2]] = words[3]
         elif words[0] == "word" and len(words) > 3:
@@ -52,7 +55,7 @@ def read_map(path):
             defs[key] = words[3]
         else:
             print(f"{path}:{number}: no line of a map")
-    return defs, fns, consts, words_of, moves
+    return defs, fns, consts, words_of, moves, types
 
 
 def blank(text, pattern):
@@ -121,8 +124,8 @@ def module_of(path):
 
 
 class Renamer:
-    def __init__(self, defs, fns, consts, words_of, moves):
-        self.consts, self.words_of, self.moves = consts, words_of, moves
+    def __init__(self, defs, fns, consts, words_of, moves, types):
+        self.consts, self.words_of, self.moves, self.types = consts, words_of, moves, types
         self.defs, self.fns, self.report, self.passed = defs, fns, [], {}
         self.by_module = collections.defaultdict(dict)
         for (crate, module, old), new in defs.items():
@@ -532,6 +535,28 @@ class Renamer:
         for (old, new), crates in self.words_of.items():
             for found in re.finditer(r"(?<!\w)" + old + r"(?!\w)", text) if crate in crates else ():
                 changes.put(*found.span(), new)
+        for (where, home, old), new in self.types.items():
+            w = re.escape(old)
+            if where == crate:
+                for found in re.finditer(r"(?<!\w)" + w + r"(?!\w)", text):
+                    changes.put(*found.span(), new)
+                continue
+            line = re.compile(rf"\bRattle\.{where}\.specs\.declared\.{home.replace('/', '.')}\.({w})(?=[.\s;])(?:\.\{{({w})(?:\s+as\s+(\w+))?\}})?")
+            for found in line.finditer(text):
+                changes.put(*found.span(1), new)
+                if found[3] == new:
+                    changes.put(found.start(2), found.end(3), new)
+                elif found[2]:
+                    changes.put(*found.span(2), new)
+                if found[2] and not found[3]:
+                    inside = [it.span() for it in USE.finditer(text)]
+                    for word in re.finditer(r"(?<![\w.])" + w + r"(?!\w)", text):
+                        if not any(begin <= word.start() < end for begin, end in inside):
+                            changes.put(*word.span(), new)
+            for found in re.finditer(rf"\b{where}::(?:\{{[^}}]*?(?<!\w))?({w})(?!\w)", text) if path.suffix == ".rt" else ():
+                changes.put(*found.span(1), new)
+                if not re.match(r"\s*pub use\b", text[text.rfind("\n", 0, found.start()) + 1:]):
+                    self.note(path, f"names {old} of {where}")
         for (where, old), new in self.moves.items():
             if not (CRATES / where / "src" / (old + ".rt")).is_file():
                 continue
@@ -666,7 +691,7 @@ def main(words):
     if words == ["--uses"]:
         return check_uses()
     only_check = words[:1] == ["--check"]
-    defs, fns, consts, words_of, moves = read_map(words[-1])
+    defs, fns, consts, words_of, moves, types = read_map(words[-1])
     # every new name must be new
     known = collections.defaultdict(set)
     for path in CRATES.glob("*/specs/**/*.antt"):
@@ -677,7 +702,7 @@ def main(words):
             print(f"{new} is the new name of {count}")
         if new in known:
             print(f"{new} is defined already: {sorted(known[new])}")
-    renamer = Renamer(defs, fns, consts, words_of, moves)
+    renamer = Renamer(defs, fns, consts, words_of, moves, types)
     files = [*sorted(CRATES.glob("*/specs/**/*.antt")), *sorted(CRATES.glob("*/proofs/**/*.antt")), *sorted(CRATES.glob("*/src/**/*.rt"))]
     made = {}
     for path in files:

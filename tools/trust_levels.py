@@ -148,7 +148,7 @@ NAMED = set("""
     sn_session/change/SessionOp sn_session/outbound/Outbound sn_session/outbound/Phase sn_session/presence/Presence
     sn_session/session/Session rep_ops/Making/HaveOwnNames rep_ops/Making/IsDeltaOf rep_model/Fresh/next_clock
     rep_model/Fresh/next_epoch rep_model/Fresh/next_seq rep_model/Topics/topic_in rep_model/Limits/first_passed
-    rep_model/Roomy/IsRoomy rep_model/Views/is_named rep_model/Views/named jr_disk/disk/Plan jr_disk/disk/Slot
+    rep_model/Roomy/IsRoomy rep_model/Views/is_named rep_model/Views/named jr_disk/disk/Failure jr_disk/disk/Slot
     jr_journal/Faults/fault_of jr_journal/Faults/is_fresh jr_journal/Parts/disk_under jr_journal/Parts/gateway_of
     jr_journal/Parts/slot_of jr_journal/Records/records jr_journal/journal/Journal sn_local/Locals/after_all
     sn_local/Locals/owned sn_local/config/Addr sn_local/config/Config sn_local/local/Binding sn_local/local/LocalChange

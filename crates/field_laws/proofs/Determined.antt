@@ -17,7 +17,7 @@ use Rattle.sn_plan.specs.declared.plan.Plan.{Plan}
 use Rattle.sn_local.specs.Seen.{seen_of}
 use Rattle.sn_local.specs.Locals.{after_all}
 use Rattle.sn_local.specs.declared.config.Send.{Send}
-use Rattle.jr_disk.specs.declared.disk.Plan.{Plan as Failure}
+use Rattle.jr_disk.specs.declared.disk.Failure.{Failure}
 use Rattle.sn_deliver.specs.Steps.{step}
 use Rattle.gw_answer.specs.declared.out.Out.{Out}
 use Rattle.gw_answer.specs.declared.refusal.Refusal.{Refusal}

@@ -21,7 +21,7 @@ use Rattle.rep_model.specs.Taking.{AllAgree}
 use Rattle.rep_model.specs.Limits.{first_passed}
 use Rattle.rep_model.specs.Held.{IsHeld}
 use Rattle.jr_journal.specs.declared.fault.JournalFault.TheVariants.{Foreign}
-use Rattle.jr_disk.specs.declared.disk.Plan.{Plan as Failure}
+use Rattle.jr_disk.specs.declared.disk.Failure.{Failure}
 use Rattle.jr_disk.specs.Disk.{image}
 use Rattle.jr_journal.specs.Journals.{last_generation}
 use Rattle.sn_plan.specs.declared.plan.Plan.{Plan}

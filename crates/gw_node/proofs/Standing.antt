@@ -12,8 +12,8 @@ use Rattle.rep_model.specs.Keep.{CountsAs, IsKeptOf}
 use Rattle.rep_model.specs.Taking.{AllAgree, Fits}
 use Rattle.sn_local.specs.Locals.{Local}
 use Rattle.jr_disk.specs.declared.disk.Disk.{Ghosts}
-use Rattle.jr_disk.specs.declared.disk.Plan.{Plan as Failure}
-use Rattle.jr_disk.specs.declared.disk.Plan.TheVariants.{Stop, KeepBack, FailSync}
+use Rattle.jr_disk.specs.declared.disk.Failure.{Failure}
+use Rattle.jr_disk.specs.declared.disk.Failure.TheVariants.{Stop, KeepBack, FailSync}
 use Rattle.jr_disk.specs.declared.disk.Slot.{Slot}
 use Rattle.jr_disk.specs.declared.disk.Slot.TheVariants.{First, Second}
 use Rattle.jr_journal.specs.declared.fault.JournalFault.TheVariants as journal_faults

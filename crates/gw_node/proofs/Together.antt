@@ -8,7 +8,7 @@ use Rattle.rep_ops.specs.Making.{IsDeltaOf}
 use Rattle.sn_plan.specs.declared.plan.Plan.{Plan}
 use Rattle.sn_local.specs.Locals.{Local}
 use Rattle.jr_disk.specs.declared.disk.Disk.{Ghosts}
-use Rattle.jr_disk.specs.declared.disk.Plan.{Plan as Failure}
+use Rattle.jr_disk.specs.declared.disk.Failure.{Failure}
 use Rattle.jr_disk.specs.Disk.{Slots, Image, image, after_crash, EachCrash}
 use Rattle.jr_journal.specs.Arranged.{after_append, misses_failure}
 use Rattle.jr_journal.specs.Crashes.{Opens}

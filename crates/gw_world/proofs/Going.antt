@@ -10,7 +10,7 @@ use Rattle.rep_digest.specs.Spelling.{digest_spelling, IsDigestWithinLimit}
 use Rattle.rep_digest.proofs.Counted.{same_digest}
 use Rattle.rep_answer.proofs.Completing.{same_answer}
 use Rattle.jr_disk.specs.declared.disk.Disk.{Ghosts}
-use Rattle.jr_disk.specs.declared.disk.Plan.TheVariants.{Stop, KeepBack}
+use Rattle.jr_disk.specs.declared.disk.Failure.TheVariants.{Stop, KeepBack}
 use Rattle.jr_disk.specs.Memory.{MemoryState, failing as failing_disk}
 use Rattle.jr_journal.specs.Arranged.{misses_failure}
 use Rattle.jr_journal.specs.Parts.{disk_under}

@@ -9,7 +9,7 @@ use Rattle.rep_model.proofs.Joins.{counts-refl, same_trans}
 use Rattle.sn_local.specs.declared.config.Config.{Config}
 use Rattle.sn_local.specs.Locals.{no_local}
 use Rattle.jr_disk.specs.declared.disk.Disk.{Ghosts}
-use Rattle.jr_disk.specs.declared.disk.Plan.{Plan as Failure}
+use Rattle.jr_disk.specs.declared.disk.Failure.{Failure}
 use Rattle.jr_disk.specs.Disk.{Image, image, left_of, after_crash}
 use Rattle.jr_journal.specs.Faults.{is_fresh, fault_of}
 use Rattle.jr_disk.specs.Memory.{MemoryState, empty_disk, crashed_disk}

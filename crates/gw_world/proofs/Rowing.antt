@@ -9,7 +9,7 @@ use Rattle.rep_model.proofs.Joins.{all-left, all-right}
 use Rattle.sn_plan.specs.declared.plan.Plan.{Plan}
 use Rattle.sn_plan.proofs.Lists.{all-append}
 use Rattle.jr_disk.specs.declared.disk.Disk.{Ghosts}
-use Rattle.jr_disk.specs.declared.disk.Plan.{Plan as Failure}
+use Rattle.jr_disk.specs.declared.disk.Failure.{Failure}
 use Rattle.jr_journal.specs.Parts.{disk_under}
 use Rattle.gw_answer.specs.declared.out.Out.{Out}
 use Rattle.gw_answer.specs.declared.refusal.Refusal.{Refusal}

@@ -3,8 +3,8 @@ use Rattle.std.proofs.Common.{◌≡◌, ℕ, Bool, true, false, Option, Some, N
 use Rattle.std.specs.Prelude.{IsOk}
 use Rattle.jr_disk.specs.declared.disk.DiskFault.{DiskFault}
 use Rattle.jr_disk.specs.declared.disk.Short.{Short}
-use Rattle.jr_disk.specs.declared.disk.Plan.{Plan}
-use Rattle.jr_disk.specs.declared.disk.Plan.TheVariants.{Stop, KeepBack, FailSync}
+use Rattle.jr_disk.specs.declared.disk.Failure.{Failure}
+use Rattle.jr_disk.specs.declared.disk.Failure.TheVariants.{Stop, KeepBack, FailSync}
 use Rattle.jr_disk.specs.Disk.{AppendsAs, SyncsAs, GoesAs}
 use Rattle.jr_journal.specs.inner.Disk.{is_calm}
 use Rattle.jr_journal.specs.Arranged.{misses_failure}
@@ -14,7 +14,7 @@ not_starved true b h e = let clash : true ≡ false = sym (h refl) ∙ e in clas
 not_starved false b h e = refl
 
 abbrev pub Outlook : Type 0
-Outlook = Option (Option Plan)
+Outlook = Option (Option Failure)
 
 pub calm_sync : (o : Outlook) (r : Result (Unit {0}) DiskFault) (a : Outlook) → SyncsAs o r a → is_calm o ≡ true → IsOk r × (a ≡ o)
 calm_sync None r a h e = absurd cc

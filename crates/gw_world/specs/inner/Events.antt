@@ -18,7 +18,7 @@ use Rattle.gw_answer.specs.declared.step.Step.{Step}
 use Rattle.gw_answer.specs.declared.step.Step.TheVariants as steps
 use Rattle.gw_event.specs.Event.{StepOf, Event as CallEvent, IsWritable}
 use Rattle.gw_event.specs.Together.{InTurnBy, Together}
-use Rattle.jr_disk.specs.declared.disk.Plan.{Plan as Failure}
+use Rattle.jr_disk.specs.declared.disk.Failure.{Failure}
 use Rattle.gw_event.specs.Gateways.{Gateway}
 use Rattle.gw_node.specs.Parts.{State}
 use Rattle.gw_answer.specs.Answers.{said, only_sends}
