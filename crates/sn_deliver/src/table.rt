@@ -52,6 +52,7 @@ fn row_for<R: Replica>(
         scene.now.from frame.now scene.now.moment) }
 {
     match frame {
+        // From any address.
         Frame::Connect {
             flags,
             protocol,
@@ -67,20 +68,8 @@ fn row_for<R: Replica>(
         ),
         Frame::WillTopic { will } => will_topic(alloc, scene, will),
         Frame::WillMsg { message } => will_msg(alloc, scene, message.as_slice()),
-        Frame::Disconnect { duration } => disconnect(alloc, scene, *duration),
-        Frame::Register { msg_id, name, .. } => register(alloc, scene, *msg_id, name.as_slice()),
-        Frame::Subscribe {
-            flags,
-            msg_id,
-            topic,
-        } => subscribe(alloc, scene, *flags, *msg_id, topic.as_slice()),
-        Frame::Unsubscribe {
-            flags,
-            msg_id,
-            topic,
-        } => unsubscribe(alloc, scene, *flags, *msg_id, topic.as_slice()),
-        Frame::WillTopicUpd { will } => will_topic_update(alloc, scene, will),
-        Frame::WillMsgUpd { message } => will_msg_update(alloc, scene, message.as_slice()),
+        // From any address with a client's id or at quality of service -1, else from a bound one.
+        Frame::PingReq { client } => wake(alloc, scene, client.as_slice()),
         Frame::Publish {
             flags,
             topic,
@@ -95,12 +84,27 @@ fn row_for<R: Replica>(
             };
             publish_in(alloc, scene, &publication)
         }
+        // From a bound address; another one is turned away.
+        Frame::Disconnect { duration } => disconnect(alloc, scene, *duration),
+        Frame::Register { msg_id, name, .. } => register(alloc, scene, *msg_id, name.as_slice()),
+        Frame::Subscribe {
+            flags,
+            msg_id,
+            topic,
+        } => subscribe(alloc, scene, *flags, *msg_id, topic.as_slice()),
+        Frame::Unsubscribe {
+            flags,
+            msg_id,
+            topic,
+        } => unsubscribe(alloc, scene, *flags, *msg_id, topic.as_slice()),
+        Frame::WillTopicUpd { will } => will_topic_update(alloc, scene, will),
+        Frame::WillMsgUpd { message } => will_msg_update(alloc, scene, message.as_slice()),
         Frame::PubRel { msg_id } => pubrel_in(alloc, scene, *msg_id),
         Frame::PubAck { .. }
         | Frame::PubRec { .. }
         | Frame::PubComp { .. }
         | Frame::RegAck { .. } => ack_in(alloc, scene, frame),
-        Frame::PingReq { client } => wake(alloc, scene, client.as_slice()),
+        // From any address those that only a gateway sends, and SEARCHGW; else from a bound one.
         _ => other(alloc, scene, frame),
     }
 }

@@ -294,11 +294,11 @@ pub fn then_deliver(
         return deliver_if(alloc, visit, draft);
     }
     let session = session_after(alloc, visit.session, draft)?;
-    let visit = Visit {
+    let after = Visit {
         predefined: visit.predefined,
         peer: visit.peer,
         session: &session,
         pending: visit.pending,
     };
-    deliver_if(alloc, &visit, draft)
+    deliver_if(alloc, &after, draft)
 }

@@ -216,11 +216,11 @@ pub fn then_resend(
         return resend_or_deliver(alloc, visit, draft);
     }
     let session = session_after(alloc, visit.session, draft)?;
-    let visit = Visit {
+    let after = Visit {
         predefined: visit.predefined,
         peer: visit.peer,
         session: &session,
         pending: visit.pending,
     };
-    resend_or_deliver(alloc, &visit, draft)
+    resend_or_deliver(alloc, &after, draft)
 }
