@@ -5,7 +5,7 @@ ghost use Rattle.std.specs.Option.{option_copied};
 ghost use Rattle.sn_local.specs.Seen.{seen_of};
 ghost use Rattle.sn_plan.specs.Plans.{Gives};
 ghost use Rattle.sn_plan.specs.declared.row.Follow.TheVariants as follows;
-ghost use Rattle.sn_plan.specs.Rows.{row_of, turned_away};
+ghost use Rattle.sn_plan.specs.Rows.{turned_away};
 ghost use Rattle.sn_plan.specs.Rows as spec;
 
 use super::bound::hear_of;
@@ -113,7 +113,7 @@ pub fn bound_row(
     draft: Draft,
 ) -> Result<Row, NoMemory>
     ensures { IfOk result (λ row. row ≡ spec.heard_row (Some client.now) now
-        (row_of follows.Delivery client.now draft)) }
+        (spec.row_of follows.Delivery client.now draft)) }
 {
     let row = Row::new(alloc, Follow::Delivery, client, draft)?;
     heard_row(alloc, Some(client), now, row)
