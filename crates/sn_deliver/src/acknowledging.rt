@@ -330,12 +330,7 @@ fn pubrec_of(
 }
 
 /// PUBREC. PUBREL is always the answer.
-fn pubrec(
-    alloc: Global,
-    visit: &Visit<'_>,
-    msg_id: u16,
-    draft: &mut Draft,
-) -> Result<(), NoMemory>
+fn pubrec(alloc: Global, visit: &Visit<'_>, msg_id: u16, draft: &mut Draft) -> Result<(), NoMemory>
     requires { draft.old ≡ nothing }
     ensures { OnOk result (draft.new ≡ spec.pubrec visit.now.peer.now visit.now.session.now
         visit.now.pending.now msg_id) }
@@ -471,11 +466,7 @@ fn write_acknowledgement(
 
 /// An acknowledgement of a connected client: PUBACK, PUBREC, PUBCOMP or REGACK. What nothing waits
 /// for does nothing, but PUBREC is always answered.
-pub fn acknowledge(
-    alloc: Global,
-    visit: &Visit<'_>,
-    frame: &Frame,
-) -> Result<Draft, NoMemory>
+pub fn acknowledge(alloc: Global, visit: &Visit<'_>, frame: &Frame) -> Result<Draft, NoMemory>
     ensures { IfOk result (λ draft. draft ≡ spec.acknowledge visit.now.predefined.now
         visit.now.peer.now visit.now.session.now visit.now.pending.now frame.now) }
 {

@@ -41,11 +41,7 @@ fn connected<R: Replica>(
 }
 
 /// The row of a frame.
-fn row_for<R: Replica>(
-    alloc: Global,
-    scene: &Scene<'_, R>,
-    frame: &Frame,
-) -> Result<Row, NoMemory>
+fn row_for<R: Replica>(alloc: Global, scene: &Scene<'_, R>, frame: &Frame) -> Result<Row, NoMemory>
     requires { IsMessage frame.now }
     ensures { IfOk result (λ row. row ≡ spec.row_for scene.now.config.now.gateway
         scene.now.config.now.predefined (seen_in R.kept scene.now) scene.now.dialogs.now.local

@@ -258,11 +258,7 @@ pub fn client_id(alloc: Global, octets: &[u8]) -> Result<ClientId, NoMemory>
 
 /// PINGREQ: with the id of a client it wakes that client, which is claimed from the gateway that
 /// has it; without, the one that is bound to the address.
-pub fn wake<R: Replica>(
-    alloc: Global,
-    scene: &Scene<'_, R>,
-    client: &[u8],
-) -> Result<Row, NoMemory>
+pub fn wake<R: Replica>(alloc: Global, scene: &Scene<'_, R>, client: &[u8]) -> Result<Row, NoMemory>
     requires { length client.now ≤ MAX_CLIENT_ID }
     ensures { IfOk result (λ row. row ≡ spec.wake scene.now.config.now.gateway
         (seen_in R.kept scene.now) scene.now.dialogs.now.local scene.now.from client.now

@@ -250,11 +250,7 @@ fn deliver(
 }
 
 /// And then the messages that are left.
-pub fn deliver_left(
-    alloc: Global,
-    visit: &Visit<'_>,
-    draft: &mut Draft,
-) -> Result<(), NoMemory>
+pub fn deliver_left(alloc: Global, visit: &Visit<'_>, draft: &mut Draft) -> Result<(), NoMemory>
     ensures { OnOk result (draft.new ≡ spec.deliver_left visit.now.predefined.now
         visit.now.peer.now visit.now.session.now visit.now.pending.now draft.old) }
 {
@@ -263,11 +259,7 @@ pub fn deliver_left(
 }
 
 /// And then Delivery, where the client is Active or Awake and has no open exchange.
-pub fn deliver_if(
-    alloc: Global,
-    visit: &Visit<'_>,
-    draft: &mut Draft,
-) -> Result<(), NoMemory>
+pub fn deliver_if(alloc: Global, visit: &Visit<'_>, draft: &mut Draft) -> Result<(), NoMemory>
     ensures { OnOk result (draft.new ≡ spec.deliver_if visit.now.predefined.now visit.now.peer.now
         visit.now.session.now visit.now.pending.now draft.old) }
 {
@@ -282,11 +274,7 @@ pub fn deliver_if(
 
 /// And then Delivery, by the session as the step so far has changed it. A session that did not
 /// change is not copied.
-pub fn then_deliver(
-    alloc: Global,
-    visit: &Visit<'_>,
-    draft: &mut Draft,
-) -> Result<(), NoMemory>
+pub fn then_deliver(alloc: Global, visit: &Visit<'_>, draft: &mut Draft) -> Result<(), NoMemory>
     ensures { OnOk result (draft.new ≡ spec.then_deliver visit.now.predefined.now
         visit.now.peer.now visit.now.session.now visit.now.pending.now draft.old) }
 {

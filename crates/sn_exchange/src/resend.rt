@@ -190,11 +190,7 @@ fn resend_if(
 }
 
 /// And then Resend, where an exchange is open, else Delivery.
-fn resend_or_deliver(
-    alloc: Global,
-    visit: &Visit<'_>,
-    draft: &mut Draft,
-) -> Result<(), NoMemory>
+fn resend_or_deliver(alloc: Global, visit: &Visit<'_>, draft: &mut Draft) -> Result<(), NoMemory>
     ensures { OnOk result (draft.new ≡ spec.resend_or_deliver visit.now.predefined.now
         visit.now.peer.now visit.now.session.now visit.now.pending.now draft.old) }
 {
@@ -204,11 +200,7 @@ fn resend_or_deliver(
 
 /// And then Resend, where an exchange is open, else Delivery: by the session as the step so far has
 /// changed it. A session that did not change is not copied.
-pub fn then_resend(
-    alloc: Global,
-    visit: &Visit<'_>,
-    draft: &mut Draft,
-) -> Result<(), NoMemory>
+pub fn then_resend(alloc: Global, visit: &Visit<'_>, draft: &mut Draft) -> Result<(), NoMemory>
     ensures { OnOk result (draft.new ≡ spec.then_resend visit.now.predefined.now
         visit.now.peer.now visit.now.session.now visit.now.pending.now draft.old) }
 {

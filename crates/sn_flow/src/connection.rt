@@ -174,7 +174,8 @@ pub fn connect<R: Replica>(
     let refusal = refusal_of(scene, flags, protocol, client);
     let request = request_of(alloc, scene.from, flags, duration, client)?;
     let row = connect_seen(alloc, scene, request, has_will(flags), refusal)?;
-    heard_row(alloc, scene.dialogs.client_at(scene.from), scene.moment, row)
+    let bound = scene.dialogs.client_at(scene.from);
+    heard_row(alloc, bound, scene.moment, row)
 }
 
 /// What a CONNECT does for the client as it is seen.

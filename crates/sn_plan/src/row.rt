@@ -106,12 +106,7 @@ pub fn heard_row(
 }
 
 /// The row of a bound client: it was heard of, and Delivery follows.
-pub fn bound_row(
-    alloc: Global,
-    client: &ClientId,
-    now: u64,
-    draft: Draft,
-) -> Result<Row, NoMemory>
+pub fn bound_row(alloc: Global, client: &ClientId, now: u64, draft: Draft) -> Result<Row, NoMemory>
     ensures { IfOk result (λ row. row ≡ spec.heard_row (Some client.now) now
         (spec.row_of follows.Delivery client.now draft)) }
 {

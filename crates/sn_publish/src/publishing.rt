@@ -246,9 +246,13 @@ fn publish_meant<R: Replica>(
         (qos_of publication.now.flags.bits) (spec.within_limit publication.now.body.now meant)) }
 {
     match meant {
-        Meant::Refused(code) => {
-            puback(alloc, scene.from, publication.topic, publication.msg_id, code)
-        }
+        Meant::Refused(code) => puback(
+            alloc,
+            scene.from,
+            publication.topic,
+            publication.msg_id,
+            code,
+        ),
         Meant::Topic(name) => {
             let draft = publish_on(alloc, scene, session, publication, &name);
             drop(name);
@@ -336,7 +340,13 @@ pub fn publish_unconnected<R: Replica>(
     let session = Session::empty(alloc);
     let meant = topic_meant(alloc, predefined, &session, flags.kind(), publication.topic);
     drop(session);
-    spread_meant(alloc, scene.replica, retain_asked(flags), publication.body, meant?)
+    spread_meant(
+        alloc,
+        scene.replica,
+        retain_asked(flags),
+        publication.body,
+        meant?,
+    )
 }
 
 /// The change of the session, where the message id was received.

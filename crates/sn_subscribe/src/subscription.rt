@@ -226,8 +226,9 @@ fn subscribed<R: Replica>(
         subscriber.now.waiting subscriber.now.to subscriber.now.session.now asking.now.flags.bits
         asking.now.msg_id wanted.filter wanted.qos named) }
 {
+    let to = subscriber.to;
     match named {
-        None => refuse(alloc, subscriber.to, asking.flags, asking.msg_id, CONGESTION),
+        None => refuse(alloc, to, asking.flags, asking.msg_id, CONGESTION),
         Some(named) => granted_and_handed(alloc, replica, subscriber, asking, wanted, named),
     }
 }
@@ -244,9 +245,10 @@ fn subscribe_to<R: Replica>(
         subscriber.now.waiting subscriber.now.to subscriber.now.session.now asking.now.flags.bits
         asking.now.msg_id asking.now.field.now wanted.filter wanted.qos) }
 {
+    let to = subscriber.to;
     let session = subscriber.session;
     if session.subscriptions.has_no_room(&wanted.filter) {
-        return refuse(alloc, subscriber.to, asking.flags, asking.msg_id, CONGESTION);
+        return refuse(alloc, to, asking.flags, asking.msg_id, CONGESTION);
     }
     let kind = asking.flags.kind();
     let named = id_asked(alloc, session, kind, asking.field, &wanted.filter)?;

@@ -156,11 +156,7 @@ fn begin_timers<R: Replica>(
 }
 
 /// And then what every tick does first.
-fn clean<R: Replica>(
-    alloc: Global,
-    draft: &mut Draft,
-    turn: &Turn<'_, R>,
-) -> Result<(), NoMemory>
+fn clean<R: Replica>(alloc: Global, draft: &mut Draft, turn: &Turn<'_, R>) -> Result<(), NoMemory>
     ensures { OnOk result (draft.new ≡ timers_begun turn.now.config.now.gateway
         (seen_of (R.kept turn.now.replica.now)) turn.now.dialogs.now.local.timers turn.now.moment
         (views.clients (R.kept turn.now.replica.now))
@@ -518,7 +514,8 @@ fn plan_first<R: Replica>(
         turn.now.dialogs.now.local turn.now.moment
         (seen_of (R.kept turn.now.replica.now)).all)) }
 {
-    match first_due(alloc, turn.config.gateway, turn.replica, turn.dialogs, turn.moment) {
+    let gateway = turn.config.gateway;
+    match first_due(alloc, gateway, turn.replica, turn.dialogs, turn.moment) {
         Ok(found) => plan_if_due(alloc, turn, draft, found),
         Err(_) => {
             drop(draft);
@@ -528,11 +525,7 @@ fn plan_first<R: Replica>(
 }
 
 /// The plan of one thing.
-fn one_thing<R: Replica>(
-    alloc: Global,
-    turn: &Turn<'_, R>,
-    draft: Draft,
-) -> Result<Plan, StepFault>
+fn one_thing<R: Replica>(alloc: Global, turn: &Turn<'_, R>, draft: Draft) -> Result<Plan, StepFault>
     ensures { Gives result (spec.one_thing turn.now.config.now.gateway
         turn.now.config.now.advertise turn.now.config.now.field turn.now.config.now.predefined
         (seen_of (R.kept turn.now.replica.now)) turn.now.dialogs.now.local turn.now.moment
@@ -540,7 +533,8 @@ fn one_thing<R: Replica>(
 {
     let config = turn.config;
     let field = config.field.as_slice();
-    if may_advertise(config.advertise, field, turn.moment, turn.dialogs.advertised()) {
+    let last = turn.dialogs.advertised();
+    if may_advertise(config.advertise, field, turn.moment, last) {
         return plan_advertisement(alloc, config, turn.moment, draft);
     }
     plan_first(alloc, turn, draft)

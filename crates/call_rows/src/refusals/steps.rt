@@ -235,7 +235,8 @@ impl<R: Replica> Steps<R> {
     fn deliver_once(&self, said: &mut Said) {
         if let Some(made) = self.row(said) {
             if let Some(row) = beside(said, made) {
-                let plan = deliver_next(said.alloc, &self.scene(), row);
+                let scene = self.scene();
+                let plan = deliver_next(said.alloc, &scene, row);
                 show_planned(said, plan);
             }
         }
