@@ -12,9 +12,7 @@ use rep_model::Replica;
 use rep_ops::ClientId;
 use sn_exchange::{Peer, Visit, peer_at};
 use sn_frame::{Frame, Qos};
-use sn_plan::{
-    Draft, Row, Scene, bound_row, session_in, session_or, turn_away, unseen, view_or,
-};
+use sn_plan::{Draft, Row, Scene, bound_row, session_in, session_or, turn_away, unseen, view_or};
 use sn_publish::{Publication, publish, publish_unconnected, pubrel};
 use sn_session::Session;
 use std::alloc::Global;
@@ -68,7 +66,10 @@ pub fn publish_in<R: Replica>(
         publication.now.body.now scene.now.moment) }
 {
     match publication.flags.qos() {
-        Qos::MinusOne => Ok(Row::of_none(publish_unconnected(alloc, scene, publication)?)),
+        Qos::MinusOne => {
+            let draft = publish_unconnected(alloc, scene, publication)?;
+            Ok(Row::of_none(draft))
+        }
         Qos::Zero | Qos::One | Qos::Two => publish_connected(alloc, scene, publication),
     }
 }
