@@ -6,11 +6,12 @@ ghost use Rattle.rep_model.specs.Views.{view};
 
 use super::draft::Draft;
 use super::row::{Row, quiet, stray};
+use super::scene::Scene;
 use octets::{NoMemory, Octets};
 use rep_model::Replica;
 use rep_model::rep_ops::ClientId;
 use sn_frame::Frame;
-use sn_local::{Addr, Config, Dialogs};
+use sn_local::{Addr, Config};
 use sn_session::Presence;
 use std::alloc::Global;
 
@@ -29,19 +30,17 @@ fn searched(alloc: Global, config: &Config, to: Addr) -> Result<Row, NoMemory>
 
 /// SEARCHGW, the frames that only go from a gateway to a client or between others, and every frame
 /// that no other call is for.
-pub fn other(
+pub fn other<R: Replica>(
     alloc: Global,
-    config: &Config,
-    dialogs: &Dialogs,
-    from: Addr,
+    scene: &Scene<'_, R>,
     frame: &Frame,
-    now: u64,
 ) -> Result<Row, NoMemory>
-    ensures { IfOk result (λ row. row ≡ spec.other config.now.gateway dialogs.now.local from
-        frame.now now) }
+    ensures { IfOk result (λ row. row ≡ spec.other scene.now.config.now.gateway
+        scene.now.dialogs.now.local scene.now.from frame.now scene.now.moment) }
 {
+    let from = scene.from;
     match frame {
-        Frame::SearchGw { .. } => searched(alloc, config, from),
+        Frame::SearchGw { .. } => searched(alloc, scene.config, from),
         Frame::Advertise { .. } => Ok(quiet(alloc)),
         Frame::GwInfo { .. } => Ok(quiet(alloc)),
         Frame::ConnAck { .. } => Ok(quiet(alloc)),
@@ -51,7 +50,7 @@ pub fn other(
         Frame::UnsubAck { .. } => Ok(quiet(alloc)),
         Frame::WillTopicResp { .. } => Ok(quiet(alloc)),
         Frame::WillMsgResp { .. } => Ok(quiet(alloc)),
-        _ => stray(alloc, from, dialogs.client_at(from), now),
+        _ => stray(alloc, from, scene.dialogs.client_at(from), scene.moment),
     }
 }
 

@@ -1,9 +1,10 @@
 //! A row of the step table: its client, its draft, and what follows it.
 
-ghost use Rattle.std.specs.Prelude.{◌≡◌, IfOk};
+ghost use Rattle.std.specs.Prelude.{◌≡◌, Some, IfOk};
 ghost use Rattle.std.specs.Option.{option_copied};
 ghost use Rattle.sn_local.specs.Seen.{seen_of};
 ghost use Rattle.sn_plan.specs.Plans.{Gives};
+ghost use Rattle.sn_plan.specs.declared.row.Follow.TheVariants as follows;
 ghost use Rattle.sn_plan.specs.Rows.{turned_away};
 ghost use Rattle.sn_plan.specs.Rows as spec;
 
@@ -102,6 +103,15 @@ pub fn heard_row(
             Err(fault)
         }
     }
+}
+
+/// The row of a bound client: it was heard of, and Delivery follows.
+pub fn bound_row(alloc: Global, client: &ClientId, now: u64, draft: Draft) -> Result<Row, NoMemory>
+    ensures { IfOk result (λ row. row ≡ spec.heard_row (Some client.now) now
+        (spec.row_of follows.Delivery client.now draft)) }
+{
+    let row = Row::new(alloc, Follow::Delivery, client, draft)?;
+    heard_row(alloc, Some(client), now, row)
 }
 
 /// The plan of a row, without what follows it.
