@@ -5,7 +5,7 @@ ghost use Rattle.gw_wire.specs.Addresses.{IsAddress};
 ghost use Rattle.gw_wire.specs.inner.Addresses as spec;
 
 use super::clock::FieldClock;
-use super::ends::{Arrival, Post, Tally, Unsent, Wire, WireFault};
+use super::ends::{Arrival, Came, Post, Tally, Unsent, Wire, WireFault};
 use jr_disk::Failures;
 use libc::net::{SO_RCVBUF, SO_SNDBUF, SOL_SOCKET, setsockopt};
 use mio::net::UdpSocket;
@@ -254,14 +254,15 @@ impl<'a> Wire for Ears<'a> {
 
     ghost drops = { λ w. w.drops.count };
 
-    fn recv(&mut self, buffer: &mut [u8]) -> Result<Option<Arrival>, WireFault> {
+    /// A socket is never over.
+    fn recv(&mut self, buffer: &mut [u8]) -> Result<Came, WireFault> {
         match self.wait(buffer) {
-            Ok(None) => Ok(None),
+            Ok(None) => Ok(Came::Nothing),
             Ok(Some((size, from))) => match self.arrived(buffer.len(), size, from) {
-                None => Ok(None),
+                None => Ok(Came::Nothing),
                 Some(arrival) => {
                     self.arrivals = Tally::next(&self.arrivals);
-                    Ok(Some(arrival))
+                    Ok(Came::Datagram(arrival))
                 }
             },
             Err(_) => {
