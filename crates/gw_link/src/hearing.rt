@@ -51,7 +51,8 @@ enum Said {
     Tells(Heard),
 }
 
-/// Reads what has come, where anything does within the stream's time. It is this second now.
+/// Reads what has come, if anything does within the stream's time. It is this second now. Runs in a
+/// seat's thread, without a lock.
 pub(crate) fn listen<S: Read + Drop>(
     alloc: Global,
     link: &mut Link<S>,
@@ -162,8 +163,9 @@ fn heard(alloc: Global, message: LinkMessage) -> Result<Said, End> {
 }
 
 /// Takes the deltas that came, as many as wait in a row with one sync. What the gateway refuses is
-/// dropped, also where it is halted; where the shift has had all its calls the rest waits for the
-/// next one. Before both ends have said who they are, nothing is heard but that.
+/// dropped, also if it is halted; if the shift has had all its calls the rest waits for the next
+/// one. Before both ends have said who they are, nothing is heard but that. Runs in a seat's thread;
+/// the shift's lock is held for each row.
 #[tactic(auto, using(crate::proofs::Adding::adds_more, crate::proofs::Adding::adds_none))]
 pub(crate) fn hear_all<T: Wait, R: Replica, D: Disk + Drop, S: Drop>(
     work: &Work<'_, T, R, D>,
@@ -252,7 +254,7 @@ fn hear_row<T: Wait, R: Replica, D: Disk + Drop, S: Drop>(
     (pass, heard)
 }
 
-/// What follows on the gateway's answers to a row of deltas.
+/// Does what follows on the gateway's answers to a row of deltas. Runs without the shift's lock.
 fn follow_row<T: Wait, R: Replica, D: Disk + Drop, S: Drop>(
     work: &Work<'_, T, R, D>,
     link: &mut Link<S>,
@@ -278,7 +280,8 @@ fn follow_row<T: Wait, R: Replica, D: Disk + Drop, S: Drop>(
 }
 
 /// Answers the digest that came, once what was said so far went out, and for each gateway once in
-/// some seconds: who asks and does not listen, or asks and asks, is not answered without end.
+/// some seconds: who asks and does not listen, or asks and asks, is not answered without end. Runs
+/// in a seat's thread; the shift's lock is held for the call.
 pub(crate) fn answer<T: Wait + Clock, R: Replica, D: Disk + Drop, S: Drop>(
     work: &Work<'_, T, R, D>,
     pass: Pass,
@@ -403,8 +406,8 @@ fn ask<T: Wait, R: Replica, D: Disk + Drop, S: Drop>(
     (pass, heard)
 }
 
-/// What follows on the gateway's answer, which is counted: a refusal that an operator should hear
-/// of is noted.
+/// Does what follows on the gateway's answer, and counts it: a refusal that an operator should hear
+/// of is noted. Runs without the shift's lock.
 fn follow_answer<T: Wait, R: Replica, D: Disk + Drop, S: Drop>(
     work: &Work<'_, T, R, D>,
     link: &mut Link<S>,
@@ -468,7 +471,8 @@ fn news_of<T: Wait, S: Drop>(
     }
 }
 
-/// What follows on what was heard: news are handed on, and what the other end lacks is said.
+/// Hands on what was heard if it is new, and says what the other end lacks. Runs without the shift's
+/// lock; it takes the relay's to hand on.
 fn follow<T: Wait, R: Replica, D: Disk + Drop, S: Drop>(
     work: &Work<'_, T, R, D>,
     link: &mut Link<S>,

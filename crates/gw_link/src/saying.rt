@@ -175,7 +175,7 @@ fn is_due<S: Drop>(link: &Link<S>) -> bool {
 /// Says who this is, with whom it is linked, and what it has; the last once the other end has said
 /// its number, so that whoever does not costs nothing. All is said again from time to time. A link
 /// whose other end has the number of this gateway is at an end: it is this gateway itself, or one
-/// that may not be there.
+/// that may not be there. Runs in a seat's thread; the shift's lock is held to work out the digest.
 pub(crate) fn greet<T: Wait + Clock, R: Replica, D: Disk + Drop, S: Drop>(
     work: &Work<'_, T, R, D>,
     pass: Pass,
@@ -363,7 +363,8 @@ fn say_digest_of<S: Drop>(
 }
 
 /// Tells of each delta that the gateway made in this shift and that was not told of. The next look
-/// goes on after the calls that are known to have made none.
+/// goes on after the calls that are known to have made none. Runs in a seat's thread; the shift's
+/// lock is held to find them, and not to copy them.
 pub(crate) fn tell_all<T: Wait, R: Replica, D: Disk + Drop, S: Drop>(
     work: &Work<'_, T, R, D>,
     pass: &Pass,
@@ -422,7 +423,8 @@ fn say_delta<S: Drop>(alloc: Global, link: &mut Link<S>, delta: Delta) -> Result
     say(alloc, link, LinkMessage::Delta(delta))
 }
 
-/// Hands on what other gateways told and what was new here, where it goes on to the other end.
+/// Hands on what other gateways told and what was new here, if it goes on to the other end. Runs in
+/// a seat's thread; the relay's lock is held for one delta at a time.
 pub(crate) fn hand_all<T: Wait, S: Drop>(
     rt: &T,
     alloc: Global,

@@ -21,9 +21,12 @@ use std::time::Clock;
 /// How many milliseconds a link that may make no more calls waits for the end of the shift.
 const A_MOMENT: u64 = 20;
 
-/// Talks over a link until the shift is over, and then has told of each delta that the gateway made
-/// in it: `Full`, and the link stays open; what its stream has not taken by then goes out in the
-/// next one. Or says why the link, or more, is at an end.
+/// Talks over a link until the shift is over. `Full` says that each delta of the shift was told or
+/// waits to go out, and the link stays open: what its stream has not taken goes out in the next
+/// shift. Any other end says why the link, or more, is at an end.
+///
+/// Runs in a seat's thread. It takes the shift's lock for a call and the relay's for what links
+/// share, and none while it reads or writes.
 #[tactic(auto, using(crate::proofs::Adding::adds_more, crate::proofs::Adding::adds_none))]
 pub fn talk<T: Wait + Clock, R: Replica, D: Disk + Drop, S: Read + Write + Drop>(
     work: &Work<'_, T, R, D>,
@@ -48,7 +51,7 @@ pub fn talk<T: Wait + Clock, R: Replica, D: Disk + Drop, S: Read + Write + Drop>
 }
 
 /// Hears what has come, and tells what is new: once what was said before went out, or at the
-/// shift's end.
+/// shift's end. Runs in a seat's thread.
 #[tactic(auto, using(crate::proofs::Adding::adds_more, crate::proofs::Adding::adds_none))]
 fn take_turn<T: Wait + Clock, R: Replica, D: Disk + Drop, S: Write + Drop>(
     work: &Work<'_, T, R, D>,
@@ -106,8 +109,9 @@ fn show<T: Wait, S: Drop>(rt: &T, link: &Link<S>, relay: &Relay) {
     }
 }
 
-/// Tells what is new, where that is due, and lets go out what the stream takes. A stream that took
-/// nothing lately is not waited for at the shift's end.
+/// Tells what is new, if that is due, and lets go out what the stream takes. A stream that took
+/// nothing lately is not waited for at the shift's end. Runs in a seat's thread, without a lock
+/// while it writes.
 fn tell<T: Wait, R: Replica, D: Disk + Drop, S: Write + Drop>(
     work: &Work<'_, T, R, D>,
     pass: &Pass,
@@ -130,7 +134,8 @@ fn tell<T: Wait, R: Replica, D: Disk + Drop, S: Write + Drop>(
     pump(link, phase)
 }
 
-/// Reads on, or waits where no more calls may be made. At the shift's end that is an end too.
+/// Reads on, or waits if no more calls may be made. At the shift's end that is an end too. Runs in a
+/// seat's thread, without a lock.
 fn wait_or_listen<T: Wait + Clock, R: Replica, D: Disk + Drop, S: Read + Drop>(
     work: &Work<'_, T, R, D>,
     link: &mut Link<S>,

@@ -37,7 +37,9 @@ struct Links<S: Drop> {
 }
 
 /// What outlives a shift: the links that wait for a seat, how many are open, and the second in
-/// which the clock last ticked.
+/// which the clock last ticked. Threads of shifts, of seats and of doors share it. A method that
+/// takes `rt` holds the pool's lock for a moment; only a link that is closed for want of memory makes
+/// it take the relay's beside it.
 #[derive(Drop)]
 pub struct Pool<S: Drop> {
     links: Mutex<Links<S>>,

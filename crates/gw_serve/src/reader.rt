@@ -46,7 +46,7 @@ pub enum Intake {
 /// Reads for so many turns, or until it is to stop or no more is to be received. Runs in the
 /// reader's thread, and holds no lock while it waits.
 pub fn read_all<T: Wait, R: Replica, D: Disk + Drop, W: Wire, P: Post, G: Gate>(
-    shared: &Shared<'_, T, R, D, P, G>,
+    shared: &Shared<'_, '_, T, R, D, P, G>,
     sender: &Sender,
     ticket: &mut Ticket,
     wire: &mut W,

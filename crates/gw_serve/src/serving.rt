@@ -145,7 +145,7 @@ struct Channel {
 /// Serves with what all workers share, with room for all that must not be lost, and with a queue in
 /// which nothing was.
 fn serve_in<'a, T, R, D, W, P, G>(
-    shared: &Shared<'a, T, R, D, P, G>,
+    shared: &Shared<'a, '_, T, R, D, P, G>,
     passes: Vec<Pass>,
     room: Room,
     channel: Channel,
@@ -293,7 +293,7 @@ fn seated(
 
 /// Reads in this thread, and works in others.
 fn read_and_work<T, R, D, W, P, G>(
-    shared: &Shared<'_, T, R, D, P, G>,
+    shared: &Shared<'_, '_, T, R, D, P, G>,
     sender: &Sender,
     receiver: &Receiver,
     turns: u64,
@@ -345,7 +345,7 @@ where
 
 /// Works at each place, in a thread of its own.
 fn work_all<T, R, D, P, G>(
-    shared: &Shared<'_, T, R, D, P, G>,
+    shared: &Shared<'_, '_, T, R, D, P, G>,
     receiver: &Receiver,
     slots: &mut [Option<Seat>],
 )
@@ -371,7 +371,7 @@ where
 
 /// Works at one place. Runs in a worker's thread.
 fn work_at<T: Wait, R: Replica, D: Disk + Drop, P: Post, G: Gate>(
-    shared: &Shared<'_, T, R, D, P, G>,
+    shared: &Shared<'_, '_, T, R, D, P, G>,
     receiver: &Receiver,
     slot: &mut Option<Seat>,
 )

@@ -53,7 +53,7 @@ pub struct Socket {
     pub failures: Failures,
 }
 
-/// The reader's side of a socket.
+/// The reader's side of a socket. One thread has it, and waits in it without a lock.
 #[derive(Drop)]
 pub struct Ears<'a> {
     clock: &'a FieldClock,
@@ -68,7 +68,7 @@ pub struct Ears<'a> {
     pub drops: Tally,
 }
 
-/// The side by which threads send.
+/// The side by which threads send. They share it, and take no lock.
 #[derive(Clone, Copy, Drop)]
 pub struct Mouth<'a> {
     socket: &'a UdpSocket,

@@ -36,7 +36,7 @@ pub enum Verdict {
 }
 
 /// Which client ids have come in. The ids are kept for the life of a field, so neither a sensor
-/// that has another id each day nor a stranger is to use them up.
+/// that has another id each day nor a stranger is to use them up. Only the reader's thread asks it.
 #[derive(Drop)]
 pub struct Admission {
     /// The patterns of the ids that come in: all, where there is none.

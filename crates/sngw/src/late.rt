@@ -15,6 +15,7 @@ const LARGEST: usize = 65_536;
 const MOST_DROPPED: u32 = 65_536;
 
 /// Where datagrams come from: the socket, and before it the one that came too late for its shift.
+/// The thread of shifts has it, which is the reader's in a shift.
 #[derive(Drop)]
 pub struct Inlet {
     /// The socket.

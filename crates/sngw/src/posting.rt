@@ -121,7 +121,8 @@ fn is_try(bytes: &[u8]) -> bool
     kind == 0x0A || kind == 0x0C || kind == 0x10
 }
 
-/// The post of a shift.
+/// The post of a shift. Workers and the clock's thread share it. They send without a lock: that of
+/// the fence is held to count a DISCONNECT.
 #[derive(Drop)]
 pub struct Outlet<'a, T: Wait, P: Post> {
     rt: &'a T,
