@@ -164,8 +164,8 @@ fn heard(alloc: Global, message: LinkMessage) -> Result<Said, End> {
 
 /// Takes the deltas that came, as many as wait in a row with one sync. What the gateway refuses is
 /// dropped, also if it is halted; if the shift has had all its calls the rest waits for the next
-/// one. Before both ends have said who they are, nothing is heard but that. Runs in a seat's thread;
-/// the shift's lock is held for each row.
+/// one. Before both ends have said who they are, nothing is heard but that. Runs in a seat's
+/// thread; the shift's lock is held for each row.
 #[tactic(auto, using(crate::proofs::Adding::adds_more, crate::proofs::Adding::adds_none))]
 pub(crate) fn hear_all<T: Wait, R: Replica, D: Disk + Drop, S: Drop>(
     work: &Work<'_, T, R, D>,
@@ -471,8 +471,8 @@ fn news_of<T: Wait, S: Drop>(
     }
 }
 
-/// Hands on what was heard if it is new, and says what the other end lacks. Runs without the shift's
-/// lock; it takes the relay's to hand on.
+/// Hands on what was heard if it is new, and says what the other end lacks. Runs without the
+/// shift's lock; it takes the relay's to hand on.
 fn follow<T: Wait, R: Replica, D: Disk + Drop, S: Drop>(
     work: &Work<'_, T, R, D>,
     link: &mut Link<S>,

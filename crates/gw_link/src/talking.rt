@@ -134,8 +134,8 @@ fn tell<T: Wait, R: Replica, D: Disk + Drop, S: Write + Drop>(
     pump(link, phase)
 }
 
-/// Reads on, or waits if no more calls may be made. At the shift's end that is an end too. Runs in a
-/// seat's thread, without a lock.
+/// Reads on, or waits if no more calls may be made. At the shift's end that is an end too. Runs in
+/// a seat's thread, without a lock.
 fn wait_or_listen<T: Wait + Clock, R: Replica, D: Disk + Drop, S: Read + Drop>(
     work: &Work<'_, T, R, D>,
     link: &mut Link<S>,

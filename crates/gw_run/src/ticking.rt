@@ -26,8 +26,8 @@ const TIME_TO_READ: u64 = 1_000;
 
 /// Ticks in each second while the shift is serving: until a tick gives nothing, and no oftener than
 /// `MOST_TICKS`. What a tick has to send is sent at once. A second in which it has ticked in an
-/// earlier shift is left out, unless that shift had no call left for it. Runs in the clock's thread;
-/// it takes the shift's lock for a call, and no lock to send.
+/// earlier shift is left out, unless that shift had no call left for it. Runs in the clock's
+/// thread; it takes the shift's lock for a call, and no lock to send.
 ///
 /// A tick that finds the gateway halted is the last one: the next call opens the gateway anew, and
 /// the shift is closed, however that ends.

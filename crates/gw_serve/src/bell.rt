@@ -118,8 +118,8 @@ impl Bell {
         self.turn.lock(rt)
     }
 
-    /// Wakes one worker that sleeps, unless one looks for the ring. The reader rings. The bell's lock
-    /// is free by then: who wakes takes it first.
+    /// Wakes one worker that sleeps, unless one looks for the ring. The reader rings. The bell's
+    /// lock is free by then: who wakes takes it first.
     pub(crate) fn ring<R: Wait>(&self, rt: &R) {
         if !self.is_watched(rt) {
             self.rung.notify_one();

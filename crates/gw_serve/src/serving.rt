@@ -53,8 +53,8 @@ pub struct ServeFault<'a, R: Replica, D: Disk> {
     pub cause: Cause,
 }
 
-/// Serves datagrams until the shift has had all its calls, or until the wire is over, or for so many
-/// turns of the reader, and then until the queue is empty. None of these ends is a fault.
+/// Serves datagrams until the shift has had all its calls, or until the wire is over, or for so
+/// many turns of the reader, and then until the queue is empty. None of these ends is a fault.
 ///
 /// Runs in the thread that calls it, which reads, and makes a worker's thread for each pass. Each
 /// datagram that finds room in the queue gets the next number, from 1 on; one that finds the queue

@@ -104,8 +104,8 @@ pub struct Shared<'s, 'a, T: Wait, R: Replica, D: Disk, P: Post, G: Gate> {
     pub gate: &'a G,
 }
 
-/// Works until the queue is closed and empty. If it failed, the reader is to stop. Runs in a worker's
-/// thread.
+/// Works until the queue is closed and empty. If it failed, the reader is to stop. Runs in a
+/// worker's thread.
 pub fn work<T: Wait, R: Replica, D: Disk + Drop, P: Post, G: Gate>(
     shared: &Shared<'_, '_, T, R, D, P, G>,
     receiver: &Receiver,
@@ -121,10 +121,10 @@ pub fn work<T: Wait, R: Replica, D: Disk + Drop, P: Post, G: Gate>(
     seat
 }
 
-/// Takes numbers until the queue is closed and empty. Room for all that may be taken at once is made
-/// before, so each that was taken is told of, unless the worker must end with a fault. Runs in a
-/// worker's thread. It takes the turn to take numbers and make their calls, and waits for the bell
-/// without it.
+/// Takes numbers until the queue is closed and empty. Room for all that may be taken at once is
+/// made before, so each that was taken is told of, unless the worker must end with a fault. Runs in
+/// a worker's thread. It takes the turn to take numbers and make their calls, and waits for the
+/// bell without it.
 fn take_all<T: Wait, R: Replica, D: Disk + Drop, P: Post, G: Gate>(
     shared: &Shared<'_, '_, T, R, D, P, G>,
     receiver: &Receiver,
@@ -218,9 +218,9 @@ fn room_for(alloc: Global, taken: &mut Vec<Taken>, left: &mut Vec<u64>) -> Optio
     }
 }
 
-/// Makes the calls of a row, with the turn and under the shift's lock, and then sends their replies,
-/// with neither. What the shift does not make is left, and the reader is to stop. Runs in a worker's
-/// thread.
+/// Makes the calls of a row, with the turn and under the shift's lock, and then sends their
+/// replies, with neither. What the shift does not make is left, and the reader is to stop. Runs in
+/// a worker's thread.
 fn handle<T: Wait, R: Replica, D: Disk + Drop, P: Post, G: Gate>(
     shared: &Shared<'_, '_, T, R, D, P, G>,
     pass: Pass,

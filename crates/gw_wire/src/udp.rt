@@ -31,8 +31,8 @@ const A_REST: u64 = 1;
 const UNREAD_OCTETS: i32 = 8_388_608;
 
 /// How many octets the system is asked to keep of datagrams that have not gone out yet: no thread
-/// waits for a slow network then. It keeps twice as many, some 1,000 small datagrams: more than that
-/// its queues may drop. It keeps less if its own limit (`net.core.wmem_max`) is less.
+/// waits for a slow network then. It keeps twice as many, some 1,000 small datagrams: more than
+/// that its queues may drop. It keeps less if its own limit (`net.core.wmem_max`) is less.
 const UNSENT_OCTETS: i32 = 376_832;
 
 /// How often a datagram is offered to the system while that has no room for it: some tens of

@@ -1,5 +1,5 @@
-//! Which datagrams become calls: those that are frames, but for a CONNECT of a client that is not let
-//! in.
+//! Which datagrams become calls: those that are frames, but for a CONNECT of a client that is not
+//! let in.
 
 ghost use Rattle.std.specs.Prelude.{◌≡◌, ◌≢◌};
 ghost use Rattle.sn_frame.specs.declared.fault.FrameFault.{FrameFault};

@@ -45,10 +45,10 @@ pub(crate) fn hold_lifetime<E: Write>(settings: &mut Settings, today: u64, err: 
     lifetime
 }
 
-/// Moments go by the date from now on. No other thread looks at the clock meanwhile: it is looked at
-/// here, so that the next look takes nothing that passed before for a standing still since then. If
-/// the machine had no date when the gateway was opened, or has none now, moments go by that of the
-/// opening: so the gateway is opened again once one is set.
+/// Moments go by the date from now on. No other thread looks at the clock meanwhile: it is looked
+/// at here, so that the next look takes nothing that passed before for a standing still since then.
+/// If the machine had no date when the gateway was opened, or has none now, moments go by that of
+/// the opening: so the gateway is opened again once one is set.
 pub(crate) fn begin_dates<T: Clock>(rt: &T, clock: &FieldClock, opened: u64) {
     let today = date(rt);
     let are_dates = is_date(opened) && is_date(today);
@@ -56,12 +56,13 @@ pub(crate) fn begin_dates<T: Clock>(rt: &T, clock: &FieldClock, opened: u64) {
     clock.set(if are_dates { today } else { opened });
 }
 
-/// A gateway after a shift. If the date is far from the moment, or was set, it is opened anew by the
-/// date, with the lifetime of the settings, and the links are closed. Runs in the thread of shifts. A date that was set may be near the moment of
-/// a gateway that stood still; if that were let be, each shift would close for it. A datagram that
-/// came late comes by the date as well. While the gateway is halted it is let be: its disk may fail.
-/// So it is if the date cannot be read, and is 0. The moment is that of the last look in the shift:
-/// whoever looks next finds whether the gateway stood still since then.
+/// A gateway after a shift. If the date is far from the moment, or was set, it is opened anew by
+/// the date, with the lifetime of the settings, and the links are closed. Runs in the thread of
+/// shifts. A date that was set may be near the moment of a gateway that stood still; if that were
+/// let be, each shift would close for it. A datagram that came late comes by the date as well.
+/// While the gateway is halted it is let be: its disk may fail. So it is if the date cannot be
+/// read, and is 0. The moment is that of the last look in the shift: whoever looks next finds
+/// whether the gateway stood still since then.
 pub(crate) fn by_date<T, R, D>(
     program: &Program<'_, T>,
     node: Node<R, D>,

@@ -23,7 +23,8 @@ const MOST_LOOKS: usize = 1_024;
 const A_LOOK: u64 = 200;
 
 /// Looks at the clients while the shift serves. If memory runs out, or the shift ends, the last
-/// glance stays. Runs in a thread of its own; it takes the shift's lock for a few clients at a time.
+/// glance stays. Runs in a thread of its own; it takes the shift's lock for a few clients at a
+/// time.
 pub(crate) fn glance_all<T, R, D>(program: &Program<'_, T>, work: &Work<'_, T, R, D>)
 where
     T: Wait + Clock,

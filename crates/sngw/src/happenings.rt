@@ -53,7 +53,8 @@ pub struct Happened {
     not_compacted: u64,
     shift: u64,
     failures: u64,
-    /// For how many seconds in all the clock stood still, as it was told, and at the last gathering.
+    /// For how many seconds in all the clock stood still, as it was told, and at the last
+    /// gathering.
     stood: u64,
     standing: u64,
     /// How many datagrams were told as dropped, and when.
@@ -90,8 +91,8 @@ struct News {
     lost: u64,
 }
 
-/// Tells what happened since the last time. Runs in the watcher's thread, and holds no lock while it
-/// compares.
+/// Tells what happened since the last time. Runs in the watcher's thread, and holds no lock while
+/// it compares.
 pub(crate) fn tell_all<T>(
     program: &Program<'_, T>,
     gathered: &mut Gathered,
@@ -172,8 +173,8 @@ fn count_unless(count: &mut u64, holds: bool) {
     }
 }
 
-/// Says an event on standard error, if it is of the level of the settings or worse. Whether its line
-/// was not left out.
+/// Says an event on standard error, if it is of the level of the settings or worse. Whether its
+/// line was not left out.
 fn say<T: Wait + Print + Eprint>(program: &Program<'_, T>, event: &Event) -> bool {
     if event.level().number() > program.settings.log {
         return true;
@@ -229,8 +230,8 @@ fn find_links(news: &mut News, links: &mut [KnownLink]) {
     }
 }
 
-/// The troubles of links, and that nothing can be sent. If the settings ask for no events, each has a
-/// line.
+/// The troubles of links, and that nothing can be sent. If the settings ask for no events, each has
+/// a line.
 fn find_troubles<T: Wait + Clock + Print + Eprint>(program: &Program<'_, T>, news: &mut News) {
     let rt = program.rt;
     let pool = &program.shared.pool;

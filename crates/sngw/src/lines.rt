@@ -48,8 +48,8 @@ struct Waiting {
     is_done: bool,
 }
 
-/// The lines of an output that wait to be printed. Any thread puts them there, under their lock, and
-/// one prints them, without it.
+/// The lines of an output that wait to be printed. Any thread puts them there, under their lock,
+/// and one prints them, without it.
 #[derive(Drop)]
 pub(crate) struct Lines {
     output: Output,
@@ -144,8 +144,8 @@ impl Lines {
         drop(line);
     }
 
-    /// Prints each line, until no more come. Runs in a thread of its own; the lock is held to take a
-    /// line, and not to print it.
+    /// Prints each line, until no more come. Runs in a thread of its own; the lock is held to take
+    /// a line, and not to print it.
     pub(crate) fn print_all<T: Wait + Print + Eprint>(&self, rt: &T) {
         for _ in rt.forever() {
             let Some(line) = self.next(rt) else {

@@ -14,8 +14,8 @@ use std::sync::{Mutex, Wait};
 /// How many groups of addresses are counted apart.
 const GROUPS: usize = 4_096;
 
-/// How many octets the history keeps of a datagram beside its own: of the answer that has it, and of
-/// what the gateway made for it.
+/// How many octets the history keeps of a datagram beside its own: of the answer that has it, and
+/// of what the gateway made for it.
 const A_SEND: usize = 256;
 
 /// How many seconds are counted together.

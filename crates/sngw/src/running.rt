@@ -355,8 +355,8 @@ where
 
 /// Works so many shifts, each with a line when it is over. If the gateway was opened anew in a
 /// shift, that is told before its line. After it the gateway is tended if it was halted, or its
-/// journal has grown. While its writes fail it is silent between its tries: clients look for another
-/// one.
+/// journal has grown. While its writes fail it is silent between its tries: clients look for
+/// another one.
 fn work_all<T, R, D>(
     program: &Program<'_, T>,
     place: &Mutex<Option<Node<R, D>>>,
@@ -380,8 +380,8 @@ where
     Ok(())
 }
 
-/// Works the shift of this number, from 0 on, with the gateway of its place, whose lock is held only
-/// to take it. If none is there, nothing is done.
+/// Works the shift of this number, from 0 on, with the gateway of its place, whose lock is held
+/// only to take it. If none is there, nothing is done.
 fn work_one<T, R, D>(
     program: &Program<'_, T>,
     place: &Mutex<Option<Node<R, D>>>,

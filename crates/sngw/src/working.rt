@@ -196,8 +196,8 @@ where
     served
 }
 
-/// Serves links, and beside them glances at the clients if anybody watches. If no thread can be made
-/// for that, it is left out.
+/// Serves links, and beside them glances at the clients if anybody watches. If no thread can be
+/// made for that, it is left out.
 fn sit_and_look<T, R, D>(
     program: &Program<'_, T>,
     work: &Work<'_, T, R, D>,
@@ -271,8 +271,8 @@ where
     )
 }
 
-/// Serves ticks beside datagrams, at the two sides of the socket. The clock has a thread of its own;
-/// this one reads.
+/// Serves ticks beside datagrams, at the two sides of the socket. The clock has a thread of its
+/// own; this one reads.
 fn serve_beside<T, R, D, W, P>(
     program: &Program<'_, T>,
     work: &Work<'_, T, R, D>,
