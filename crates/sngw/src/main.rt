@@ -231,7 +231,7 @@ where
                     let task = Task {
                         rt,
                         alloc,
-                        settings,
+                        settings: &*settings,
                         shifts,
                         today,
                         said,

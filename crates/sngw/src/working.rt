@@ -3,7 +3,7 @@
 ghost use Rattle.std.specs.Prelude.{◌<◌, ◌≤◌};
 ghost use Rattle.gw_shift.specs.declared.shift.TheConstants.{MAX_STEPS};
 
-use crate::board::{Number, Shared};
+use crate::board::{Board, Number, Shared};
 use crate::glancing::glance_all;
 use crate::late::Inlet;
 use crate::posting::Outlet;
@@ -258,7 +258,7 @@ where
         fence,
         admission,
     } = inlet;
-    let (rt, alloc, shared) = (program.rt, program.alloc, program.shared);
+    let shared = program.shared;
     let (mut ears, mouth) = socket.sides(&shared.pool.clock);
     let mut watched = Watched::new(program, &mut ears, mouth, work.stage, late, admission);
     serve_beside(
@@ -267,7 +267,7 @@ where
         passes,
         seats,
         &mut watched,
-        &Outlet::new(rt, alloc, &mouth, work.stage, fence, shared),
+        &Outlet::new(work.rt, work.alloc, &mouth, work.stage, fence, shared),
     )
 }
 
@@ -291,11 +291,9 @@ where
 {
     let mut ticking = || tick_at(program, work, seats, post);
     let mut serving = || -> Result<(), Stop> {
-        let served = serve_all(work, passes, wire, post);
-        program
-            .shared
-            .board
-            .set(Number::Closing, millisecond(work.rt));
+        let board = &program.shared.board;
+        let served = serve_all(board, work, passes, wire, post);
+        board.set(Number::Closing, millisecond(work.rt));
         work.stage.close(work.rt);
         served
     };
@@ -324,8 +322,10 @@ where
     }
 }
 
-/// Serves datagrams until the shift has had all its calls, or is to close. Neither is a fault.
+/// Serves datagrams until the shift has had all its calls, or is to close. Neither is a fault. What
+/// is left over counts as dropped. Runs in the reader's thread.
 fn serve_all<T, R, D, W, P>(
+    board: &Board,
     work: &Work<'_, T, R, D>,
     passes: &mut Vec<Pass>,
     wire: &mut W,
@@ -339,7 +339,8 @@ where
     W: Wire,
     P: Post + Sync,
 {
-    let (rt, alloc) = (work.rt, work.alloc);
+    let rt = work.rt;
+    let alloc = work.alloc;
     let given = mem::replace(passes, Vec::new(alloc));
     if given.is_empty() {
         return Ok(());
@@ -355,6 +356,7 @@ where
         u64::MAX,
     ) {
         Ok(served) => {
+            count_left(board, served.left.as_slice());
             *passes = served.passes;
             Ok(())
         }
@@ -366,6 +368,13 @@ where
                 Cause::Behind => Err(Stop::History),
             }
         }
+    }
+}
+
+/// Counts the datagrams of these numbers as dropped: they came, and became no call.
+fn count_left(board: &Board, left: &[u64]) {
+    for _ in left {
+        board.add(Number::Dropped);
     }
 }
 
