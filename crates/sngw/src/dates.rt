@@ -63,16 +63,11 @@ pub(crate) fn begin_dates<T: Clock>(rt: &T, clock: &FieldClock, opened: u64) {
 /// While the gateway is halted it is let be: its disk may fail. So it is if the date cannot be
 /// read, and is 0. The moment is that of the last look in the shift: whoever looks next finds
 /// whether the gateway stood still since then.
-pub(crate) fn by_date<T, R, D>(
+pub(crate) fn by_date<T: Wait + Clock + Print + Eprint, R: Replica, D: Disk + Drop>(
     program: &Program<'_, T>,
     node: Node<R, D>,
     inlet: &mut Inlet,
-) -> Result<Node<R, D>, Stop>
-where
-    T: Wait + Clock + Print + Eprint,
-    R: Replica,
-    D: Disk + Drop,
-{
+) -> Result<Node<R, D>, Stop> {
     let rt = program.rt;
     let pool = &program.shared.pool;
     let today = date(rt);

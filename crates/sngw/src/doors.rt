@@ -86,10 +86,10 @@ where
 /// Dials a peer whenever no link to it is open: at once if the last one worked, and with growing
 /// pauses if it takes the call and does not say its number. Runs in the peer's door's thread, and
 /// holds no lock while it dials.
-fn dial_all<T>(program: &Program<'_, T>, door: Door)
-where
-    T: Wait + Clock + Net<Listener = TcpListener, Stream = TcpStream>,
-{
+fn dial_all<T: Wait + Clock + Net<Listener = TcpListener, Stream = TcpStream>>(
+    program: &Program<'_, T>,
+    door: Door,
+) {
     let mut dials = Dials {
         pause: 0,
         left: 0,
@@ -120,10 +120,11 @@ struct Dials {
 }
 
 /// Dials a peer to which no link is open, unless it is to be left alone for some seconds more.
-fn dial_in_turn<T>(program: &Program<'_, T>, door: Door, dials: &mut Dials)
-where
-    T: Wait + Clock + Net<Listener = TcpListener, Stream = TcpStream>,
-{
+fn dial_in_turn<T: Wait + Clock + Net<Listener = TcpListener, Stream = TcpStream>>(
+    program: &Program<'_, T>,
+    door: Door,
+    dials: &mut Dials,
+) {
     let pool = &program.shared.pool;
     if dials.has_called {
         dials.pause = next_pause(dials.pause, pool.has_spoken(program.rt, door.origin));
@@ -140,10 +141,12 @@ where
 }
 
 /// Dials a peer. Whether it took the call.
-fn dial<T>(rt: &T, alloc: Global, door: Door, pool: &Pool<TcpStream>) -> bool
-where
-    T: Wait + Clock + Net<Listener = TcpListener, Stream = TcpStream>,
-{
+fn dial<T: Wait + Clock + Net<Listener = TcpListener, Stream = TcpStream>>(
+    rt: &T,
+    alloc: Global,
+    door: Door,
+    pool: &Pool<TcpStream>,
+) -> bool {
     let found = TcpStream::connect_timeout(rt, &address(door.at), Duration::from_millis(A_DIAL));
     match found {
         Ok(stream) => {

@@ -125,10 +125,11 @@ pub(crate) fn none_gathered<T: Clock>(rt: &T, alloc: Global) -> Gathered {
 
 /// Gathers what is reported. What needs memory that is refused stays as it was. Runs in the
 /// watcher's thread; it takes the relay's lock and those of the board, one at a time.
-pub(crate) fn gather<T>(program: &Program<'_, T>, gathered: &mut Gathered, report: &mut Report)
-where
-    T: Wait + Clock + Files<File = File>,
-{
+pub(crate) fn gather<T: Wait + Clock + Files<File = File>>(
+    program: &Program<'_, T>,
+    gathered: &mut Gathered,
+    report: &mut Report,
+) {
     let rt = program.rt;
     let alloc = program.alloc;
     let shared = program.shared;

@@ -25,12 +25,10 @@ const A_LOOK: u64 = 200;
 /// Looks at the clients while the shift serves. If memory runs out, or the shift ends, the last
 /// glance stays. Runs in a thread of its own; it takes the shift's lock for a few clients at a
 /// time.
-pub(crate) fn glance_all<T, R, D>(program: &Program<'_, T>, work: &Work<'_, T, R, D>)
-where
-    T: Wait + Clock,
-    R: Replica,
-    D: Disk + Drop,
-{
+pub(crate) fn glance_all<T: Wait + Clock, R: Replica, D: Disk + Drop>(
+    program: &Program<'_, T>,
+    work: &Work<'_, T, R, D>,
+) {
     let rt = program.rt;
     let board = &program.shared.board;
     for _ in rt.forever() {
@@ -49,12 +47,10 @@ where
 }
 
 /// All clients at a glance. `None` if memory runs out, or the shift ends.
-fn look<T, R, D>(program: &Program<'_, T>, work: &Work<'_, T, R, D>) -> Option<Field>
-where
-    T: Wait,
-    R: Replica,
-    D: Disk + Drop,
-{
+fn look<T: Wait, R: Replica, D: Disk + Drop>(
+    program: &Program<'_, T>,
+    work: &Work<'_, T, R, D>,
+) -> Option<Field> {
     note_gateways(program);
     let clock = &program.shared.pool.clock;
     let second = clock.second();
@@ -72,12 +68,10 @@ where
 }
 
 /// Looks at the clients, some at a time, while the shift serves. Whether all were seen.
-fn look_at_all<T, R, D>(work: &Work<'_, T, R, D>, field: &mut Field) -> bool
-where
-    T: Wait,
-    R: Replica,
-    D: Disk + Drop,
-{
+fn look_at_all<T: Wait, R: Replica, D: Disk + Drop>(
+    work: &Work<'_, T, R, D>,
+    field: &mut Field,
+) -> bool {
     for _ in 0..MOST_LOOKS {
         let many = field.clients.len();
         if work.stage.phase(work.rt) != Phase::Serving || !look_on(work, field) {
@@ -91,12 +85,10 @@ where
 }
 
 /// Looks at some clients more, if there are any. Whether there was memory for them.
-fn look_on<T, R, D>(work: &Work<'_, T, R, D>, field: &mut Field) -> bool
-where
-    T: Wait,
-    R: Replica,
-    D: Disk + Drop,
-{
+fn look_on<T: Wait, R: Replica, D: Disk + Drop>(
+    work: &Work<'_, T, R, D>,
+    field: &mut Field,
+) -> bool {
     let last = last_of(field.clients.as_slice());
     match work.shift.glance(work.rt, work.alloc, last, AT_ONCE) {
         Err(_) => false,
@@ -135,16 +127,11 @@ fn keep(clients: &mut Vec<Glimpse>, glimpse: Glimpse) -> bool {
 
 /// Adds how many messages of each gateway are known for these clients. Whether there was memory for
 /// that.
-fn count_known<T, R, D>(
+fn count_known<T: Wait, R: Replica, D: Disk + Drop>(
     work: &Work<'_, T, R, D>,
     found: &[Glimpse],
     known: &mut [(u8, u64)],
-) -> bool
-where
-    T: Wait,
-    R: Replica,
-    D: Disk + Drop,
-{
+) -> bool {
     for entry in known {
         let (origin, before) = *entry;
         match work

@@ -93,15 +93,12 @@ struct News {
 
 /// Tells what happened since the last time. Runs in the watcher's thread, and holds no lock while
 /// it compares.
-pub(crate) fn tell_all<T>(
+pub(crate) fn tell_all<T: Wait + Clock + Print + Eprint>(
     program: &Program<'_, T>,
     gathered: &mut Gathered,
     happened: &mut Happened,
     report: &mut Report,
-)
-where
-    T: Wait + Clock + Print + Eprint,
-{
+) {
     let now = millisecond(program.rt);
     let moment = now.saturating_sub(gathered.began) / 1_000;
     let mut news = News {

@@ -116,10 +116,11 @@ fn outputs(alloc: Global) -> Option<(Arc<Lines>, Arc<Lines>)> {
 }
 
 /// The program's status. What was said is printed before, if anybody reads it.
-fn end<T>(rt: &T, said: Said<'_>, started: Result<(), Stop>) -> ExitCode
-where
-    T: Wait + Clock + Print + Eprint,
-{
+fn end<T: Wait + Clock + Print + Eprint>(
+    rt: &T,
+    said: Said<'_>,
+    started: Result<(), Stop>,
+) -> ExitCode {
     let status = match started {
         Ok(()) => ExitCode::SUCCESS,
         Err(stop) => {

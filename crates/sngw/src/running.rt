@@ -103,10 +103,11 @@ struct Listeners {
 }
 
 /// Opens all that a gateway is reached by.
-fn open_all<T>(rt: &T, alloc: Global, settings: &Settings) -> Result<Opened, Stop>
-where
-    T: Eprint + Net<Listener = TcpListener, Stream = TcpStream>,
-{
+fn open_all<T: Eprint + Net<Listener = TcpListener, Stream = TcpStream>>(
+    rt: &T,
+    alloc: Global,
+    settings: &Settings,
+) -> Result<Opened, Stop> {
     let socket = socket_of(rt, alloc, settings)?;
     match listeners_of(rt, settings) {
         Ok(listeners) => open_beside(alloc, settings, socket, listeners),
@@ -206,10 +207,10 @@ fn shared_by(alloc: Global, settings: &Settings, pool: Pool<TcpStream>) -> Resul
 }
 
 /// The listeners of links and of the page.
-fn listeners_of<T>(rt: &T, settings: &Settings) -> Result<Listeners, Stop>
-where
-    T: Eprint + Net<Listener = TcpListener, Stream = TcpStream>,
-{
+fn listeners_of<T: Eprint + Net<Listener = TcpListener, Stream = TcpStream>>(
+    rt: &T,
+    settings: &Settings,
+) -> Result<Listeners, Stop> {
     match listener_at(rt, "link", settings.link) {
         Ok(link) => listeners_with(rt, settings, link),
         Err(stop) => Err(stop),
@@ -217,10 +218,11 @@ where
 }
 
 /// That of links, and that of the page.
-fn listeners_with<T>(rt: &T, settings: &Settings, link: TcpListener) -> Result<Listeners, Stop>
-where
-    T: Eprint + Net<Listener = TcpListener, Stream = TcpStream>,
-{
+fn listeners_with<T: Eprint + Net<Listener = TcpListener, Stream = TcpStream>>(
+    rt: &T,
+    settings: &Settings,
+    link: TcpListener,
+) -> Result<Listeners, Stop> {
     match status_listener(rt, settings.status) {
         Ok(status) => Ok(Listeners { link, status }),
         Err(stop) => {
@@ -231,10 +233,10 @@ where
 }
 
 /// The listener of the page, if the settings name its address.
-fn status_listener<T>(rt: &T, at: Option<Addr>) -> Result<Option<TcpListener>, Stop>
-where
-    T: Eprint + Net<Listener = TcpListener, Stream = TcpStream>,
-{
+fn status_listener<T: Eprint + Net<Listener = TcpListener, Stream = TcpStream>>(
+    rt: &T,
+    at: Option<Addr>,
+) -> Result<Option<TcpListener>, Stop> {
     match at {
         None => Ok(None),
         Some(at) => match listener_at(rt, "status", at) {
@@ -245,10 +247,11 @@ where
 }
 
 /// The listener at an address, which this key of the settings names.
-fn listener_at<T>(rt: &T, key: &str, at: Addr) -> Result<TcpListener, Stop>
-where
-    T: Eprint + Net<Listener = TcpListener, Stream = TcpStream>,
-{
+fn listener_at<T: Eprint + Net<Listener = TcpListener, Stream = TcpStream>>(
+    rt: &T,
+    key: &str,
+    at: Addr,
+) -> Result<TcpListener, Stop> {
     match TcpListener::bind(rt, address(at)) {
         Ok(listener) => without_waiting(listener),
         Err(error) => Err(no_socket(rt, key, error.kind())),
@@ -407,19 +410,14 @@ where
 
 /// Ends the shift of this number, from 1 on, and puts the gateway back into its place. If the date
 /// was set meanwhile, the gateway is opened anew by it first.
-fn end_in_place<T, R, D>(
+fn end_in_place<T: Wait + Clock + Print + Eprint + Files<File = File>, R: Replica, D: Disk + Drop>(
     program: &Program<'_, T>,
     place: &Mutex<Option<Node<R, D>>>,
     mut worked: Worked<R, D>,
     inlet: &mut Inlet,
     number: u64,
     keeper: &mut Keeper<'_>,
-) -> Result<(), Stop>
-where
-    T: Wait + Clock + Print + Eprint + Files<File = File>,
-    R: Replica,
-    D: Disk + Drop,
-{
+) -> Result<(), Stop> {
     let rt = program.rt;
     let steps = worked.steps;
     let ended = end_shift(program, &mut worked, inlet, number, keeper);
@@ -434,18 +432,13 @@ where
 }
 
 /// Tells of the shift of this number, from 1 on, which is over, and tends the gateway.
-fn end_shift<T, R, D>(
+fn end_shift<T: Wait + Clock + Print + Eprint + Files<File = File>, R: Replica, D: Disk + Drop>(
     program: &Program<'_, T>,
     worked: &mut Worked<R, D>,
     inlet: &mut Inlet,
     number: u64,
     keeper: &mut Keeper<'_>,
-) -> Result<(), Stop>
-where
-    T: Wait + Clock + Print + Eprint + Files<File = File>,
-    R: Replica,
-    D: Disk + Drop,
-{
+) -> Result<(), Stop> {
     let rt = program.rt;
     if let Some(other) = program.shared.pool.relay.found_by(rt) {
         return Err(used(program, other));
@@ -484,17 +477,12 @@ fn put_back<T: Wait, R: Replica, D: Disk + Drop>(
 
 /// Tends a gateway after its shift, if it was halted, or its journal has grown. If its writes fail
 /// again, it is silent for some seconds.
-fn go_on<T, R, D>(
+fn go_on<T: Wait + Clock + Print + Eprint + Files<File = File>, R: Replica, D: Disk + Drop>(
     program: &Program<'_, T>,
     worked: &mut Worked<R, D>,
     inlet: &mut Inlet,
     keeper: &mut Keeper<'_>,
-) -> Result<(), Stop>
-where
-    T: Wait + Clock + Print + Eprint + Files<File = File>,
-    R: Replica,
-    D: Disk + Drop,
-{
+) -> Result<(), Stop> {
     let rt = program.rt;
     let shared = program.shared;
     let has_failed = worked.tended == Tended::Reopened || worked.node.is_halted();
@@ -552,17 +540,12 @@ fn used<T: Wait + Print + Eprint>(program: &Program<'_, T>, other: u8) -> Stop {
 /// left may have octets that its last sync did not keep, which the system would call kept: after
 /// this nothing rests on them. A gateway that cannot write, or has no memory for that, says at each
 /// try how it stands, and is silent until it can.
-fn write_first<T, R, D>(
+fn write_first<T: Wait + Clock + Print + Eprint + Files<File = File>, R: Replica, D: Disk + Drop>(
     program: &Program<'_, T>,
     place: &Mutex<Option<Node<R, D>>>,
     inlet: &mut Inlet,
     keeper: &mut Keeper<'_>,
-) -> Result<(), Stop>
-where
-    T: Wait + Clock + Print + Eprint + Files<File = File>,
-    R: Replica,
-    D: Disk + Drop,
-{
+) -> Result<(), Stop> {
     let Some(mut node) = place.lock(program.rt).take() else {
         return Ok(());
     };
@@ -572,17 +555,12 @@ where
 }
 
 /// Tries to write what was read until it is written.
-fn write_anew<T, R, D>(
+fn write_anew<T: Wait + Clock + Print + Eprint + Files<File = File>, R: Replica, D: Disk + Drop>(
     program: &Program<'_, T>,
     node: &mut Node<R, D>,
     inlet: &mut Inlet,
     keeper: &mut Keeper<'_>,
-) -> Result<(), Stop>
-where
-    T: Wait + Clock + Print + Eprint + Files<File = File>,
-    R: Replica,
-    D: Disk + Drop,
-{
+) -> Result<(), Stop> {
     if node.records() == 0 {
         return Ok(());
     }
@@ -595,17 +573,12 @@ where
 }
 
 /// Tries it once, and waits if it is not written. True if it is.
-fn write_once<T, R, D>(
+fn write_once<T: Wait + Clock + Print + Eprint + Files<File = File>, R: Replica, D: Disk + Drop>(
     program: &Program<'_, T>,
     node: &mut Node<R, D>,
     inlet: &mut Inlet,
     keeper: &mut Keeper<'_>,
-) -> Result<bool, Stop>
-where
-    T: Wait + Clock + Print + Eprint + Files<File = File>,
-    R: Replica,
-    D: Disk + Drop,
-{
+) -> Result<bool, Stop> {
     let tended = tend_behind(program, node, keeper)?;
     if tended == Tended::Starved {
         tell(program, node);
@@ -642,16 +615,11 @@ fn be_silent<T: Clock>(rt: &T, inlet: &mut Inlet, shared: &Shared, seconds: u64)
 }
 
 /// Tends the gateway after a shift.
-fn tend_behind<T, R, D>(
+fn tend_behind<T: Wait + Clock + Print + Eprint + Files<File = File>, R: Replica, D: Disk + Drop>(
     program: &Program<'_, T>,
     node: &mut Node<R, D>,
     keeper: &mut Keeper<'_>,
-) -> Result<Tended, Stop>
-where
-    T: Wait + Clock + Print + Eprint + Files<File = File>,
-    R: Replica,
-    D: Disk + Drop,
-{
+) -> Result<Tended, Stop> {
     let rt = program.rt;
     let before = keeper.lengths(rt, program.alloc);
     let began = millisecond(rt);
@@ -688,12 +656,11 @@ fn note_tended<T: Clock>(rt: &T, shared: &Shared, tended: Tended, milliseconds: 
 
 /// If a gateway was opened anew, says how it stands as at the start, and closes the links. It may
 /// have read what it never told, and over a new link the other end asks for that.
-fn begin_anew<T, R, D>(program: &Program<'_, T>, node: &Node<R, D>, tended: Tended)
-where
-    T: Wait + Print + Eprint,
-    R: Replica,
-    D: Disk + Drop,
-{
+fn begin_anew<T: Wait + Print + Eprint, R: Replica, D: Disk + Drop>(
+    program: &Program<'_, T>,
+    node: &Node<R, D>,
+    tended: Tended,
+) {
     if tended == Tended::Reopened || tended == Tended::Unwritten {
         program.shared.pool.close_all(program.rt);
         tell(program, node);
@@ -701,12 +668,10 @@ where
 }
 
 /// Says how the gateway stands. If memory runs out the line is left out.
-pub(crate) fn tell<T, R, D>(program: &Program<'_, T>, node: &Node<R, D>)
-where
-    T: Wait + Print + Eprint,
-    R: Replica,
-    D: Disk + Drop,
-{
+pub(crate) fn tell<T: Wait + Print + Eprint, R: Replica, D: Disk + Drop>(
+    program: &Program<'_, T>,
+    node: &Node<R, D>,
+) {
     let line = state_of(program.alloc, node);
     program.said.out.say(program.rt, line);
 }

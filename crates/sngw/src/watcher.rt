@@ -43,10 +43,10 @@ struct Watcher {
 
 /// Shows the gateway until the program's work is over. Runs in the watcher's thread, and holds no
 /// lock while it reads or writes.
-pub(crate) fn show_all<T>(program: &Program<'_, T>, listener: &Option<TcpListener>)
-where
-    T: Wait + Clock + Print + Eprint + Files<File = File>,
-{
+pub(crate) fn show_all<T: Wait + Clock + Print + Eprint + Files<File = File>>(
+    program: &Program<'_, T>,
+    listener: &Option<TcpListener>,
+) {
     let rt = program.rt;
     for _ in rt.forever() {
         if program.over.phase(rt) != Phase::Serving {
@@ -79,10 +79,11 @@ fn watcher_of<T: Clock>(rt: &T, alloc: Global) -> Option<Watcher> {
 }
 
 /// Shows the gateway, by what the thread holds.
-fn show<T>(program: &Program<'_, T>, listener: &Option<TcpListener>, watcher: Watcher)
-where
-    T: Wait + Clock + Print + Eprint + Files<File = File>,
-{
+fn show<T: Wait + Clock + Print + Eprint + Files<File = File>>(
+    program: &Program<'_, T>,
+    listener: &Option<TcpListener>,
+    watcher: Watcher,
+) {
     let mut watcher = watcher;
     program.shared.board.set(Number::Watcher, 1);
     watch(program, listener, &mut watcher);
@@ -90,10 +91,11 @@ where
 }
 
 /// Gathers once in a second, and serves those who call meanwhile.
-fn watch<T>(program: &Program<'_, T>, listener: &Option<TcpListener>, watcher: &mut Watcher)
-where
-    T: Wait + Clock + Print + Eprint + Files<File = File>,
-{
+fn watch<T: Wait + Clock + Print + Eprint + Files<File = File>>(
+    program: &Program<'_, T>,
+    listener: &Option<TcpListener>,
+    watcher: &mut Watcher,
+) {
     let rt = program.rt;
     for _ in rt.forever() {
         if program.over.phase(rt) != Phase::Serving {
@@ -117,10 +119,10 @@ where
 }
 
 /// Gathers what is reported, and tells what happened, unless it has just done so.
-fn look<T>(program: &Program<'_, T>, watcher: &mut Watcher)
-where
-    T: Wait + Clock + Print + Eprint + Files<File = File>,
-{
+fn look<T: Wait + Clock + Print + Eprint + Files<File = File>>(
+    program: &Program<'_, T>,
+    watcher: &mut Watcher,
+) {
     let now = millisecond(program.rt);
     look_at_rounds(program.shared, &mut watcher.gathered, now);
     if now.saturating_sub(watcher.looked) < A_SECOND {

@@ -302,18 +302,12 @@ where
 }
 
 /// Ticks at the seat. Runs in the clock's thread.
-fn tick_at<T, R, D, P>(
+fn tick_at<T: Wait + Clock, R: Replica, D: Disk + Drop, P: Post>(
     program: &Program<'_, T>,
     work: &Work<'_, T, R, D>,
     seats: &mut [Option<Seat>],
     post: &P,
-)
-where
-    T: Wait + Clock,
-    R: Replica,
-    D: Disk + Drop,
-    P: Post,
-{
+) {
     for slot in seats {
         if let Some(seat) = slot.take() {
             let (pass, end) = tick_all(work, seat.pass, post, &program.shared.pool);
@@ -393,18 +387,13 @@ fn made_by(alloc: Global, crew: &mut Crew) -> Result<Made, Stop> {
 
 /// Ends the shift, and compares its history with what its threads hold. If the crew failed, the
 /// shift is dropped.
-fn close<T, R, D>(
+fn close<T: Wait, R: Replica, D: Disk + Drop>(
     rt: &T,
     alloc: Global,
     shift: Shift<R, D>,
     made: Result<Made, Stop>,
     shared: &Shared,
-) -> Result<Worked<R, D>, Stop>
-where
-    T: Wait,
-    R: Replica,
-    D: Disk + Drop,
-{
+) -> Result<Worked<R, D>, Stop> {
     let Made { passes, tended } = match made {
         Ok(made) => made,
         Err(stop) => {
