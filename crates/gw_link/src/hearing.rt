@@ -1,4 +1,5 @@
-//! What has come over a link.
+//! What has come over a link. It is heard in the thread of the link's seat, and the shift's lock is
+//! held for calls alone.
 
 ghost use Rattle.std.specs.Prelude.{◌≡◌, ◌++◌, ◌∷◌, [], true, IfOk, OnOk, map};
 ghost use Rattle.std.specs.Arc.{arc_value};

@@ -1,4 +1,5 @@
-//! What goes out over a link.
+//! What goes out over a link. Said is what waits to go out: a link belongs to one seat's thread,
+//! and to say something takes no lock.
 
 ghost use Rattle.std.specs.Prelude.{◌≡◌, IfOk};
 ghost use Rattle.gw_link.specs.Adding.{Adds, is_of_link};

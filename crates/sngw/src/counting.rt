@@ -1,6 +1,7 @@
 //! The numbers of a report, from what is counted and gathered.
 //!
-//! They are counted apart: if memory runs out, the report keeps those of the last time.
+//! They are counted apart: if memory runs out, the report keeps those of the last time. The
+//! watcher's thread counts them, and takes no lock for that.
 
 use crate::board::{Board, Number};
 use crate::gathering::{Gathered, KnownLink, is_at, no_link};

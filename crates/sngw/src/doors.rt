@@ -1,4 +1,7 @@
 //! How links are made: peers are dialled, others are accepted.
+//!
+//! Each door has a thread, from the begin of the program to its end. It takes the pool's lock to
+//! put a link there, and none while it dials or waits.
 
 use crate::board::{Number, Shared};
 use crate::program::Program;

@@ -1,4 +1,5 @@
-//! What is remembered of the gateway from one second to the next, for what is reported of it.
+//! What is remembered of the gateway from one second to the next, for what is reported of it. Only
+//! the watcher's thread has it.
 
 use crate::board::{Field, Number, Shared};
 use crate::counting::{no_numbers, renew_numbers};

@@ -1,4 +1,8 @@
 //! Shifts one after the other.
+//!
+//! All of it runs in the program's first thread, that of shifts, but for what `keep_and_show`
+//! begins: the threads of the doors and of the watcher. No lock is held over a shift, or while the
+//! gateway is tended.
 
 use crate::admission::Admission;
 use crate::board::{Board, Number, Shared};

@@ -1,4 +1,8 @@
 //! The threads of one shift.
+//!
+//! The thread of shifts becomes the reader's, once the others have begun: the clock's, one for each
+//! seat of links, the glance's if anybody watches, and workers (gw_serve). It waits for all of them
+//! before it closes the shift. No function here takes a lock.
 
 ghost use Rattle.std.specs.Prelude.{◌<◌, ◌≤◌};
 ghost use Rattle.gw_shift.specs.declared.shift.TheConstants.{MAX_STEPS};
