@@ -13,12 +13,12 @@ ghost use Rattle.gw_answer.specs.declared.refusal.Refusal.TheVariants as refusal
 ghost use Rattle.gw_link.specs.declared.calling.End.TheVariants.{Memory};
 
 use crate::stage::Stage;
+use crate::work::Work;
 use gw_shift::gw_node::{Answer, NodeFault, Step};
-use gw_shift::{CallFault, Pass, Shift};
+use gw_shift::{CallFault, Pass};
 use jr_disk::Disk;
 use octets::NoMemory;
 use rep_model::Replica;
-use std::alloc::Global;
 use std::fmt;
 use std::sync::{Arc, Wait};
 use thiserror::Error;
@@ -64,28 +64,25 @@ impl From<NoMemory> for End {
     }
 }
 
-/// Makes a call, once it is claimed. Says what the gateway answered, or why the call did not reach
-/// it.
+/// Makes a call, once it is claimed, under the shift's lock. Says what the gateway answered, or why
+/// the call did not reach it. Runs in any thread that has a pass.
 #[tactic(auto, using(crate::proofs::Adding::adds_none))]
 pub fn call<T: Wait, R: Replica, D: Disk + Drop>(
-    rt: &T,
-    alloc: Global,
-    shift: &Shift<R, D>,
+    work: &Work<'_, T, R, D>,
     pass: Pass,
     step: Arc<Step>,
-    stage: &Stage,
 ) -> (Pass, Result<Answer, End>)
     ensures made { IfOk result.1 (λ answer. (number : ℕ) × Made pass (arc_value step) (said answer)
         number result.0) }
     ensures none { IfErr result.1 (λ end. CannotCall end × (result.0 ≡ pass)) }
     ensures adds { (is : AnyStep → Bool) → is (arc_value step) ≡ true → Adds is pass result.0 }
 {
-    if !stage.claim() {
+    if !work.stage.claim() {
         return (pass, Err(End::Full));
     }
-    match shift.call(rt, alloc, pass, step) {
+    match work.shift.call(work.rt, work.alloc, pass, step) {
         Ok((pass, out, number)) => {
-            stage.note_made(number);
+            work.stage.note_made(number);
             (pass, Ok(Ok(out)))
         }
         Err((pass, fault)) => match reached(fault) {
@@ -95,17 +92,14 @@ pub fn call<T: Wait, R: Replica, D: Disk + Drop>(
     }
 }
 
-/// Makes calls in a row, with one sync, each of which is claimed. Says what the gateway answered to
-/// the first of them, one at least: the others are for another row. Or says why none of them reached
-/// it.
+/// Makes calls in a row, with one sync, each of which is claimed, under the shift's lock. Says what
+/// the gateway answered to the first of them, one at least: the others are for another row. Or says
+/// why none of them reached it. Runs in a link's thread.
 #[tactic(auto, using(crate::proofs::Adding::adds_none, crate::proofs::Adding::adds_row))]
 pub fn call_all<T: Wait, R: Replica, D: Disk + Drop>(
-    rt: &T,
-    alloc: Global,
-    shift: &Shift<R, D>,
+    work: &Work<'_, T, R, D>,
     pass: Pass,
     steps: &[Arc<Step>],
-    stage: &Stage,
 ) -> (Pass, Result<Vec<Answer>, End>)
     ensures made { IfOk result.1 (λ answers. (number : ℕ) × MadeInRow pass
         (map arc_value steps.now) (map said answers.items) number result.0) }
@@ -113,11 +107,15 @@ pub fn call_all<T: Wait, R: Replica, D: Disk + Drop>(
     ensures adds { (is : AnyStep → Bool) → AllAre is (map arc_value steps.now)
         → Adds is pass result.0 }
 {
+    let stage = work.stage;
     let claimed = claim_all(stage, steps.len());
     if claimed == 0 {
         return (pass, Err(End::Full));
     }
-    match shift.call_all(rt, alloc, pass, &steps[..claimed]) {
+    match work
+        .shift
+        .call_all(work.rt, work.alloc, pass, &steps[..claimed])
+    {
         Ok((pass, answers, number)) => {
             give_back(stage, claimed - answers.len());
             stage.note_made(number.saturating_add(answers.len() as u64 - 1));

@@ -8,6 +8,7 @@
 //! outlives a shift: what came over it and was not heard yet waits for the next one.
 //!
 //! - `stage`: how far a shift is, and how its threads wait (`Stage`, `Phase`).
+//! - `work`: what a thread of a shift works with (`Work`).
 //! - `calling`: a call with a pass that comes back (`call`, `End`), and what a refusal of it means
 //!   (`dropped`, `is_halted`).
 //! - `link`: a link that is open (`Link`, `Origin`).
@@ -34,6 +35,7 @@ mod saying;
 mod stage;
 mod talking;
 mod trouble;
+mod work;
 
 pub use calling::{End, call, dropped, is_halted};
 pub use counts::{LinkCounts, LinkNumbers};
@@ -42,3 +44,4 @@ pub use relay::Relay;
 pub use stage::{Phase, Stage};
 pub use talking::talk;
 pub use trouble::{Report, Trouble};
+pub use work::Work;

@@ -90,8 +90,8 @@ pub(crate) fn is_behind<S: Drop>(link: &Link<S>) -> bool {
 }
 
 /// Lets go out what the stream takes in some writes, fewer at a shift's end. A stream that took
-/// less than it was given has no more room, and is not waited for. Where it took nothing for too
-/// long the link is lost. Where it takes no more the link is mute.
+/// less than it was given has no more room, and is not waited for. If it took nothing for too long
+/// the link is lost. If it takes no more the link is mute. Runs in a seat's thread, without a lock.
 pub(crate) fn pump<S: Write + Drop>(link: &mut Link<S>, phase: Phase) -> Result<(), End> {
     let most = if phase == Phase::Quiet {
         LAST_WRITES

@@ -69,9 +69,10 @@ impl Row {
     }
 }
 
-/// Takes what waits: one datagram, and more of them while the bell allows it.
+/// Takes what waits: one datagram, and more of them while the bell allows it. Runs in a worker's
+/// thread, with the turn.
 pub fn take_row<T: Wait, R: Replica, D: Disk + Drop, P: Post, G: Gate>(
-    shared: &Shared<'_, T, R, D, P, G>,
+    shared: &Shared<'_, '_, T, R, D, P, G>,
     receiver: &Receiver,
     ticket: &mut Ticket,
     row: &mut Row,
@@ -125,10 +126,11 @@ fn step_of(alloc: Global, datagram: Datagram) -> Result<Arc<Step>, NoMemory>
     }
 }
 
-/// Makes the calls of a row, and of what the shift left of it, until all are made or the shift makes
-/// no more.
+/// Makes the calls of a row, and of what the shift left of it, until all are made or the shift
+/// makes no more. Runs in a worker's thread, with the turn; the shift's lock is held for each call
+/// of it.
 pub fn call_row<T: Wait, R: Replica, D: Disk + Drop, P: Post, G: Gate>(
-    shared: &Shared<'_, T, R, D, P, G>,
+    shared: &Shared<'_, '_, T, R, D, P, G>,
     pass: Pass,
     row: &mut Row,
 ) -> (Pass, End)
@@ -178,9 +180,11 @@ fn note_called(called: &mut Vec<Called>, numbers: &[u64], first: u64, answers: V
     requires numbers { first + length answers.items < 2 ^ 64 }
     ensures many { vec_len called.new ≡ vec_len called.old + length answers.items }
     ensures room { vec_capacity called.new ≡ vec_capacity called.old }
-    ensures datagrams { map (λ c. c.taken.datagram) called.new.items ≡ map (λ c. c.taken.datagram) called.old.items
+    ensures datagrams { map (λ c. c.taken.datagram) called.new.items
+        ≡ map (λ c. c.taken.datagram) called.old.items
         ++ take (length answers.items) (drop (vec_len called.old) numbers.now) }
-    ensures steps { map (λ c. c.taken.step) called.new.items ≡ map (λ c. c.taken.step) called.old.items
+    ensures steps { map (λ c. c.taken.step) called.new.items
+        ≡ map (λ c. c.taken.step) called.old.items
         ++ numbers_from first (length answers.items) }
 {
     let mut step = first;
@@ -194,8 +198,9 @@ fn note_called(called: &mut Vec<Called>, numbers: &[u64], first: u64, answers: V
     }
 }
 
-/// Sends the replies of a row's calls, datagram by datagram in their order, and notes them as taken.
-/// Says whether memory ran out at the gateway.
+/// Sends the replies of a row's calls, datagram by datagram in their order, and notes them as
+/// taken. Says whether memory ran out at the gateway. Runs in a worker's thread, without a lock or
+/// the turn.
 pub fn tell_all<P: Post, G: Gate>(
     post: &P,
     gate: &G,

@@ -19,6 +19,17 @@ pub struct Arrival {
     pub moment: u64,
 }
 
+/// What a receive brought.
+#[derive(Clone, Copy)]
+pub enum Came {
+    /// A datagram.
+    Datagram(Arrival),
+    /// Nothing came for a while.
+    Nothing,
+    /// No more is to be received: what the wire was for is over.
+    Over,
+}
+
 /// A receive failed.
 #[derive(Clone, Copy, Debug, PartialEq, Eq, Error)]
 #[error("a receive failed")]
@@ -33,7 +44,7 @@ pub struct Unsent;
 pub trait Wire {
     ghost use Rattle.std.specs.Prelude.{◌≡◌, ◌≤◌, ◌+◌, ℕ, length, IfOk, IfSome};
     ghost use Rattle.jr_disk.specs.Disk.{HasCause};
-    ghost use Rattle.gw_wire.specs.Arrivals.{came_in};
+    ghost use Rattle.gw_wire.specs.Arrivals.{arrival_of, came_in};
 
     /// How many receives have failed.
     ghost failures: { Self → ℕ };
@@ -44,10 +55,11 @@ pub trait Wire {
     /// How many datagrams were dropped.
     ghost drops: { Self → ℕ };
 
-    /// The next datagram, in the front of the buffer, or nothing where none came for a while.
-    fn recv(&mut self, buffer: &mut [u8]) -> Result<Option<Arrival>, WireFault>
+    /// Receives the next datagram into the front of the buffer, or nothing if none comes for a
+    /// while. Says if no more is to be received, which is no fault.
+    fn recv(&mut self, buffer: &mut [u8]) -> Result<Came, WireFault>
         ensures cause { HasCause (failures self.old) (failures self.new) result }
-        ensures size { IfOk result (λ came. IfSome came (λ arrival. arrival.size
+        ensures size { IfOk result (λ came. IfSome (arrival_of came) (λ arrival. arrival.size
             ≤ length buffer.new)) }
         ensures came { (arrivals self.new ≡ arrivals self.old + came_in result)
             × (drops self.new ≡ drops self.old) };

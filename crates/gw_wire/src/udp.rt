@@ -5,7 +5,7 @@ ghost use Rattle.gw_wire.specs.Addresses.{IsAddress};
 ghost use Rattle.gw_wire.specs.inner.Addresses as spec;
 
 use super::clock::FieldClock;
-use super::ends::{Arrival, Post, Tally, Unsent, Wire, WireFault};
+use super::ends::{Arrival, Came, Post, Tally, Unsent, Wire, WireFault};
 use jr_disk::Failures;
 use libc::net::{SO_RCVBUF, SO_SNDBUF, SOL_SOCKET, setsockopt};
 use mio::net::UdpSocket;
@@ -31,8 +31,8 @@ const A_REST: u64 = 1;
 const UNREAD_OCTETS: i32 = 8_388_608;
 
 /// How many octets the system is asked to keep of datagrams that have not gone out yet: no thread
-/// waits for a slow network then. It keeps twice as many, some 1,000 small datagrams: more than that
-/// its queues may drop. It keeps less if its own limit (`net.core.wmem_max`) is less.
+/// waits for a slow network then. It keeps twice as many, some 1,000 small datagrams: more than
+/// that its queues may drop. It keeps less if its own limit (`net.core.wmem_max`) is less.
 const UNSENT_OCTETS: i32 = 376_832;
 
 /// How often a datagram is offered to the system while that has no room for it: some tens of
@@ -53,7 +53,7 @@ pub struct Socket {
     pub failures: Failures,
 }
 
-/// The reader's side of a socket.
+/// The reader's side of a socket. One thread has it, and waits in it without a lock.
 #[derive(Drop)]
 pub struct Ears<'a> {
     clock: &'a FieldClock,
@@ -68,7 +68,7 @@ pub struct Ears<'a> {
     pub drops: Tally,
 }
 
-/// The side by which threads send.
+/// The side by which threads send. They share it, and take no lock.
 #[derive(Clone, Copy, Drop)]
 pub struct Mouth<'a> {
     socket: &'a UdpSocket,
@@ -254,14 +254,15 @@ impl<'a> Wire for Ears<'a> {
 
     ghost drops = { λ w. w.drops.count };
 
-    fn recv(&mut self, buffer: &mut [u8]) -> Result<Option<Arrival>, WireFault> {
+    /// A socket is never over.
+    fn recv(&mut self, buffer: &mut [u8]) -> Result<Came, WireFault> {
         match self.wait(buffer) {
-            Ok(None) => Ok(None),
+            Ok(None) => Ok(Came::Nothing),
             Ok(Some((size, from))) => match self.arrived(buffer.len(), size, from) {
-                None => Ok(None),
+                None => Ok(Came::Nothing),
                 Some(arrival) => {
                     self.arrivals = Tally::next(&self.arrivals);
-                    Ok(Some(arrival))
+                    Ok(Came::Datagram(arrival))
                 }
             },
             Err(_) => {

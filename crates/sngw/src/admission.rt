@@ -1,5 +1,5 @@
-//! Which datagrams become calls: those that are frames, but for a CONNECT of a client that is not let
-//! in.
+//! Which datagrams become calls: those that are frames, but for a CONNECT of a client that is not
+//! let in.
 
 ghost use Rattle.std.specs.Prelude.{◌≡◌, ◌≢◌};
 ghost use Rattle.sn_frame.specs.declared.fault.FrameFault.{FrameFault};
@@ -36,7 +36,7 @@ pub enum Verdict {
 }
 
 /// Which client ids have come in. The ids are kept for the life of a field, so neither a sensor
-/// that has another id each day nor a stranger is to use them up.
+/// that has another id each day nor a stranger is to use them up. Only the reader's thread asks it.
 #[derive(Drop)]
 pub struct Admission {
     /// The patterns of the ids that come in: all, where there is none.

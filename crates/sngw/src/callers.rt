@@ -30,7 +30,8 @@ const PIECE: usize = 4_096;
 /// How many octets are written at once.
 const LARGEST_WRITE: usize = 65_536;
 
-/// Somebody who asks the page.
+/// Somebody who asks the page. Only the watcher's thread has callers, and serves them without a
+/// lock.
 #[derive(Drop)]
 pub struct Caller {
     stream: TcpStream,

@@ -1,10 +1,12 @@
 //! The numbers of a report, from what is counted and gathered.
 //!
-//! They are counted apart: if memory runs out, the report keeps those of the last time.
+//! They are counted apart: if memory runs out, the report keeps those of the last time. The
+//! watcher's thread counts them, and takes no lock for that.
 
-use crate::board::{Board, Number, Shared};
+use crate::board::{Board, Number};
 use crate::gathering::{Gathered, KnownLink, is_at, no_link};
 use crate::keeping::length_of;
+use crate::program::Program;
 use gw_link::{LinkCounts, Origin};
 use gw_main::options::Settings;
 use gw_report::{DeltaFault, Glimpse, Label, Link, Numbers, Place, Report, Sample, Seen, Singles};
@@ -59,27 +61,16 @@ pub(crate) fn no_numbers(alloc: Global) -> Numbers {
     }
 }
 
-/// The numbers of now are in the report. If memory runs out, they are those of the last time.
+/// Puts the numbers of now into the report. If memory runs out, they are those of the last time.
+/// Runs in the watcher's thread, and waits for no lock.
 pub(crate) fn renew_numbers<T: Files<File = File>>(
-    rt: &T,
-    alloc: Global,
-    settings: &Settings,
-    shared: &Shared,
+    program: &Program<'_, T>,
     gathered: &Gathered,
     report: &mut Report,
     now: u64,
 ) {
-    let mut numbers = no_numbers(alloc);
-    if count_all(
-        rt,
-        alloc,
-        settings,
-        shared,
-        gathered,
-        report,
-        &mut numbers,
-        now,
-    ) {
+    let mut numbers = no_numbers(program.alloc);
+    if count_all(program, gathered, report, &mut numbers, now) {
         drop(mem::replace(&mut report.numbers, numbers));
     } else {
         drop(numbers);
@@ -88,40 +79,35 @@ pub(crate) fn renew_numbers<T: Files<File = File>>(
 
 /// Counts all numbers. Whether there was memory for them.
 fn count_all<T: Files<File = File>>(
-    rt: &T,
-    alloc: Global,
-    settings: &Settings,
-    shared: &Shared,
+    program: &Program<'_, T>,
     gathered: &Gathered,
     report: &Report,
     numbers: &mut Numbers,
     now: u64,
 ) -> bool {
     let seen = report.clients.as_slice();
-    count_singles(rt, &mut numbers.singles, &shared.board, gathered, now);
-    count_clients(&mut numbers.singles, settings.gateway, seen);
-    count_parts(rt, alloc, settings, shared, gathered, seen, numbers)
-        && count_links(settings, &shared.board, gathered, numbers, now)
+    let board = &program.shared.board;
+    count_singles(program.rt, &mut numbers.singles, board, gathered, now);
+    count_clients(&mut numbers.singles, program.settings.gateway, seen);
+    count_parts(program, gathered, seen, numbers)
+        && count_links(program.settings, board, gathered, numbers, now)
 }
 
 /// The numbers with a label, without those of links. Whether there was memory for them.
 fn count_parts<T: Files<File = File>>(
-    rt: &T,
-    alloc: Global,
-    settings: &Settings,
-    shared: &Shared,
+    program: &Program<'_, T>,
     gathered: &Gathered,
     seen: &[Seen],
     numbers: &mut Numbers,
 ) -> bool {
-    let board = &shared.board;
+    let board = &program.shared.board;
     add_frames(&mut numbers.frames_received, board, true)
         && add_frames(&mut numbers.datagrams_sent, board, false)
         && add_all(&mut numbers.calls, gathered.calls.as_slice())
         && add_compactions(&mut numbers.compactions, board)
         && add_reopenings(&mut numbers.reopenings, board)
         && add_presences(&mut numbers.clients, seen)
-        && add_lengths(rt, alloc, &mut numbers.journal_octets, settings)
+        && add_lengths(program, &mut numbers.journal_octets)
         && add_origins(&mut numbers.messages_known, gathered.known.as_slice())
 }
 
@@ -321,14 +307,12 @@ fn add_origins(all: &mut Sequence<Sample>, known: &[(u8, u64)]) -> bool {
 /// The lengths of both files of the journal; 0 for one of which the system does not tell. Whether
 /// there was memory for them.
 fn add_lengths<T: Files<File = File>>(
-    rt: &T,
-    alloc: Global,
+    program: &Program<'_, T>,
     all: &mut Sequence<Sample>,
-    settings: &Settings,
 ) -> bool {
-    let path = settings.journal.as_str();
-    let first = length_of(rt, alloc, path, 0).unwrap_or(0);
-    let second = length_of(rt, alloc, path, 1).unwrap_or(0);
+    let path = program.settings.journal.as_str();
+    let first = length_of(program.rt, program.alloc, path, 0).unwrap_or(0);
+    let second = length_of(program.rt, program.alloc, path, 1).unwrap_or(0);
     add(all, Label::FirstSlot, first) && add(all, Label::SecondSlot, second)
 }
 

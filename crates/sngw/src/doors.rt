@@ -1,8 +1,11 @@
 //! How links are made: peers are dialled, others are accepted.
+//!
+//! Each door has a thread, from the begin of the program to its end. It takes the pool's lock to
+//! put a link there, and none while it dials or waits.
 
 use crate::board::{Number, Shared};
-use crate::lines::Said;
-use gw_link::{Link, Origin, Phase, Report, Stage, Trouble};
+use crate::program::Program;
+use gw_link::{Link, Origin, Phase, Report, Trouble};
 use gw_main::options::Settings;
 use gw_relay::next_pause;
 use gw_run::{MOST_ACCEPTED, Pool};
@@ -66,15 +69,7 @@ pub(crate) fn doors_of(alloc: Global, settings: &Settings) -> Option<Vec<Door>> 
 }
 
 /// Keeps the doors open until the program's work is over, each in a thread of its own.
-pub(crate) fn keep_all<T>(
-    rt: &T,
-    alloc: Global,
-    doors: &mut [Door],
-    listener: &TcpListener,
-    shared: &Shared,
-    over: &Stage,
-    said: Said<'_>,
-)
+pub(crate) fn keep_all<T>(program: &Program<'_, T>, doors: &mut [Door], listener: &TcpListener)
 where
     T: Threads + Wait + Sync + Clock + Print + Eprint,
     T: Net<Listener = TcpListener, Stream = TcpStream>,
@@ -83,33 +78,35 @@ where
     if count > 0 {
         let at = |_place: usize, door: &mut Door| {
             match door.origin {
-                Origin::Accepted => accept_all(rt, alloc, listener, shared, over, said),
-                Origin::Dialled(_) => dial_all(rt, alloc, *door, shared, over),
+                Origin::Accepted => accept_all(program, listener),
+                Origin::Dialled(_) => dial_all(program, *door),
             }
         };
-        thread::for_each_mut(rt, doors, count, &at);
+        thread::for_each_mut(program.rt, doors, count, &at);
     }
 }
 
-/// Dials a peer wherever no link to it is open: at once where the last one worked, and with growing
-/// pauses where it takes the call and does not say its number.
-fn dial_all<T>(rt: &T, alloc: Global, door: Door, shared: &Shared, over: &Stage)
-where
-    T: Wait + Clock + Net<Listener = TcpListener, Stream = TcpStream>,
-{
+/// Dials a peer whenever no link to it is open: at once if the last one worked, and with growing
+/// pauses if it takes the call and does not say its number. Runs in the peer's door's thread, and
+/// holds no lock while it dials.
+fn dial_all<T: Wait + Clock + Net<Listener = TcpListener, Stream = TcpStream>>(
+    program: &Program<'_, T>,
+    door: Door,
+) {
     let mut dials = Dials {
         pause: 0,
         left: 0,
         has_called: false,
     };
+    let rt = program.rt;
     for _ in rt.forever() {
-        if over.phase(rt) != Phase::Serving {
+        if program.over.phase(rt) != Phase::Serving {
             return;
         }
-        if shared.pool.may_open(rt, door.origin) {
-            dial_in_turn(rt, alloc, door, shared, &mut dials);
+        if program.shared.pool.may_open(rt, door.origin) {
+            dial_in_turn(program, door, &mut dials);
         }
-        over.wait(rt, Phase::Serving, A_PAUSE);
+        program.over.wait(rt, Phase::Serving, A_PAUSE);
     }
     unreachable!()
 }
@@ -126,29 +123,33 @@ struct Dials {
 }
 
 /// Dials a peer to which no link is open, unless it is to be left alone for some seconds more.
-fn dial_in_turn<T>(rt: &T, alloc: Global, door: Door, shared: &Shared, dials: &mut Dials)
-where
-    T: Wait + Clock + Net<Listener = TcpListener, Stream = TcpStream>,
-{
+fn dial_in_turn<T: Wait + Clock + Net<Listener = TcpListener, Stream = TcpStream>>(
+    program: &Program<'_, T>,
+    door: Door,
+    dials: &mut Dials,
+) {
+    let pool = &program.shared.pool;
     if dials.has_called {
-        dials.pause = next_pause(dials.pause, shared.pool.has_spoken(rt, door.origin));
+        dials.pause = next_pause(dials.pause, pool.has_spoken(program.rt, door.origin));
         dials.left = dials.pause;
         dials.has_called = false;
     }
     if dials.left == 0 {
-        dials.has_called = dial(rt, alloc, door, &shared.pool);
+        dials.has_called = dial(program.rt, program.alloc, door, pool);
         if !dials.has_called {
-            note_no_dial(shared, door.origin);
+            note_no_dial(program.shared, door.origin);
         }
     }
     dials.left = dials.left.saturating_sub(1);
 }
 
 /// Dials a peer. Whether it took the call.
-fn dial<T>(rt: &T, alloc: Global, door: Door, pool: &Pool<TcpStream>) -> bool
-where
-    T: Wait + Clock + Net<Listener = TcpListener, Stream = TcpStream>,
-{
+fn dial<T: Wait + Clock + Net<Listener = TcpListener, Stream = TcpStream>>(
+    rt: &T,
+    alloc: Global,
+    door: Door,
+    pool: &Pool<TcpStream>,
+) -> bool {
     let found = TcpStream::connect_timeout(rt, &address(door.at), Duration::from_millis(A_DIAL));
     match found {
         Ok(stream) => {
@@ -166,25 +167,20 @@ fn note_no_dial(shared: &Shared, origin: Origin) {
     }
 }
 
-/// Accepts those who dial, as many as may be, and tells the troubles, unless the watcher does.
-fn accept_all<T: Wait + Clock + Print + Eprint>(
-    rt: &T,
-    alloc: Global,
-    listener: &TcpListener,
-    shared: &Shared,
-    over: &Stage,
-    said: Said<'_>,
-) {
+/// Accepts those who dial, as many as may be, and tells the troubles, unless the watcher does. Runs
+/// in the thread of the door for all who dial.
+fn accept_all<T: Wait + Clock + Print + Eprint>(program: &Program<'_, T>, listener: &TcpListener) {
+    let rt = program.rt;
     for _ in rt.forever() {
-        if over.phase(rt) != Phase::Serving {
+        if program.over.phase(rt) != Phase::Serving {
             return;
         }
-        if shared.board.get(Number::Watcher) == 0 {
-            tell_all(rt, alloc, &shared.pool, said);
+        if program.shared.board.get(Number::Watcher) == 0 {
+            tell_all(program);
         }
         match listener.accept() {
-            Ok((stream, _)) => accept(rt, alloc, stream, shared),
-            Err(_) => over.wait(rt, Phase::Serving, A_LOOK),
+            Ok((stream, _)) => accept(rt, program.alloc, stream, program.shared),
+            Err(_) => program.over.wait(rt, Phase::Serving, A_LOOK),
         }
     }
     unreachable!()
@@ -218,17 +214,17 @@ fn open<T: Wait>(rt: &T, alloc: Global, stream: TcpStream, origin: Origin, pool:
 
 /// Tells the troubles that are to be told, each in a line of standard error: that nothing can be
 /// sent, and those of links.
-fn tell_all<T>(rt: &T, alloc: Global, pool: &Pool<TcpStream>, said: Said<'_>)
-where
-    T: Wait + Clock + Print + Eprint,
-{
+fn tell_all<T: Wait + Clock + Print + Eprint>(program: &Program<'_, T>) {
+    let rt = program.rt;
+    let pool = &program.shared.pool;
+    let err = program.said.err;
     if pool.outage.is_to_tell(rt) {
-        said.err.say(rt, outage_line(alloc));
+        err.say(rt, outage_line(program.alloc));
     }
     for _ in 0..MOST_LINES {
         match pool.relay.report(rt, second(rt)) {
             None => return,
-            Some(report) => said.err.say(rt, trouble_line(alloc, report)),
+            Some(report) => err.say(rt, trouble_line(program.alloc, report)),
         }
     }
 }

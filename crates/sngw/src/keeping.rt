@@ -5,7 +5,7 @@ use gw_main::{Tended, base_of, is_grown, next_wait};
 use std::alloc::Global;
 use std::fs::{File, Files, metadata};
 
-/// What is known of a journal between shifts.
+/// What is known of a journal between shifts. Only the thread of shifts has it.
 #[derive(Drop)]
 pub struct Keeper<'a> {
     /// The path of the journal.

@@ -15,6 +15,7 @@ const LARGEST: usize = 65_536;
 const MOST_DROPPED: u32 = 65_536;
 
 /// Where datagrams come from: the socket, and before it the one that came too late for its shift.
+/// The thread of shifts has it, which is the reader's in a shift.
 #[derive(Drop)]
 pub struct Inlet {
     /// The socket.
@@ -55,6 +56,8 @@ fn count_dropped(board: &Board, bytes: &[u8], size: usize) {
 pub struct Late {
     arrival: Option<Arrival>,
     bytes: Vec<u8>,
+    /// Whether a call of the shift is claimed for it.
+    is_claimed: bool,
 }
 
 impl Late {
@@ -64,6 +67,7 @@ impl Late {
             Ok(bytes) => Some(Late {
                 arrival: None,
                 bytes,
+                is_claimed: false,
             }),
             Err(_) => None,
         }
@@ -74,7 +78,19 @@ impl Late {
         self.arrival.is_some()
     }
 
-    /// Where none came late, one that is there already counts as such: a shift begins with it.
+    /// Notes whether a call of the shift is claimed for it.
+    pub(crate) fn note_claim(&mut self, is_claimed: bool) {
+        self.is_claimed = is_claimed;
+    }
+
+    /// Whether a call of the shift is claimed for it. From now on none is.
+    pub(crate) fn take_claim(&mut self) -> bool {
+        let is_claimed = self.is_claimed;
+        self.is_claimed = false;
+        is_claimed
+    }
+
+    /// If none came late, takes one that is there already: a shift begins with it.
     pub(crate) fn look(&mut self, ears: &Ears<'_>) {
         if self.arrival.is_none() {
             self.arrival = ears.waiting(self.bytes.as_mut_slice());

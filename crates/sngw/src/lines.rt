@@ -48,7 +48,8 @@ struct Waiting {
     is_done: bool,
 }
 
-/// The lines of an output that wait to be printed.
+/// The lines of an output that wait to be printed. Any thread puts them there, under their lock,
+/// and one prints them, without it.
 #[derive(Drop)]
 pub(crate) struct Lines {
     output: Output,
@@ -94,7 +95,7 @@ impl Lines {
         let _ = self.put(rt, text.map(Line::Text), MOST_WAITING);
     }
 
-    /// The same. Whether the line was not left out.
+    /// Has a line printed, unless too many wait. Whether it was not left out.
     pub(crate) fn try_say<T: Wait + Print + Eprint>(&self, rt: &T, text: Option<String>) -> bool {
         self.put(rt, text.map(Line::Text), MOST_WAITING)
     }
@@ -143,7 +144,8 @@ impl Lines {
         drop(line);
     }
 
-    /// Prints each line, until no more come.
+    /// Prints each line, until no more come. Runs in a thread of its own; the lock is held to take
+    /// a line, and not to print it.
     pub(crate) fn print_all<T: Wait + Print + Eprint>(&self, rt: &T) {
         for _ in rt.forever() {
             let Some(line) = self.next(rt) else {

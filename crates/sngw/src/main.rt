@@ -14,6 +14,7 @@
 //! - `reading`: the settings file.
 //! - `ignored`: keys of it that mean nothing where they stand.
 //! - `stop`: why the program ends early (`Stop`).
+//! - `program`: what the threads of the program have from its begin to its end.
 //! - `running`: shifts one after the other.
 //! - `lines`: lines that are printed beside the work.
 //! - `dates`: the date of the machine, by which moments go.
@@ -44,6 +45,7 @@ mod keeping;
 mod late;
 mod lines;
 mod posting;
+mod program;
 mod reading;
 mod running;
 mod stop;
@@ -54,6 +56,7 @@ mod working;
 
 use crate::dates::hold_lifetime;
 use crate::lines::{Lines, Output, Said};
+use crate::program::Task;
 use crate::reading::settings_at;
 use crate::running::run;
 use crate::stop::Stop;
@@ -113,10 +116,11 @@ fn outputs(alloc: Global) -> Option<(Arc<Lines>, Arc<Lines>)> {
 }
 
 /// The program's status. What was said is printed before, if anybody reads it.
-fn end<T>(rt: &T, said: Said<'_>, started: Result<(), Stop>) -> ExitCode
-where
-    T: Wait + Clock + Print + Eprint,
-{
+fn end<T: Wait + Clock + Print + Eprint>(
+    rt: &T,
+    said: Said<'_>,
+    started: Result<(), Stop>,
+) -> ExitCode {
     let status = match started {
         Ok(()) => ExitCode::SUCCESS,
         Err(stop) => {
@@ -224,7 +228,17 @@ where
         Ok(disk) => {
             let today = date(rt);
             match opened_on(alloc, settings, disk, today, out, err) {
-                Some(node) => work(rt, alloc, settings, node, shifts, today, said),
+                Some(node) => {
+                    let task = Task {
+                        rt,
+                        alloc,
+                        settings: &*settings,
+                        shifts,
+                        today,
+                        said,
+                    };
+                    work(&task, node)
+                }
                 None => Err(Stop::Opening),
             }
         }
@@ -259,26 +273,18 @@ fn opened<O: Write, E: Write>(
     begin::<Folded, FileDisk, O, E>(alloc, settings, disk, out, err).ok()
 }
 
-/// Works so many shifts of a gateway, which was opened at this date.
-fn work<T>(
-    rt: &T,
-    alloc: Global,
-    settings: &Settings,
-    node: Node<Folded, FileDisk>,
-    shifts: u64,
-    today: u64,
-    said: Said<'_>,
-) -> Result<(), Stop>
+/// Works the shifts of a task with a gateway.
+fn work<T>(task: &Task<'_, T>, node: Node<Folded, FileDisk>) -> Result<(), Stop>
 where
     T: Files<File = File> + Print + Eprint + Threads + Wait + Sync + Clock,
     T: Net<Listener = TcpListener, Stream = TcpStream>,
     T::Dir: Send,
 {
-    if shifts == 0 {
+    if task.shifts == 0 {
         drop(node);
         return Ok(());
     }
-    run(rt, alloc, settings, node, shifts, today, said)
+    run(task, node)
 }
 
 /// The words of the command line. `None` if memory ran out.

@@ -14,8 +14,8 @@ use std::sync::{Mutex, Wait};
 /// How many groups of addresses are counted apart.
 const GROUPS: usize = 4_096;
 
-/// How many octets the history keeps of a datagram beside its own: of the answer that has it, and of
-/// what the gateway made for it.
+/// How many octets the history keeps of a datagram beside its own: of the answer that has it, and
+/// of what the gateway made for it.
 const A_SEND: usize = 256;
 
 /// How many seconds are counted together.
@@ -121,7 +121,8 @@ fn is_try(bytes: &[u8]) -> bool
     kind == 0x0A || kind == 0x0C || kind == 0x10
 }
 
-/// The post of a shift.
+/// The post of a shift. Workers and the clock's thread share it. They send without a lock: that of
+/// the fence is held to count a DISCONNECT.
 #[derive(Drop)]
 pub struct Outlet<'a, T: Wait, P: Post> {
     rt: &'a T,

@@ -6,7 +6,7 @@ use crate::refusals::said::{Said, Stop};
 use crate::refusals::shifts::{Shared, begun};
 use gw_serve::{Cause, ServeFault, Served, serve};
 use gw_shift::{Pass, Shift};
-use gw_wire::{Arrival, OpenGate, Post, Tally, Unsent, Wire, WireFault};
+use gw_wire::{Arrival, Came, OpenGate, Post, Tally, Unsent, Wire, WireFault};
 use jr_journal::{Disk, Failures};
 use rep_model::Replica;
 use rep_state::Folded;
@@ -42,17 +42,17 @@ impl Wire for Brief {
 
     ghost drops = { λ wire. wire.drops.count };
 
-    fn recv(&mut self, buffer: &mut [u8]) -> Result<Option<Arrival>, WireFault> {
+    fn recv(&mut self, buffer: &mut [u8]) -> Result<Came, WireFault> {
         if !self.is_left {
             thread::yield_now();
-            return Ok(None);
+            return Ok(Came::Nothing);
         }
         self.is_left = false;
         match arrived(b"\x03\x01\x00", buffer) {
-            None => Ok(None),
+            None => Ok(Came::Nothing),
             Some(arrival) => {
                 self.arrivals = Tally::next(&self.arrivals);
-                Ok(Some(arrival))
+                Ok(Came::Datagram(arrival))
             }
         }
     }

@@ -8,7 +8,7 @@ use crate::wires::pipe::{Pipe, Place};
 use crate::wires::printing::{print_answer, print_over};
 use crate::wires::serving::{Gateway, close, node_of, shift_of};
 use crate::words::Words;
-use gw_link::{End, Link, Origin, Phase, Relay, Stage, call, talk};
+use gw_link::{End, Link, Origin, Phase, Relay, Stage, Work, call, talk};
 use gw_node::{Answer, Node, Step};
 use gw_run::{Pool, Seat, sit};
 use gw_shift::{Pass, Shift};
@@ -463,7 +463,13 @@ fn ask_step<T: Wait, R: Replica>(
     let pass = &mut opened.pass;
     match &opened.shift {
         Some(shift) => {
-            let answered = call_by(rt, page.alloc(), shift, pass, step, stage);
+            let work = Work {
+                rt,
+                alloc: page.alloc(),
+                shift,
+                stage,
+            };
+            let answered = call_by(&work, pass, step);
             print_asked(page, opened.number, &answered);
             drop(answered);
         }
@@ -476,16 +482,13 @@ fn ask_step<T: Wait, R: Replica>(
 
 /// A pass makes a call, and stays where it is.
 fn call_by<T: Wait, R: Replica>(
-    rt: &T,
-    alloc: Global,
-    shift: &Shift<R, MemoryDisk>,
+    work: &Work<'_, T, R, MemoryDisk>,
     kept: &mut Option<Pass>,
     step: Arc<Step>,
-    stage: &Stage,
 ) -> Result<Answer, End> {
     match kept.take() {
         Some(pass) => {
-            let (pass, answered) = call(rt, alloc, shift, pass, step, stage);
+            let (pass, answered) = call(work, pass, step);
             put_pass(kept, pass);
             answered
         }
@@ -599,7 +602,15 @@ fn talk_with<T: Wait + Clock, R: Replica, S: Read + Write + Drop>(
     let number = opened.number;
     let seat = &mut opened.seat;
     match &opened.shift {
-        Some(shift) => talk_by(rt, alloc, shift, seat, link, number, piece, stage, relay),
+        Some(shift) => {
+            let work = Work {
+                rt,
+                alloc,
+                shift,
+                stage,
+            };
+            talk_by(&work, seat, link, number, piece, relay)
+        }
         // A gateway without a shift had no memory for it.
         None => End::Memory,
     }
@@ -607,19 +618,16 @@ fn talk_with<T: Wait + Clock, R: Replica, S: Read + Write + Drop>(
 
 /// The same by the pass of this seat, which sits down again.
 fn talk_by<T: Wait + Clock, R: Replica, S: Read + Write + Drop>(
-    rt: &T,
-    alloc: Global,
-    shift: &Shift<R, MemoryDisk>,
+    work: &Work<'_, T, R, MemoryDisk>,
     seat: &mut Option<Pass>,
     link: &mut Link<S>,
     number: u8,
     piece: &mut [u8],
-    stage: &Stage,
     relay: &Relay,
 ) -> End {
     match seat.take() {
         Some(pass) => {
-            let (pass, end) = talk(rt, alloc, shift, pass, link, number, piece, stage, relay);
+            let (pass, end) = talk(work, pass, link, number, piece, relay);
             put_pass(seat, pass);
             end
         }
@@ -793,7 +801,13 @@ fn serve_seat<T: Wait + Clock, R: Replica, S: Read + Write + Drop>(
     match &opened.shift {
         Some(shift) => {
             stage.go_to(rt, Phase::Serving);
-            sit_by(rt, alloc, shift, seat, pool, number, stage)
+            let work = Work {
+                rt,
+                alloc,
+                shift,
+                stage,
+            };
+            sit_by(&work, seat, pool, number)
         }
         // A gateway without a shift had no memory for it.
         None => End::Memory,
@@ -802,18 +816,15 @@ fn serve_seat<T: Wait + Clock, R: Replica, S: Read + Write + Drop>(
 
 /// Serves a seat by its pass, which sits down again. Says why its link stopped.
 fn sit_by<T: Wait + Clock, R: Replica, S: Read + Write + Drop>(
-    rt: &T,
-    alloc: Global,
-    shift: &Shift<R, MemoryDisk>,
+    work: &Work<'_, T, R, MemoryDisk>,
     seat: &mut Option<Pass>,
     pool: &Pool<S>,
     number: u8,
-    stage: &Stage,
 ) -> End {
     match seat.take() {
         Some(pass) => {
             let given = Seat { pass, end: None };
-            let sat = sit(rt, alloc, shift, given, pool, number, stage);
+            let sat = sit(work, given, pool, number);
             put_pass(seat, sat.pass);
             sat.end.unwrap_or(End::Full)
         }

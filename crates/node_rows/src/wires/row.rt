@@ -147,7 +147,8 @@ fn play_plan(page: &mut Page, plan: &mut Plan, first: &str, words: &mut Words) {
 fn play_happening(page: &mut Page, plan: &mut Plan, first: &str, words: &mut Words) {
     match first {
         "datagram" => add_datagram(page, &mut plan.coming, words),
-        "failure" => add_failure(page, &mut plan.coming, words),
+        "failure" => add_end(page, &mut plan.coming, words, Coming::Failure),
+        "over" => add_end(page, &mut plan.coming, words, Coming::Over),
         first => add_deed(page, &mut plan.deeds, first, words),
     }
 }
@@ -207,11 +208,13 @@ fn add_datagram(page: &mut Page, coming: &mut Vec<Coming>, words: &mut Words) {
     }
 }
 
-/// `failure`.
-fn add_failure(page: &mut Page, coming: &mut Vec<Coming>, words: &mut Words) {
+/// `failure`, `over`: this comes.
+fn add_end(page: &mut Page, coming: &mut Vec<Coming>, words: &mut Words, end: Coming) {
     if words.end(page) {
-        let is_short = coming.push(Coming::Failure).is_err();
+        let is_short = coming.push(end).is_err();
         page.stop_if_short(is_short);
+    } else {
+        drop(end);
     }
 }
 
