@@ -153,7 +153,14 @@ fn append_refused<R: Replica>(
     };
     let mut calm = Vec::new(alloc);
     let done = match append_calm(alloc, &mut calm, run.events, at, last.gateway(), first) {
-        Ok(()) => append_last::<R>(alloc, refused, run.field, calm.as_slice(), run.played, place),
+        Ok(()) => append_last::<R>(
+            alloc,
+            refused,
+            run.field,
+            calm.as_slice(),
+            run.played,
+            place,
+        ),
         Err(fault) => Err(fault),
     };
     drop(calm);
