@@ -21,6 +21,19 @@ use sn_topic::MAX_TOPIC;
 use std::alloc::Global;
 use std::mem;
 
+/// A publication of the broker.
+#[derive(Clone, Copy)]
+pub(crate) struct Message<'a> {
+    /// Its packet id; 0 if it wants no acknowledgement.
+    pub(crate) id: u16,
+    /// Whether the broker has kept it.
+    pub(crate) retain: bool,
+    /// Its topic.
+    pub(crate) topic: &'a Octets,
+    /// The message.
+    pub(crate) body: &'a Octets,
+}
+
 /// A frame to the gateway of the lane for commands.
 fn says(frame: Frame, bridge: &mut Bridge) -> Result<(), NoMemory>
     ensures { OnOk result (bridge.new ≡ spec.says_down frame bridge.old.down bridge.old) }
@@ -100,22 +113,21 @@ fn obstacle(command: &Command) -> Option<Why>
     }
 }
 
-/// A command waits for its turn.
+/// A command waits for its turn, under a topic of the field.
 fn queued(
     alloc: Global,
-    id: u16,
-    from: &Octets,
+    message: Message<'_>,
     topic: &[u8],
-    body: &Octets,
     bridge: &mut Bridge,
 ) -> Result<(), NoMemory>
-    ensures { OnOk result (bridge.new ≡ spec.queued id from.now topic.now body.now bridge.old) }
+    ensures { OnOk result (bridge.new ≡ spec.queued message.entry.id message.entry.topic.now
+        topic.now message.entry.body.now bridge.old) }
 {
     let command = Command {
-        id,
-        from: from.copied(alloc)?,
+        id: message.id,
+        from: message.topic.copied(alloc)?,
         topic: Octets::from_slice(alloc, topic)?,
-        body: body.copied(alloc)?,
+        body: message.body.copied(alloc)?,
     };
     bridge.down.queue.push(command)?;
     Ok(())
@@ -137,23 +149,20 @@ fn told(id: u16, bridge: &mut Bridge) -> Result<(), NoMemory>
 fn asked(
     alloc: Global,
     entry: Option<&DownFilter>,
-    id: u16,
-    retain: bool,
-    topic: &Octets,
-    body: &Octets,
+    message: Message<'_>,
     bridge: &mut Bridge,
 ) -> Result<(), NoMemory>
-    ensures { OnOk result (bridge.new ≡ spec.asked (option_copied entry.entry) id retain topic.now
-        body.now bridge.old) }
+    ensures { OnOk result (bridge.new ≡ spec.asked (option_copied entry.entry) message.entry.id
+        message.entry.retain message.entry.topic.now message.entry.body.now bridge.old) }
 {
     let Some(entry) = entry else {
-        return queued(alloc, id, topic, &[], body, bridge);
+        return queued(alloc, message, &[], bridge);
     };
-    if retain && !entry.retained {
-        return told(id, bridge);
+    if message.retain && !entry.retained {
+        return told(message.id, bridge);
     }
-    let rest = stripped(entry.strip.as_slice(), topic.as_slice());
-    queued(alloc, id, topic, rest, body, bridge)
+    let rest = stripped(entry.strip.as_slice(), message.topic.as_slice());
+    queued(alloc, message, rest, bridge)
 }
 
 /// Whether a packet id waits.
@@ -196,24 +205,21 @@ fn passes_over(id: u16, bridge: &mut Bridge)
 pub(crate) fn commanded(
     alloc: Global,
     downs: &[DownFilter],
-    id: u16,
-    retain: bool,
-    topic: &Octets,
-    body: &Octets,
+    message: Message<'_>,
     bridge: &mut Bridge,
 ) -> Result<(), NoMemory>
-    ensures { OnOk result (bridge.new ≡ spec.commanded downs.now id retain topic.now body.now
-        bridge.old) }
+    ensures { OnOk result (bridge.new ≡ spec.commanded downs.now message.entry.id
+        message.entry.retain message.entry.topic.now message.entry.body.now bridge.old) }
 {
-    if is_queued(id, bridge.down.queue.as_slice()) {
+    if is_queued(message.id, bridge.down.queue.as_slice()) {
         return Ok(());
     }
     if is_full(&bridge.down) {
-        passes_over(id, bridge);
+        passes_over(message.id, bridge);
         return Ok(());
     }
-    let entry = filter_for(topic.as_slice(), downs);
-    asked(alloc, entry, id, retain, topic, body, bridge)
+    let entry = filter_for(message.topic.as_slice(), downs);
+    asked(alloc, entry, message, bridge)
 }
 
 /// The topic id of a topic.

@@ -2,16 +2,17 @@
 
 ghost use Rattle.std.specs.Prelude.{◌≡◌, ◌<◌, length, IfOk, OnOk};
 ghost use Rattle.br_core.specs.Begins as begins_spec;
+ghost use Rattle.br_core.specs.Commands as commands_spec;
 ghost use Rattle.br_core.specs.Lanes as lanes_spec;
 ghost use Rattle.br_core.specs.Steps as spec;
 ghost use Rattle.br_core.specs.inner.Works.{worked};
 ghost use Rattle.br_core.specs.declared.state.TheConstants.{LAST_NUMBER};
 
 use crate::action::Action;
-use crate::commands::{begins, commanded, down_frame, down_tick, kept};
+use crate::commands::{Message, begins, commanded, down_frame, down_tick, kept};
 use crate::event::Event;
 use crate::item::Item;
-use crate::lanes::{answers, falls_asleep, keeps, lane_frame, lane_tick, wakes};
+use crate::lanes::{Scene, answers, falls_asleep, keeps, lane_frame, lane_tick, wakes};
 use crate::queue::Queue;
 use crate::settings::{DownFilter, LaneSettings, Settings};
 use crate::sides::{acknowledged, all_again, does, free_id, is_up, next_id, sends, takes};
@@ -83,7 +84,13 @@ fn frame_at(
         return Ok(());
     };
     let lane = lane.copied(alloc)?;
-    lane_frame(alloc, settings, place, m, frame, own, lane, bridge)
+    let scene = Scene {
+        alloc,
+        own,
+        place,
+        m,
+    };
+    lane_frame(settings, scene, frame, lane, bridge)
 }
 
 /// What a lane does without a frame of its gateway.
@@ -114,9 +121,25 @@ fn works(
     ensures { OnOk result (bridge.new ≡ worked work place own.now lane bridge.old) }
 {
     match work {
-        Work::Tick { m } => lane_tick(alloc, place, m, own, lane, bridge),
+        Work::Tick { m } => {
+            let scene = Scene {
+                alloc,
+                own,
+                place,
+                m,
+            };
+            lane_tick(scene, lane, bridge)
+        }
         Work::Sleep => falls_asleep(place, lane, bridge),
-        Work::Wake { m } => wakes(alloc, place, m, own, lane, bridge),
+        Work::Wake { m } => {
+            let scene = Scene {
+                alloc,
+                own,
+                place,
+                m,
+            };
+            wakes(scene, lane, bridge)
+        }
         Work::Answer { number } => answers(alloc, number, place, lane, bridge),
         Work::Keep { below } => keeps(alloc, below, place, lane, bridge),
     }
@@ -370,18 +393,15 @@ fn id_in(delivery: Delivery) -> u16
 fn publication(
     alloc: Global,
     settings: &Settings,
-    delivery: Delivery,
-    retain: bool,
-    topic: &Octets,
-    body: &Octets,
+    message: Message<'_>,
     m: Moment,
     bridge: &mut Bridge,
 ) -> Result<(), NoMemory>
-    ensures { OnOk result (bridge.new ≡ spec.publication settings.now delivery retain topic.now
-        body.now m bridge.old) }
+    ensures { OnOk result (bridge.new ≡ commands_spec.begins m (commands_spec.commanded
+        settings.now.downs message.entry.id message.entry.retain message.entry.topic.now
+        message.entry.body.now bridge.old)) }
 {
-    let downs = settings.downs.as_slice();
-    commanded(alloc, downs, id_in(delivery), retain, topic, body, bridge)?;
+    commanded(alloc, settings.downs.as_slice(), message, bridge)?;
     begins(alloc, m, bridge)
 }
 
@@ -402,7 +422,15 @@ fn up_packet(
             retain,
             topic,
             body,
-        } => publication(alloc, settings, *delivery, *retain, topic, body, m, bridge),
+        } => {
+            let message = Message {
+                id: id_in(*delivery),
+                retain: *retain,
+                topic,
+                body,
+            };
+            publication(alloc, settings, message, m, bridge)
+        }
         _ => Ok(()),
     }
 }

@@ -54,6 +54,8 @@ enum Act {
 /// A gateway in its shift.
 #[derive(Drop)]
 struct OpenShift<R: Replica> {
+    /// The memory.
+    alloc: Global,
     /// The number of the gateway.
     number: u8,
     /// The shift. There is none if memory ran out.
@@ -209,6 +211,7 @@ fn add_side<'a, R: Replica, S: Drop>(page: &mut Page, sides: &mut Vec<Side<'a, R
 fn side_with<'a, R: Replica, S: Drop>(alloc: Global, number: u8, pool: Pool<S>) -> Side<'a, R, S> {
     Side {
         open: OpenShift {
+            alloc,
             number,
             shift: None,
             pass: None,
@@ -541,7 +544,7 @@ fn talk_once<'a, T: Wait + Clock, R: Replica, S: Read + Write + Drop>(
     tie: &mut Tie<'a, S>,
     phase: Phase,
 ) {
-    match talk_from(rt, page.alloc(), opened, relay, tie, phase) {
+    match talk_from(rt, opened, relay, tie, phase) {
         Some(end) => {
             leave_if_lost(rt, relay, &mut tie.link, end);
             print_talk(rt, page, opened.number, tie.other, tie.place, end);
@@ -554,7 +557,6 @@ fn talk_once<'a, T: Wait + Clock, R: Replica, S: Read + Write + Drop>(
 /// lost.
 fn talk_from<'a, T: Wait + Clock, R: Replica, S: Read + Write + Drop>(
     rt: &T,
-    alloc: Global,
     opened: &mut OpenShift<R>,
     relay: &Relay,
     tie: &mut Tie<'a, S>,
@@ -564,7 +566,7 @@ fn talk_from<'a, T: Wait + Clock, R: Replica, S: Read + Write + Drop>(
     match &mut tie.link {
         Some(link) => {
             place.stage().go_to(rt, phase);
-            Some(talk_over(rt, alloc, opened, relay, link, place.stage()))
+            Some(talk_over(rt, opened, relay, link, place.stage()))
         }
         None => None,
     }
@@ -573,15 +575,14 @@ fn talk_from<'a, T: Wait + Clock, R: Replica, S: Read + Write + Drop>(
 /// A link of a gateway talks to the end of the shift. Says why it stopped.
 fn talk_over<T: Wait + Clock, R: Replica, S: Read + Write + Drop>(
     rt: &T,
-    alloc: Global,
     opened: &mut OpenShift<R>,
     relay: &Relay,
     link: &mut Link<S>,
     stage: &Stage,
 ) -> End {
-    match Vec::from_elem(alloc, 0u8, 65_536) {
+    match Vec::from_elem(opened.alloc, 0u8, 65_536) {
         Ok(mut piece) => {
-            let end = talk_with(rt, alloc, opened, relay, link, stage, piece.as_mut_slice());
+            let end = talk_with(rt, opened, relay, link, stage, piece.as_mut_slice());
             drop(piece);
             end
         }
@@ -592,13 +593,13 @@ fn talk_over<T: Wait + Clock, R: Replica, S: Read + Write + Drop>(
 /// The same, with room for what comes.
 fn talk_with<T: Wait + Clock, R: Replica, S: Read + Write + Drop>(
     rt: &T,
-    alloc: Global,
     opened: &mut OpenShift<R>,
     relay: &Relay,
     link: &mut Link<S>,
     stage: &Stage,
     piece: &mut [u8],
 ) -> End {
+    let alloc = opened.alloc;
     let number = opened.number;
     let seat = &mut opened.seat;
     match &opened.shift {
@@ -746,7 +747,7 @@ fn sit_with<'a, T: Wait + Clock, R: Replica, S: Read + Write + Drop>(
             if is_closed(rt, pool, origin) {
                 page.stop(Stop::Memory);
             } else {
-                sit_at(rt, page, opened, pool, tie.other, tie.place, origin);
+                sit_at(rt, page, opened, pool, tie, origin);
             }
         }
         None => page.stop(Stop::Line),
@@ -769,20 +770,19 @@ fn seek_seat<T: Wait, S: Drop>(
     }
 }
 
-/// A link that waits talks at a seat, and then it is closed. It has this place, and the number of
-/// its other end.
-fn sit_at<T: Wait + Clock, R: Replica, S: Read + Write + Drop>(
+/// A link that waits talks at a seat, and then it is closed.
+fn sit_at<'a, T: Wait + Clock, R: Replica, S: Read + Write + Drop>(
     rt: &T,
     page: &mut Page,
     opened: &mut OpenShift<R>,
     pool: &Pool<S>,
-    other: u8,
-    place: &Place,
+    tie: &Tie<'a, S>,
     origin: Origin,
 ) {
     let number = opened.number;
+    let place = tie.place;
     let end = serve_seat(rt, page.alloc(), opened, pool, place.stage());
-    print_talk(rt, page, number, other, place, end);
+    print_talk(rt, page, number, tie.other, place, end);
     print_room(rt, page, number, pool, origin);
     pool.close_all(rt);
     print_room(rt, page, number, pool, origin);

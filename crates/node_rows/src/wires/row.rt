@@ -10,7 +10,7 @@ use crate::wires::printing::{print_calls, print_count, print_notes, print_outcom
 use crate::wires::reports::{Sketch, add_client, be_ill};
 use crate::wires::requests::{ask, ask_octets, entries};
 use crate::wires::serving::{
-    Gateway, Outcome, Shared, close, node_of, passes_back, serve_all, shift_of,
+    Crew, Gateway, Outcome, Shared, Sides, close, node_of, passes_back, serve_all, shift_of,
 };
 use crate::wires::wire::{Coming, Told};
 use crate::words::Words;
@@ -348,7 +348,13 @@ where
 {
     let turns = plan.turns.saturating_add(plan.coming.len() as u64);
     let mut wire = Told::new(plan.coming.as_slice());
-    serve_all(rt, alloc, shift, passes, &mut wire, outside, outside, turns)
+    let sides = Sides {
+        wire: &mut wire,
+        post: outside,
+        gate: outside,
+        turns,
+    };
+    serve_all(rt, alloc, Crew { shift, passes }, sides)
 }
 
 /// Closes a shift, and prints what became of so many datagrams. Its gateway comes back.

@@ -22,6 +22,26 @@ pub(crate) type Gateway = Node<Plain, MemoryDisk>;
 /// A shift of it.
 pub(crate) type Shared = Shift<Plain, MemoryDisk>;
 
+/// A shift that is to be served, and its passes.
+#[derive(Drop)]
+pub(crate) struct Crew<'a, R: Replica, D: Disk> {
+    pub(crate) shift: &'a Shift<R, D>,
+    pub(crate) passes: Vec<Pass>,
+}
+
+/// What serving goes by.
+#[derive(Drop)]
+pub(crate) struct Sides<'a, W: Wire, P: Post, G: Gate> {
+    /// Over which datagrams come.
+    pub(crate) wire: &'a mut W,
+    /// By which answers go out.
+    pub(crate) post: &'a P,
+    /// What hears of each answer.
+    pub(crate) gate: &'a G,
+    /// How many turns the reader has.
+    pub(crate) turns: u64,
+}
+
 /// What serving handed back.
 #[derive(Drop)]
 pub(crate) struct Outcome {
@@ -75,12 +95,8 @@ fn steps_of(steps: u64) -> u64
 pub(crate) fn serve_all<T, R, D, W, P, G>(
     rt: &T,
     alloc: Global,
-    shift: &Shift<R, D>,
-    passes: Vec<Pass>,
-    wire: &mut W,
-    post: &P,
-    gate: &G,
-    turns: u64,
+    crew: Crew<'_, R, D>,
+    sides: Sides<'_, W, P, G>,
 ) -> Outcome
 where
     T: Threads + Wait + Sync,
@@ -91,9 +107,16 @@ where
     P: Post + Sync,
     G: Gate + Sync,
 {
+    let Crew { shift, passes } = crew;
     if passes.is_empty() {
         return unserved(alloc, passes, None);
     }
+    let Sides {
+        wire,
+        post,
+        gate,
+        turns,
+    } = sides;
     match serve(rt, alloc, shift, passes, wire, post, gate, turns) {
         Ok(served) => Outcome {
             passes: served.passes,
