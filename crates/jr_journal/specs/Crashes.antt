@@ -64,9 +64,7 @@ reads_first (Broken at) other = false
 -- the bytes of a slot without what comes after its whole pieces
 abbrev pub cut_end : SlotContent → List ℕ → List ℕ
 cut_end (Sealed m f) bytes = take (13 + f.whole) bytes
-cut_end Alien bytes = bytes
-cut_end Unsealed bytes = bytes
-cut_end (Broken at) bytes = bytes
+cut_end content bytes = bytes
 
 -- The slots of an opened journal, all synced. If there was no journal, it begins in the first slot.
 -- Else the torn end of the slot that is read is cut away.
