@@ -163,8 +163,7 @@ OwnStep old occasion now (Err refusals.Halted) new made =
 OwnStep old occasion now (Err (refusals.Disk excuse)) new made =
     (plan : Plan) × IsPlan old occasion now (Some plan)
     × IsDropped old occasion plan excuse new made × (old.drive.halted ≡ false)
-OwnStep old occasion now (Err (refusals.Journal fault)) new made = ⊥
-OwnStep old occasion now (Err refusals.Memory) new made = ⊥
+OwnStep old occasion now answer new made = ⊥
 
 -- A delta comes. It is taken and the answer is empty; clients that another gateway now owns no
 -- longer have an address here. Or it is refused; or it cannot be written; or the gateway is halted.

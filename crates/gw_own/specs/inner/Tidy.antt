@@ -3,7 +3,7 @@ use Rattle.std.specs.Prelude.{ℕ, Bool, true, ◌&&◌, ◌||◌, ◌==◌, not
 use Rattle.rep_op.specs.declared.op.Op.{Op}
 use Rattle.rep_op.specs.declared.op.Op.TheVariants.{Session as OfSession}
 use Rattle.sn_local.specs.declared.local.LocalChange.{LocalChange}
-use Rattle.sn_local.specs.declared.local.LocalChange.TheVariants.{Unbind, Time, Ask, EndDialog, Advertised}
+use Rattle.sn_local.specs.declared.local.LocalChange.TheVariants.{Bind, Time, Heard, Sent, Resent, Retried}
 use Rattle.sn_local.specs.Seen.{Seen, seen_of}
 use Rattle.sn_local.specs.Locals.{Local}
 use Rattle.sn_local.specs.Bindings.{address_of, is_owned}
@@ -31,9 +31,10 @@ leaves_all g seen local op = true
 
 -- whether an address or a timer that the change notes is of a client that the gateway owns
 abbrev pub notes_owned : ℕ → Seen → LocalChange → Bool
-notes_owned g seen (Unbind c) = true
+notes_owned g seen (Bind a c) = is_owned g seen c
 notes_owned g seen (Time timer) = is_owned g seen timer.client
-notes_owned g seen (Ask dialog) = true
-notes_owned g seen (EndDialog a) = true
-notes_owned g seen (Advertised now) = true
-notes_owned g seen change = is_owned g seen c
+notes_owned g seen (Heard c now) = is_owned g seen c
+notes_owned g seen (Sent c now) = is_owned g seen c
+notes_owned g seen (Resent c now) = is_owned g seen c
+notes_owned g seen (Retried c now) = is_owned g seen c
+notes_owned g seen change = true
