@@ -9,6 +9,6 @@ pub returns-in-Ok-clause-again : goal.returns-in-Ok-clause-again
 returns-in-Ok-clause-again g c =
     reopen_carries_on (state_of g.R.Replica.kept c.args.node.now) (state_of g.R.Replica.kept c.reopen.new.self) (Ok (arc_value c.in-Ok.field-0)) c.in-Ok.ensures.call
 
-pub returns-in-Err-clause-nothing : goal.returns-in-Err-clause-nothing
-returns-in-Err-clause-nothing g c =
+pub returns-clause-nothing : goal.returns-clause-nothing
+returns-clause-nothing g c =
     reopen_carries_on (state_of g.R.Replica.kept c.args.node.now) (state_of g.R.Replica.kept c.reopen.new.self) (Err (told c.in-Err.fault)) c.in-Err.ensures.call
