@@ -64,7 +64,7 @@ PARTS = [
      "gateway's set. `run`, in part 3, says that a crash leaves such an image.",
      ["jr_disk::Disk", "jr_disk::MemoryDisk", "jr_disk::memory_disk_is_honest", "jr_journal::Journal::open",
       "jr_journal::Journal::append", "jr_journal::Journal::compact", "jr_journal::Journal::reopen", "rep_model::base_laws",
-      "gw_node::Node::open", "gw_node::opening_laws", "gw_node::Node::frame", "gw_node::Node::take", "gw_node::Node::tick",
+      "gw_node::Node::open", "gw_node::opening_laws", "gw_node::calls_carry_on", "gw_node::Node::frame", "gw_node::Node::take", "gw_node::Node::tick",
       "gw_node::Node::compact", "gw_node::Node::reopen", "field_laws::stored"],
      ["jr_journal/journal/Journal", "jr_disk/memory/MemoryDisk", "jr_disk/memory/impl Model for MemoryDisk",
       "jr_journal/fault/JournalFault", "gw_node/Standing/Stands", "gw_node/Standing/Lasts", "gw_event/Drives/opened", "gw_event/Drives/new_drive",

@@ -119,10 +119,8 @@ id_of topic (entry ∷ more) =
 
 -- a name of two octets is its own id
 abbrev pub short_name : List ℕ → Option ℕ
-short_name [] = None
-short_name (high ∷ []) = None
 short_name (high ∷ low ∷ []) = Some (high * 256 + low)
-short_name (high ∷ low ∷ next ∷ more) = None
+short_name name = None
 
 -- PUBLISH at quality of service 1: DUP if it was sent before, and 2 for a short name
 abbrev pub publish_flags : Bool → Bool → Flags

@@ -34,8 +34,5 @@ abbrev pub queue_at : Bool → ℕ → ℕ → Option ℕ
 queue_at is_ours tens ones = if is_ours then queue_by tens ones else None
 
 abbrev pub queue_in : List ℕ → Option ℕ
-queue_in [] = None
-queue_in (letter ∷ []) = None
-queue_in (letter ∷ tens ∷ []) = None
 queue_in (letter ∷ tens ∷ ones ∷ []) = queue_at (letter == 113) tens ones
-queue_in (letter ∷ tens ∷ ones ∷ next ∷ more) = None
+queue_in octets = None

@@ -163,8 +163,7 @@ OwnStep old occasion now (Err refusals.Halted) new made =
 OwnStep old occasion now (Err (refusals.Disk excuse)) new made =
     (plan : Plan) × IsPlan old occasion now (Some plan)
     × IsDropped old occasion plan excuse new made × (old.drive.halted ≡ false)
-OwnStep old occasion now (Err (refusals.Journal fault)) new made = ⊥
-OwnStep old occasion now (Err refusals.Memory) new made = ⊥
+OwnStep old occasion now answer new made = ⊥
 
 -- A delta comes. It is taken and the answer is empty; clients that another gateway now owns no
 -- longer have an address here. Or it is refused; or it cannot be written; or the gateway is halted.
@@ -187,10 +186,7 @@ TakeStep old delta (Err (refusals.Disk excuse)) new made =
     (excuse ≡ only_sends []) × (delta ≢ []) × IsTorn old delta new made × (old.drive.halted ≡ false)
 TakeStep old delta (Err refusals.Halted) new made =
     (old.drive.halted ≡ true) × NothingHappens old new made
-TakeStep old delta (Err (refusals.Frame fault)) new made = ⊥
-TakeStep old delta (Err refusals.Exhausted) new made = ⊥
-TakeStep old delta (Err (refusals.Journal fault)) new made = ⊥
-TakeStep old delta (Err refusals.Memory) new made = ⊥
+TakeStep old delta answer new made = ⊥
 
 -- The gateway writes its journal from the start: what must be kept of its set, as deltas. Nothing
 -- is sent, and the set stays as it is. It refuses if it is halted; else if the generation is the
@@ -204,7 +200,6 @@ CompactStep old (Ok out) new =
 CompactStep old (Err (refusals.Journal fault)) new =
     (generation old.config.gateway old.drive ≡ last_generation) × (fault ≡ Foreign) × (new ≡ old)
     × (old.drive.halted ≡ false)
-CompactStep old (Err (refusals.Frame fault)) new = ⊥
 CompactStep old (Err refusals.Halted) new = (old.drive.halted ≡ true) × (new ≡ old)
 CompactStep old (Err (refusals.Disk excuse)) new =
     (generation old.config.gateway old.drive ≢ last_generation) × (excuse ≡ only_sends [])
@@ -212,10 +207,7 @@ CompactStep old (Err (refusals.Disk excuse)) new =
     × (old.drive.plan ≡ Some failure)
     × (new ≡ record old { drive = torn_base failure old.config.gateway base old.drive }))
     × (old.drive.halted ≡ false)
-CompactStep old (Err (refusals.Conflict of)) new = ⊥
-CompactStep old (Err refusals.Full) new = ⊥
-CompactStep old (Err refusals.Exhausted) new = ⊥
-CompactStep old (Err refusals.Memory) new = ⊥
+CompactStep old answer new = ⊥
 
 -- an answer that shows a client's view, if an operation names the client
 abbrev pub shows : List Op → List ℕ → Out

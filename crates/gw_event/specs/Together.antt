@@ -34,11 +34,7 @@ abbrev pub CanWrite : Step → Type 0
 CanWrite (steps.Frame from bytes now) = Unit {0}
 CanWrite (steps.Take delta) = Unit {0}
 CanWrite (steps.Tick now) = Unit {0}
-CanWrite (steps.View client) = ⊥
-CanWrite steps.Digest = ⊥
-CanWrite (steps.Answer asked) = ⊥
-CanWrite steps.Compact = ⊥
-CanWrite steps.Reopen = ⊥
+CanWrite step = ⊥
 
 -- a delta as it is written: not at all if it has no operations
 abbrev pub if_any : List Op → List (List Op)

@@ -139,11 +139,9 @@ TakeCall old delta (Err refusals.Full) new =
 TakeCall old delta (Err (refusals.Disk excuse)) new =
     (is_halted old ≡ false) × (excuse ≡ only_sends []) × IsLeft old delta new
 TakeCall old delta (Err refusals.Memory) new = IsUnchanged old new
-TakeCall old delta (Err (refusals.Frame fault)) new = ⊥
-TakeCall old delta (Err refusals.Exhausted) new = ⊥
-TakeCall old delta (Err (refusals.Journal fault)) new = ⊥
 TakeCall old delta (Ok out) new =
     (is_halted old ≡ false) × (out ≡ only_sends []) × IsTaken old delta new
+TakeCall old delta answer new = ⊥
 
 -- ---- views
 
@@ -152,13 +150,7 @@ abbrev pub ViewCall : {D : Type 0} {G : Ghosts D} → State G → List ℕ → R
     → Type 0
 ViewCall old client (Ok out) new = (out ≡ shows old.kept client) × IsUnchanged old new
 ViewCall old client (Err refusals.Memory) new = IsUnchanged old new
-ViewCall old client (Err refusals.Halted) new = ⊥
-ViewCall old client (Err (refusals.Frame fault)) new = ⊥
-ViewCall old client (Err (refusals.Disk excuse)) new = ⊥
-ViewCall old client (Err (refusals.Conflict of)) new = ⊥
-ViewCall old client (Err refusals.Full) new = ⊥
-ViewCall old client (Err refusals.Exhausted) new = ⊥
-ViewCall old client (Err (refusals.Journal fault)) new = ⊥
+ViewCall old client answer new = ⊥
 
 -- ---- digests and answers
 
@@ -172,12 +164,7 @@ DigestCall old (Ok out) new =
 DigestCall old (Err refusals.Full) new =
     (max_octets < length (spelling (digest old.kept))) × IsUnchanged old new
 DigestCall old (Err refusals.Memory) new = IsUnchanged old new
-DigestCall old (Err refusals.Halted) new = ⊥
-DigestCall old (Err (refusals.Frame fault)) new = ⊥
-DigestCall old (Err (refusals.Disk excuse)) new = ⊥
-DigestCall old (Err (refusals.Conflict of)) new = ⊥
-DigestCall old (Err refusals.Exhausted) new = ⊥
-DigestCall old (Err (refusals.Journal fault)) new = ⊥
+DigestCall old answer new = ⊥
 
 -- A gateway asks for what its digest does not cover of what must be kept; a halted node answers
 -- too.
@@ -187,13 +174,7 @@ AnswerCall old asked (Ok out) new =
     IsAnswer asked old.kept out.answer × (out ≡ record (only_sends []) { answer = out.answer })
     × IsUnchanged old new
 AnswerCall old asked (Err refusals.Memory) new = IsUnchanged old new
-AnswerCall old asked (Err refusals.Full) new = ⊥
-AnswerCall old asked (Err refusals.Halted) new = ⊥
-AnswerCall old asked (Err (refusals.Frame fault)) new = ⊥
-AnswerCall old asked (Err (refusals.Disk excuse)) new = ⊥
-AnswerCall old asked (Err (refusals.Conflict of)) new = ⊥
-AnswerCall old asked (Err refusals.Exhausted) new = ⊥
-AnswerCall old asked (Err (refusals.Journal fault)) new = ⊥
+AnswerCall old asked answer new = ⊥
 
 -- ---- compactions
 
@@ -226,18 +207,11 @@ CompactCall old (Err refusals.Halted) new = (is_halted old ≡ true) × IsUnchan
 CompactCall old (Err (refusals.Journal journal_faults.Foreign)) new =
     (is_halted old ≡ false) × (generation_of old.journal ≡ last_generation) × IsNumbered old.journal
     × IsUnchanged old new
-CompactCall old (Err (refusals.Journal journal_faults.Disk)) new = ⊥
-CompactCall old (Err (refusals.Journal journal_faults.Halted)) new = ⊥
-CompactCall old (Err (refusals.Journal journal_faults.Memory)) new = ⊥
-CompactCall old (Err (refusals.Journal (journal_faults.BadRecord slot at))) new = ⊥
 CompactCall old (Err (refusals.Disk excuse)) new =
     (is_halted old ≡ false) × (excuse ≡ only_sends []) × IsNotCompacted old new
 CompactCall old (Err refusals.Memory) new = IsUnchanged old new
-CompactCall old (Err (refusals.Frame fault)) new = ⊥
-CompactCall old (Err (refusals.Conflict client)) new = ⊥
-CompactCall old (Err refusals.Full) new = ⊥
-CompactCall old (Err refusals.Exhausted) new = ⊥
 CompactCall old (Ok out) new = (is_halted old ≡ false) × (out ≡ only_sends []) × IsCompacted old new
+CompactCall old answer new = ⊥
 
 -- ---- steps
 

@@ -54,36 +54,23 @@ IsOpenFault gateway i (refusals.Conflict client) =
 IsOpenFault gateway i refusals.Full = HasMisfit (records gateway i) refusals.Full
 IsOpenFault gateway i (refusals.Disk excuse) = excuse ≡ only_sends []
 IsOpenFault gateway i refusals.Memory = Unit {0}
-IsOpenFault gateway i (refusals.Frame fault) = ⊥
-IsOpenFault gateway i refusals.Halted = ⊥
-IsOpenFault gateway i refusals.Exhausted = ⊥
+IsOpenFault gateway i refusal = ⊥
 
 -- the refusal is that the disk failed
 abbrev pub IsDiskFault : Refusal → Type 0
 IsDiskFault (refusals.Disk excuse) = Unit {0}
-IsDiskFault refusals.Halted = ⊥
-IsDiskFault (refusals.Frame fault) = ⊥
-IsDiskFault (refusals.Conflict client) = ⊥
-IsDiskFault refusals.Full = ⊥
-IsDiskFault refusals.Exhausted = ⊥
-IsDiskFault (refusals.Journal fault) = ⊥
-IsDiskFault refusals.Memory = ⊥
+IsDiskFault refusal = ⊥
 
 -- An opening may be refused so. Nothing is sent if the disk failed. The journal's own faults are
 -- those of what is in the slots: a failure of the disk is never one of them.
 abbrev pub MayRefuse : Refusal → Type 0
-MayRefuse (refusals.Frame fault) = ⊥
-MayRefuse refusals.Halted = ⊥
-MayRefuse refusals.Exhausted = ⊥
 MayRefuse (refusals.Disk excuse) = excuse ≡ only_sends []
 MayRefuse (refusals.Conflict client) = Unit {0}
 MayRefuse refusals.Full = Unit {0}
 MayRefuse (refusals.Journal journal_faults.Foreign) = Unit {0}
 MayRefuse (refusals.Journal (journal_faults.BadRecord slot at)) = Unit {0}
-MayRefuse (refusals.Journal journal_faults.Disk) = ⊥
-MayRefuse (refusals.Journal journal_faults.Halted) = ⊥
-MayRefuse (refusals.Journal journal_faults.Memory) = ⊥
 MayRefuse refusals.Memory = Unit {0}
+MayRefuse refusal = ⊥
 
 -- What a refused opening leaves in the slots. If they are no journal of this gateway, they are
 -- synced and not changed. If a record does not fit, they are as an opening leaves them. If memory
@@ -96,9 +83,7 @@ LeavesSlots gateway old refusals.Full new = new ≡ recovered gateway (image old
 LeavesSlots gateway old refusals.Memory new =
     (new ≡ old) ⊎ ((new ≡ synced_slots old) ⊎ (new ≡ recovered gateway (image old)))
 LeavesSlots gateway old (refusals.Disk excuse) new = Unit {0}
-LeavesSlots gateway old (refusals.Frame fault) new = ⊥
-LeavesSlots gateway old refusals.Halted new = ⊥
-LeavesSlots gateway old refusals.Exhausted new = ⊥
+LeavesSlots gateway old refusal new = ⊥
 
 -- ---- a node is opened again
 

@@ -96,11 +96,7 @@ abbrev pub Agrees : Gateway → Step → Type 0
 Agrees gateway (steps.Frame from bytes now) = OwnAgrees gateway (Datagram from bytes) now
 Agrees gateway (steps.Take delta) = AllAgree gateway.taken delta
 Agrees gateway (steps.Tick now) = OwnAgrees gateway Clock now
-Agrees gateway (steps.View client) = Unit {0}
-Agrees gateway steps.Digest = Unit {0}
-Agrees gateway (steps.Answer asked) = Unit {0}
-Agrees gateway steps.Compact = Unit {0}
-Agrees gateway steps.Reopen = Unit {0}
+Agrees gateway step = Unit {0}
 
 -- Of a compaction it can be said on an honest disk. If it failed, it must be known which failure
 -- was arranged, for a disk may fail to cut as well. Nor may memory have been refused then.
@@ -118,14 +114,9 @@ WentWell Honest gateway (Err refusal) = ⊥
 -- compaction that is `IsClear`, for a reopening `WentWell`, for every other call nothing.
 abbrev pub CanBeSaid : {D : Type 0} {G : Ghosts D} → Gateway → State G → Step → Result Out Refusal
     → State G → Type 0
-CanBeSaid gateway old (steps.Frame from bytes now) answer new = Unit {0}
-CanBeSaid gateway old (steps.Take delta) answer new = Unit {0}
-CanBeSaid gateway old (steps.Tick now) answer new = Unit {0}
-CanBeSaid gateway old (steps.View client) answer new = Unit {0}
-CanBeSaid gateway old steps.Digest answer new = Unit {0}
-CanBeSaid gateway old (steps.Answer asked) answer new = Unit {0}
 CanBeSaid gateway old steps.Compact answer new = IsClear gateway old answer new
 CanBeSaid {G = G} gateway old steps.Reopen answer new = WentWell G.honest gateway answer
+CanBeSaid gateway old step answer new = Unit {0}
 
 -- Whatever gateway the node stood for, the call is its event, and the node stands for the next one.
 abbrev pub EventOn : {D : Type 0} {G : Ghosts D} → State G → Step → Result Out Refusal → State G
@@ -150,10 +141,8 @@ AgreeInTurn gateway (step ∷ rest) =
 -- unless there is one call alone
 abbrev pub CanAllBeSaid : {D : Type 0} {G : Ghosts D} → Gateway → State G → List Step
     → List (Result Out Refusal) → State G → Type 0
-CanAllBeSaid gateway old [] answers new = Unit {0}
-CanAllBeSaid gateway old (step ∷ next ∷ rest) answers new = Unit {0}
-CanAllBeSaid gateway old (step ∷ []) [] new = Unit {0}
 CanAllBeSaid gateway old (step ∷ []) (answer ∷ answers) new = CanBeSaid gateway old step answer new
+CanAllBeSaid gateway old calls answers new = Unit {0}
 
 -- Whatever gateway the node stood for, the calls are its events with one write, and the node stands
 -- for the next one. What was taken lasts if it did before, and if what the calls take, written one

@@ -74,7 +74,6 @@ impl<R: Replica, D: Disk + Drop> Node<R, D> {
     ghost use Rattle.gw_node.specs.Keeping.{Keeps};
     ghost use Rattle.gw_node.specs.Taking.{StandsFor, HasTaken};
     ghost use Rattle.gw_node.specs.Opening.{IsStarted, FitInTurn, MayRefuse, IsDiskFault, IsOpenFault, LeavesSlots, GoesOnIn, ReopenCall};
-    ghost use Rattle.gw_node.specs.Carrying.{CarriesOn, OwnCarriesOn, TakesNothing, ReopenCarriesOn, StepCarriesOn};
     ghost use Rattle.gw_node.specs.Standing.{EventOn, EventsOn};
     ghost use Rattle.gw_node.specs.Failures.{failed_all};
     ghost use Rattle.gw_node.specs.Glancing.{glimpses_of};
@@ -182,8 +181,6 @@ impl<R: Replica, D: Disk + Drop> Node<R, D> {
     pub fn frame(&mut self, alloc: Global, from: Addr, bytes: &[u8], now: u64) -> Answer
         ensures call { OwnCall (state_of R.kept self.old) (Datagram from bytes.now) now
             (said result) (state_of R.kept self.new) }
-        ensures taken { OwnCarriesOn (state_of R.kept self.old) (Datagram from bytes.now) now
-            (said result) (state_of R.kept self.new) }
         ensures event { EventOn (state_of R.kept self.old) (steps.Frame from bytes.now now)
             (said result) (state_of R.kept self.new) }
     {
@@ -202,8 +199,6 @@ impl<R: Replica, D: Disk + Drop> Node<R, D> {
     pub fn take(&mut self, alloc: Global, delta: &Delta) -> Answer
         ensures call { TakeCall (state_of R.kept self.old) delta.now (said result)
             (state_of R.kept self.new) }
-        ensures taken { CarriesOn (state_of R.kept self.old) delta.now (said result)
-            (state_of R.kept self.new) }
         ensures event { EventOn (state_of R.kept self.old) (steps.Take delta.now) (said result)
             (state_of R.kept self.new) }
     {
@@ -218,8 +213,6 @@ impl<R: Replica, D: Disk + Drop> Node<R, D> {
     /// `Disk` nothing is to be sent.
     pub fn tick(&mut self, alloc: Global, now: u64) -> Answer
         ensures call { OwnCall (state_of R.kept self.old) Clock now (said result)
-            (state_of R.kept self.new) }
-        ensures taken { OwnCarriesOn (state_of R.kept self.old) Clock now (said result)
             (state_of R.kept self.new) }
         ensures event { EventOn (state_of R.kept self.old) (steps.Tick now) (said result)
             (state_of R.kept self.new) }
@@ -273,7 +266,6 @@ impl<R: Replica, D: Disk + Drop> Node<R, D> {
     pub fn compact(&mut self, alloc: Global) -> Answer
         ensures call { CompactCall (state_of R.kept self.old) (said result)
             (state_of R.kept self.new) }
-        ensures taken { TakesNothing (state_of R.kept self.old) (state_of R.kept self.new) }
         ensures event { EventOn (state_of R.kept self.old) steps.Compact (said result)
             (state_of R.kept self.new) }
     {
@@ -289,8 +281,6 @@ impl<R: Replica, D: Disk + Drop> Node<R, D> {
     pub fn reopen(&mut self, alloc: Global) -> Answer
         ensures call { ReopenCall (state_of R.kept self.old) (said result)
             (state_of R.kept self.new) }
-        ensures taken { ReopenCarriesOn (state_of R.kept self.old) (said result)
-            (state_of R.kept self.new) }
         ensures event { EventOn (state_of R.kept self.old) steps.Reopen (said result)
             (state_of R.kept self.new) }
     {
@@ -301,8 +291,6 @@ impl<R: Replica, D: Disk + Drop> Node<R, D> {
     /// is written, so that a call that was done can always be told.
     pub fn step(&mut self, alloc: Global, step: &Step) -> (Answer, Answer, Answer)
         ensures call { StepCall (state_of R.kept self.old) step.now (said result.0)
-            (state_of R.kept self.new) }
-        ensures taken { StepCarriesOn (state_of R.kept self.old) step.now (said result.0)
             (state_of R.kept self.new) }
         ensures event { EventOn (state_of R.kept self.old) step.now (said result.0)
             (state_of R.kept self.new) }

@@ -54,10 +54,7 @@ health_text health =
 abbrev pub shown_status : Target → Health → Status
 shown_status targets.Health health =
     if is_ill health then statuses.Unavailable else statuses.Found
-shown_status targets.Front health = statuses.Found
-shown_status targets.Metrics health = statuses.Found
-shown_status targets.Clients health = statuses.Found
-shown_status targets.Log health = statuses.Found
+shown_status target health = statuses.Found
 
 -- the status of what is asked for
 abbrev pub status_of : Asked → Health → Status
@@ -71,17 +68,12 @@ status_of asked.Malformed health = statuses.BadRequest
 abbrev pub shown_type : Target → List ℕ
 shown_type targets.Front = codes "text/html; charset=utf-8"
 shown_type targets.Metrics = codes "text/plain; version=0.0.4; charset=utf-8"
-shown_type targets.Clients = codes "text/plain; charset=utf-8"
-shown_type targets.Log = codes "text/plain; charset=utf-8"
-shown_type targets.Health = codes "text/plain; charset=utf-8"
+shown_type target = codes "text/plain; charset=utf-8"
 
 -- what the answer is written in
 abbrev pub type_of : Asked → List ℕ
 type_of (asked.Shown method target) = shown_type target
-type_of (asked.Elsewhere method) = codes "text/plain; charset=utf-8"
-type_of asked.OtherMethod = codes "text/plain; charset=utf-8"
-type_of asked.TooLarge = codes "text/plain; charset=utf-8"
-type_of asked.Malformed = codes "text/plain; charset=utf-8"
+type_of request = codes "text/plain; charset=utf-8"
 
 -- a page
 abbrev pub shown_text : Target → Report → List ℕ
@@ -134,9 +126,7 @@ sent_by methods.Head body = []
 abbrev pub sent_of : Asked → List ℕ → List ℕ
 sent_of (asked.Shown method target) body = sent_by method body
 sent_of (asked.Elsewhere method) body = sent_by method body
-sent_of asked.OtherMethod body = body
-sent_of asked.TooLarge body = body
-sent_of asked.Malformed body = body
+sent_of request body = body
 
 -- the answer to what is asked for: a head with the body's length, and the body
 abbrev pub reply_text : Asked → Report → List ℕ

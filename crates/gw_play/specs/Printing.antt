@@ -165,9 +165,7 @@ answer_text before answers.Nothing = codes "quiet" ▹ line_end
 abbrev pub deltas_after : ℕ → Answer → ℕ
 deltas_after before (answers.Node answer) = deltas_behind before (said answer)
 deltas_after before (answers.Row all) = row_behind before (map said all)
-deltas_after before (answers.Views views topics) = before
-deltas_after before (answers.Records count) = before
-deltas_after before answers.Nothing = before
+deltas_after before answer = before
 
 -- answers in their order
 abbrev pub answers_text : ℕ → List Answer → List ℕ

@@ -54,11 +54,9 @@ is_as_late entry name = not (is_lt (clock_cmp (entry.clock, entry.gateway) name)
 
 -- whether an entry is of the topic of an operation, and covers that
 abbrev pub is_retained_by : Op → RetainedEntry → Bool
-is_retained_by (OfSession c stamp counter change) entry = false
-is_retained_by (OfPut c put) entry = false
-is_retained_by (Ack c origin first last) entry = false
 is_retained_by (OfRetain t kept) entry =
     same_topic entry.topic t && is_as_late entry (clock_of kept)
+is_retained_by op entry = false
 
 -- whether a digest covers an operation: the entry of its client does, or that of its topic
 abbrev pub is_covered : Digested → Op → Bool

@@ -13,7 +13,6 @@ use Rattle.gw_answer.specs.declared.step.Step.{Step}
 use Rattle.jr_journal.specs.Parts.{disk_of}
 use Rattle.gw_node.specs.Parts.{State}
 use Rattle.gw_node.specs.Calls.{StepCall}
-use Rattle.gw_node.specs.Carrying.{StepCarriesOn}
 use Rattle.gw_node.specs.Standing.{EventsOn}
 use Rattle.gw_shift.specs.inner.Passes.{call, calls_of}
 use Rattle.gw_shift.specs.Calls.{Call}
@@ -86,10 +85,9 @@ called_so old step told answer said new same equal called =
 
 -- what the node's call ensures, of the values that are entered
 pub does_so : {D : Type 0} {G : Ghosts D} (old : State G) (place : ℕ) (step told : Step) (answer said : Result Out Refusal) (new : State G)
-    → told ≡ step → answer ≡ said → StepCall old told said new → StepCarriesOn old told said new → Does old (call place step answer) new
-does_so old place step told answer said new same equal called carried = record {
+    → told ≡ step → answer ≡ said → StepCall old told said new → Does old (call place step answer) new
+does_so old place step told answer said new same equal called = record {
   called = called_so old step told answer said new same equal called;
-  carried = subst (λ a. StepCarriesOn old step a new) (sym equal) (subst (λ s. StepCarriesOn old s said new) same carried);
   event = event_on old new step answer (called_so old step told answer said new same equal called);
 }
 

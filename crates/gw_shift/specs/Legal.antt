@@ -9,7 +9,6 @@ use Rattle.gw_answer.specs.declared.refusal.Refusal.{Refusal}
 use Rattle.gw_answer.specs.declared.step.Step.{Step}
 use Rattle.gw_node.specs.Parts.{State}
 use Rattle.gw_node.specs.Calls.{StepCall}
-use Rattle.gw_node.specs.Carrying.{StepCarriesOn}
 use Rattle.gw_node.specs.Standing.{EventOn, EventsOn}
 use Rattle.gw_node.specs.Failures.{failed}
 use Rattle.gw_shift.specs.Calls.{Call}
@@ -19,7 +18,6 @@ use Rattle.gw_shift.specs.Calls.{Call}
 pub record Does {D : Type 0} {G : Ghosts D} (old : State G) (call : Call)
     (new : State G) : Type 0 where
   pub called : StepCall old call.step call.answer new
-  pub carried : StepCarriesOn old call.step call.answer new
   pub event : EventOn old call.step call.answer new
 
 -- how many calls were answered with a failure of the disk

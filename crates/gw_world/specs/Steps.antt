@@ -32,10 +32,4 @@ AnswerStep asker peer (Ok out) made =
     × (out ≡ record (only_sends []) { answer = made })
 AnswerStep asker peer (Err refusals.Full) made =
     (¬ (IsDigestWithinLimit (digest asker.taken))) × (made ≡ [])
-AnswerStep asker peer (Err (refusals.Frame fault)) made = ⊥
-AnswerStep asker peer (Err refusals.Exhausted) made = ⊥
-AnswerStep asker peer (Err (refusals.Conflict client)) made = ⊥
-AnswerStep asker peer (Err refusals.Halted) made = ⊥
-AnswerStep asker peer (Err (refusals.Disk excuse)) made = ⊥
-AnswerStep asker peer (Err (refusals.Journal fault)) made = ⊥
-AnswerStep asker peer (Err refusals.Memory) made = ⊥
+AnswerStep asker peer answer made = ⊥

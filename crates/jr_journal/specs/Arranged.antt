@@ -5,7 +5,7 @@ use Rattle.jr_disk.specs.declared.disk.Slot.{Slot}
 use Rattle.jr_disk.specs.declared.disk.Plan.{Plan}
 use Rattle.jr_disk.specs.declared.disk.Plan.TheVariants.{Stop, KeepBack, FailSync}
 use Rattle.jr_journal.specs.declared.fault.JournalFault.{JournalFault}
-use Rattle.jr_journal.specs.declared.fault.JournalFault.TheVariants.{Disk, Foreign, BadRecord, Memory, Halted}
+use Rattle.jr_journal.specs.declared.fault.JournalFault.TheVariants.{Disk}
 use Rattle.jr_disk.specs.Disk.{Slots, at, replaced, appended, all_synced}
 
 -- ---- an append
@@ -27,15 +27,11 @@ IsStruck Honest old slot bytes new =
 -- is. The slots are as that leaves them. Of other faults nothing is said.
 abbrev pub AppendedAs : Option (Option Plan) → Slots → Slot → List ℕ
     → Result (Unit {0}) JournalFault → Slots → Option (Option Plan) → Type 0
-AppendedAs None old slot bytes result new after = Unit {0}
 AppendedAs (Some plan) old slot bytes (Ok done) new after =
     (plan ≡ None) × (new ≡ after_append plan old slot bytes) × (after ≡ Some None)
 AppendedAs (Some plan) old slot bytes (Err Disk) new after =
     IsSome plan × (new ≡ after_append plan old slot bytes) × (after ≡ Some None)
-AppendedAs (Some plan) old slot bytes (Err Foreign) new after = Unit {0}
-AppendedAs (Some plan) old slot bytes (Err (BadRecord place from)) new after = Unit {0}
-AppendedAs (Some plan) old slot bytes (Err Memory) new after = Unit {0}
-AppendedAs (Some plan) old slot bytes (Err Halted) new after = Unit {0}
+AppendedAs known old slot bytes result new after = Unit {0}
 
 -- ---- an opening
 

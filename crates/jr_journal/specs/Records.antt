@@ -133,9 +133,7 @@ slot_content gateway bytes =
 -- the generation of a sealed slot
 abbrev pub generation_in : SlotContent → ℕ
 generation_in (Sealed generation f) = generation
-generation_in Alien = 0
-generation_in Unsealed = 0
-generation_in (Broken at) = 0
+generation_in content = 0
 
 -- the deltas of the slot that is read: of the sealed ones that of the greater generation
 abbrev pub chosen : SlotContent → SlotContent → List (List Op)

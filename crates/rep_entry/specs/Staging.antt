@@ -6,7 +6,7 @@ use Rattle.std.specs.FinMap.{find, is_sorted}
 use Rattle.sn_session.specs.declared.change.SessionOp.{SessionOp}
 use Rattle.rep_op.specs.declared.op.Stamp.{Stamp}
 use Rattle.rep_op.specs.declared.op.Op.{Op}
-use Rattle.rep_op.specs.declared.op.Op.TheVariants.{Session as OfSession, Put as OfPut, Ack, Retain as OfRetain}
+use Rattle.rep_op.specs.declared.op.Op.TheVariants.{Ack}
 use Rattle.rep_op.specs.Orders.{client_cmp, operation_cmp}
 use Rattle.rep_op.specs.Sets.{operations, puts}
 use Rattle.rep_model.specs.declared.fault.TheConstants.{MOST_PENDING, MOST_PARKED, MOST_EXCEPTIONS}
@@ -37,10 +37,8 @@ pub record IsChange (change : Change) : Type 0 where
 
 -- the origin and the range of an acknowledgement; none of any other operation
 abbrev pub range_of : Op → Option Range
-range_of (OfSession c stamp counter change) = None
-range_of (OfPut c put) = None
 range_of (Ack c origin first last) = Some (origin, (first, last))
-range_of (OfRetain topic kept) = None
+range_of op = None
 
 -- what a change builds on, among a client's operations
 abbrev pub base_in : List ℕ → List Op → Base

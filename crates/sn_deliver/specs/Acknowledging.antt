@@ -25,14 +25,9 @@ use Rattle.sn_exchange.specs.Exchanges.{put_named, message_of, open_exchange}
 -- whether two phases of an exchange are the same
 abbrev pub same_phase : Phase → Phase → Bool
 same_phase Registering Registering = true
-same_phase Registering Published = false
-same_phase Registering Released = false
-same_phase Published Registering = false
 same_phase Published Published = true
-same_phase Published Released = false
-same_phase Released Registering = false
-same_phase Released Published = false
 same_phase Released Released = true
+same_phase phase other = false
 
 -- the exchange, if it is in this phase and has this message id
 abbrev pub if_awaits : Phase → ℕ → Option Exchange → Option Exchange
@@ -68,9 +63,7 @@ told entry known d = changed (Register entry.id entry.name known) d
 -- the entry, if its topic is sent by an id of the session
 abbrev pub entry_by_kind : Option TopicEntry → TopicIdType → Option TopicEntry
 entry_by_kind entry kinds.Normal = entry
-entry_by_kind entry kinds.Predefined = None
-entry_by_kind entry kinds.Short = None
-entry_by_kind entry kinds.Reserved = None
+entry_by_kind entry kind = None
 
 -- the entry, if the topic's form is an id of the session
 abbrev pub entry_if_normal : Option TopicEntry → Option Form → Option TopicEntry

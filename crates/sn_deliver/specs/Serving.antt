@@ -33,11 +33,7 @@ publish_of predefined seen a (Some c) bits topic msg_id body now =
 abbrev pub publish_in_at : Entries → Seen → Local → Addr → ℕ → ℕ → ℕ → List ℕ → ℕ → Qos → Row
 publish_in_at predefined seen local a bits topic msg_id body now levels.MinusOne =
     row_of_none (publish_unconnected predefined seen bits topic body)
-publish_in_at predefined seen local a bits topic msg_id body now levels.Zero =
-    publish_of predefined seen a (client_at a local.bindings) bits topic msg_id body now
-publish_in_at predefined seen local a bits topic msg_id body now levels.One =
-    publish_of predefined seen a (client_at a local.bindings) bits topic msg_id body now
-publish_in_at predefined seen local a bits topic msg_id body now levels.Two =
+publish_in_at predefined seen local a bits topic msg_id body now level =
     publish_of predefined seen a (client_at a local.bindings) bits topic msg_id body now
 
 -- the row of PUBLISH (6.6 and 6.8)

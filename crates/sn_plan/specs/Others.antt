@@ -3,7 +3,7 @@ use Rattle.std.specs.Prelude.{ℕ, Bool, true, false, [], Option, Some, None}
 use Rattle.sn_frame.specs.declared.frame.Frame.{Frame}
 use Rattle.sn_frame.specs.declared.frame.Frame.TheVariants as frames
 use Rattle.sn_session.specs.declared.presence.Presence.{Presence}
-use Rattle.sn_session.specs.declared.presence.Presence.TheVariants.{Active, Asleep, Awake, Disconnected, Lost}
+use Rattle.sn_session.specs.declared.presence.Presence.TheVariants.{Active, Asleep, Awake}
 use Rattle.sn_session.specs.declared.session.Session.{Session}
 use Rattle.sn_local.specs.declared.config.Addr.{Addr}
 use Rattle.sn_plan.specs.declared.row.Row.{Row}
@@ -36,8 +36,7 @@ abbrev pub is_up : Presence → Bool
 is_up Active = true
 is_up Asleep = true
 is_up Awake = true
-is_up Disconnected = false
-is_up Lost = false
+is_up presence = false
 
 -- whether there is a session, and its client is Active, Asleep or Awake
 abbrev pub can_wake : Option Session → Bool

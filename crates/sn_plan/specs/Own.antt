@@ -66,10 +66,8 @@ unnamed c put = record { client = c; topic = put.topic; qos = put.qos; body = pu
 
 -- the message of an operation, as the draft has it, but not where it was retained
 abbrev pub message_of : Op → Option NewPut
-message_of (OfSession c stamp counter change) = None
 message_of (OfPut c put) = if put.retain then None else Some (unnamed c put)
-message_of (Ack c origin first last) = None
-message_of (OfRetain t kept) = None
+message_of op = None
 
 -- the messages of the operations, in their order
 abbrev pub messages : List Op → List NewPut
@@ -77,10 +75,8 @@ messages ops = filter_map message_of ops
 
 -- the message by which the operation hands a client what was retained
 abbrev pub handed_of : Op → Option NewPut
-handed_of (OfSession c stamp counter change) = None
 handed_of (OfPut c put) = if put.retain then Some (unnamed c put) else None
-handed_of (Ack c origin first last) = None
-handed_of (OfRetain t kept) = None
+handed_of op = None
 
 -- the messages by which the operations hand a client what was retained, in their order
 abbrev pub handed_in : List Op → List NewPut
@@ -88,10 +84,8 @@ handed_in ops = filter_map handed_of ops
 
 -- what an operation retains, without clock and gateway
 abbrev pub posted_of : Op → Option Posted
-posted_of (OfSession c stamp counter change) = None
-posted_of (OfPut c put) = None
-posted_of (Ack c origin first last) = None
 posted_of (OfRetain t kept) = Some (record { topic = t; qos = kept.qos; body = kept.body })
+posted_of op = None
 
 -- what the operations retain, in their order
 abbrev pub retained_in : List Op → List Posted
@@ -99,19 +93,15 @@ retained_in ops = filter_map posted_of ops
 
 -- a message has this moment, from which on it need not wait
 abbrev pub HasMoment : ℕ → Op → Type 0
-HasMoment moment (OfSession c stamp counter change) = Unit {0}
 HasMoment moment (OfPut c put) = put.expires ≡ moment
-HasMoment moment (Ack c origin first last) = Unit {0}
-HasMoment moment (OfRetain t kept) = Unit {0}
+HasMoment moment op = Unit {0}
 
 -- the message waits for its client; or the client acknowledges it by one of these names
 abbrev pub Waits : List Op → List ℕ → List (ℕ × ℕ) → Op → Type 0
-Waits S c acks (OfSession d stamp counter change) = Unit {0}
 Waits S c acks (OfPut d put) =
     (pending_at d S (put.seq, put.origin) ≡ Some put)
     ⊎ ((d ≡ c) × Contains acks (put.seq, put.origin))
-Waits S c acks (Ack d origin first last) = Unit {0}
-Waits S c acks (OfRetain t kept) = Unit {0}
+Waits S c acks op = Unit {0}
 
 -- the plan is that of a draft for a client, with at most one message for each client, or what was
 -- retained for its own

@@ -27,16 +27,10 @@ empty_session =
 
 -- whether the operation finds the table full that it would make grow
 abbrev pub is_full : Session → SessionOp → Bool
-is_full session (Take taken) = false
-is_full session (SetPresence presence duration) = false
 is_full session (Register id name known) = topic_has_no_room id session.topics
 is_full session (Subscribe filter qos) = filter_has_no_room filter session.subscriptions
-is_full session (Unsubscribe filter) = false
-is_full session (WillTopic asked) = false
-is_full session (WillMsg message) = false
 is_full session (Received id) = id_has_no_room id session.received
-is_full session (Released id) = false
-is_full session (Outbound exchange next_id) = false
+is_full session change = false
 
 -- the session after one more operation that finds room
 abbrev pub changed : Session → SessionOp → Session
@@ -69,25 +63,13 @@ applied session change = if is_full session change then session else changed ses
 -- whether the operation holds a whole session
 abbrev pub is_take : SessionOp → Bool
 is_take (Take taken) = true
-is_take (SetPresence presence duration) = false
-is_take (Register id name known) = false
-is_take (Subscribe filter qos) = false
-is_take (Unsubscribe filter) = false
-is_take (WillTopic asked) = false
-is_take (WillMsg message) = false
-is_take (Received id) = false
-is_take (Released id) = false
-is_take (Outbound exchange next_id) = false
+is_take change = false
 
 -- whether the operation puts nothing into a session that takes memory: no octets, and no entry
 abbrev pub is_light : SessionOp → Bool
-is_light (Take taken) = false
 is_light (SetPresence presence duration) = true
-is_light (Register id name known) = false
-is_light (Subscribe filter qos) = false
 is_light (Unsubscribe filter) = true
 is_light (WillTopic asked) = is_none asked
-is_light (WillMsg message) = false
-is_light (Received id) = false
 is_light (Released id) = true
 is_light (Outbound exchange next_id) = true
+is_light change = false

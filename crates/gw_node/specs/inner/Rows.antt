@@ -67,10 +67,7 @@ abbrev pub WrittenAllAs : {D : Type 0} {G : Ghosts D} → Journal D G → List (
     → Result (Unit {0}) JournalFault → Journal D G → Type 0
 WrittenAllAs old deltas (Ok done) new = AreWritten old deltas new
 WrittenAllAs old deltas (Err faults.Disk) new = AreFailed old deltas new
-WrittenAllAs old deltas (Err faults.Halted) new = ⊥
-WrittenAllAs old deltas (Err faults.Memory) new = ⊥
-WrittenAllAs old deltas (Err faults.Foreign) new = ⊥
-WrittenAllAs old deltas (Err (faults.BadRecord slot at)) new = ⊥
+WrittenAllAs old deltas result new = ⊥
 
 -- ---- calls one after the other
 
@@ -149,11 +146,7 @@ BeginsRow old (steps.Tick now) out excuse new =
     (plan : Plan) × WritesPlan old Clock now plan excuse × IsDoneAhead old plan out new
 BeginsRow old (steps.Take delta) out excuse new =
     (delta ≢ []) × (out ≡ only_sends []) × (excuse ≡ only_sends []) × IsTakenAhead old delta new
-BeginsRow old (steps.View client) out excuse new = ⊥
-BeginsRow old steps.Digest out excuse new = ⊥
-BeginsRow old (steps.Answer asked) out excuse new = ⊥
-BeginsRow old steps.Compact out excuse new = ⊥
-BeginsRow old steps.Reopen out excuse new = ⊥
+BeginsRow old step out excuse new = ⊥
 
 -- the answers if the disk failed: the excuse to the first, and to those behind that the gateway is
 -- halted

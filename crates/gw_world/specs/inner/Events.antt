@@ -39,15 +39,8 @@ use Rattle.gw_world.specs.Steps.{restarted, records_left}
 
 -- memory did not run out
 abbrev pub IsFed : Result Out Refusal → Type 0
-IsFed (Ok out) = Unit {0}
 IsFed (Err refusals.Memory) = ⊥
-IsFed (Err (refusals.Frame fault)) = Unit {0}
-IsFed (Err refusals.Halted) = Unit {0}
-IsFed (Err (refusals.Disk excuse)) = Unit {0}
-IsFed (Err (refusals.Conflict client)) = Unit {0}
-IsFed (Err refusals.Full) = Unit {0}
-IsFed (Err refusals.Exhausted) = Unit {0}
-IsFed (Err (refusals.Journal fault)) = Unit {0}
+IsFed answer = Unit {0}
 
 -- ---- one node
 
@@ -123,25 +116,14 @@ IsAnswered asked kept (Err refusal) = ⊥
 abbrev pub IsNoDigest : Refusal → Type 0
 IsNoDigest refusals.Full = Unit {0}
 IsNoDigest refusals.Memory = Unit {0}
-IsNoDigest (refusals.Frame fault) = ⊥
-IsNoDigest refusals.Halted = ⊥
-IsNoDigest (refusals.Disk excuse) = ⊥
-IsNoDigest (refusals.Conflict client) = ⊥
-IsNoDigest refusals.Exhausted = ⊥
-IsNoDigest (refusals.Journal fault) = ⊥
+IsNoDigest refusal = ⊥
 
 -- what the digest of what is kept comes to at a peer, by what that one keeps
 abbrev pub AskKept : List Op → List Op → Result Out Refusal → Type 0
 AskKept kept other (Ok out) =
     IsDigestWithinLimit (digest kept) × IsAnswered (digest kept) other (Ok out)
 AskKept kept other (Err refusals.Full) = max_octets < length (spelling (digest kept))
-AskKept kept other (Err (refusals.Frame fault)) = ⊥
-AskKept kept other (Err refusals.Halted) = ⊥
-AskKept kept other (Err (refusals.Disk excuse)) = ⊥
-AskKept kept other (Err (refusals.Conflict client)) = ⊥
-AskKept kept other (Err refusals.Exhausted) = ⊥
-AskKept kept other (Err (refusals.Journal fault)) = ⊥
-AskKept kept other (Err refusals.Memory) = ⊥
+AskKept kept other answer = ⊥
 
 -- ---- nodes in their places
 
@@ -188,19 +170,13 @@ abbrev pub OwnAnswered : {D : Type 0} {G : Ghosts D} → List (State G) → List
     → List (State G) → List (List Op) → Answer → Type 0
 OwnAnswered olds deltas i step news next (Node answer) =
     StepsAt olds i step (said answer) news × Join deltas (made_of (said answer)) next
-OwnAnswered olds deltas i step news next (Views views topics) = ⊥
-OwnAnswered olds deltas i step news next (Records count) = ⊥
-OwnAnswered olds deltas i step news next (Row answers) = ⊥
-OwnAnswered olds deltas i step news next Nothing = ⊥
+OwnAnswered olds deltas i step news next answer = ⊥
 
 -- the answer to a delta or a compaction
 abbrev pub StepAnswered : {D : Type 0} {G : Ghosts D} → List (State G) → ℕ → Step → List (State G)
     → Answer → Type 0
 StepAnswered olds i step news (Node answer) = StepsAt olds i step (said answer) news
-StepAnswered olds i step news (Views views topics) = ⊥
-StepAnswered olds i step news (Records count) = ⊥
-StepAnswered olds i step news (Row answers) = ⊥
-StepAnswered olds i step news Nothing = ⊥
+StepAnswered olds i step news answer = ⊥
 
 -- a field of which nothing is known but its list
 abbrev pub listing : List (List Op) → Field
@@ -213,40 +189,28 @@ RowAnswered olds deltas i calls news next (Row answers) =
     (called : List Step) × AreStepsOf (listing deltas) calls called
     × RowAt olds i called (map said answers) news
     × Join deltas (made_of_all (map said answers)) next
-RowAnswered olds deltas i calls news next (Node answer) = ⊥
-RowAnswered olds deltas i calls news next (Views views topics) = ⊥
-RowAnswered olds deltas i calls news next (Records count) = ⊥
-RowAnswered olds deltas i calls news next Nothing = ⊥
+RowAnswered olds deltas i calls news next answer = ⊥
 
 -- the answer to a restart
 abbrev pub RestartAnswered : {D : Type 0} {G : Ghosts D} → List (State G) → ℕ → ℕ → List (State G)
     → Answer → Type 0
 RestartAnswered olds i kept news (Records count) =
     Moves olds i (λ old new. StartsAgain old kept count new) news
-RestartAnswered olds i kept news (Node answer) = ⊥
-RestartAnswered olds i kept news (Row answers) = ⊥
-RestartAnswered olds i kept news (Views views topics) = ⊥
-RestartAnswered olds i kept news Nothing = ⊥
+RestartAnswered olds i kept news answer = ⊥
 
 -- the answer if a failure is arranged
 abbrev pub FailAnswered : {D : Type 0} {G : Ghosts D} → List (State G) → ℕ → ℕ → Bool
     → List (State G) → Answer → Type 0
 FailAnswered olds i bytes sync news Nothing =
     Moves olds i (λ old new. FailsNext old bytes sync new) news
-FailAnswered olds i bytes sync news (Node answer) = ⊥
-FailAnswered olds i bytes sync news (Views views topics) = ⊥
-FailAnswered olds i bytes sync news (Records count) = ⊥
-FailAnswered olds i bytes sync news (Row answers) = ⊥
+FailAnswered olds i bytes sync news answer = ⊥
 
 -- the answer of a peer in its place to the digest of the i-th node, and the list of deltas after it
 abbrev pub AskAnswered : {D : Type 0} {G : Ghosts D} → List (State G) → List (List Op) → ℕ → ℕ
     → List (List Op) → Answer → Type 0
 AskAnswered olds deltas i j next (Node answer) =
     AskAt olds i j (said answer) × Join deltas (answered_of (said answer)) next
-AskAnswered olds deltas i j next (Views views topics) = ⊥
-AskAnswered olds deltas i j next (Records count) = ⊥
-AskAnswered olds deltas i j next (Row answers) = ⊥
-AskAnswered olds deltas i j next Nothing = ⊥
+AskAnswered olds deltas i j next answer = ⊥
 
 -- the answer of the peer of this number to the digest of the i-th node, and the list of deltas
 -- after it
@@ -257,13 +221,10 @@ PeerAnswered olds deltas i peer next answer =
 
 -- what a node shows
 abbrev pub ShowAnswered : {D : Type 0} {G : Ghosts D} → List (State G) → ℕ → Answer → Type 0
-ShowAnswered olds i (Node answer) = ⊥
-ShowAnswered olds i (Records count) = ⊥
-ShowAnswered olds i (Row answers) = ⊥
-ShowAnswered olds i Nothing = ⊥
 ShowAnswered {G = G} olds i (Views views topics) =
     (state : State G) × (slice_get olds i ≡ Some state)
     × (views ≡ shown state.kept) × (topics ≡ all_retained state.kept)
+ShowAnswered olds i answer = ⊥
 
 -- the delta of this number; the first has number 1
 abbrev pub IsListed : List (List Op) → ℕ → List Op → Type 0
@@ -337,12 +298,7 @@ IsMissing olds deltas (Asks gateway peer) number fault = NoPeer olds peer number
 IsMissing olds deltas (Take gateway delta) number fault = NoDelta deltas delta number fault
 IsMissing olds deltas (AtOnce gateway calls) number fault =
     CallsMissing deltas calls number fault
-IsMissing olds deltas (Frame gateway from bytes now) number fault = fault ≡ stops.Memory
-IsMissing olds deltas (Tick gateway now) number fault = fault ≡ stops.Memory
-IsMissing olds deltas (WriteFails gateway bytes sync) number fault = fault ≡ stops.Memory
-IsMissing olds deltas (Compact gateway) number fault = fault ≡ stops.Memory
-IsMissing olds deltas (Restart gateway kept) number fault = fault ≡ stops.Memory
-IsMissing olds deltas (Show gateway) number fault = fault ≡ stops.Memory
+IsMissing olds deltas event number fault = fault ≡ stops.Memory
 
 -- why the event of this number stops a run
 abbrev pub IsStopped : {D : Type 0} {G : Ghosts D} → List (State G) → List (List Op) → Event → ℕ

@@ -20,9 +20,7 @@ is_below (Broken from) generation = false
 -- a slot of so many bytes is read, it ends with a whole piece, and beside it the other is not read
 abbrev pub leads : SlotContent → ℕ → SlotContent → Bool
 leads (Sealed generation f) size beside = (13 + f.whole == size) && is_below beside generation
-leads Alien size beside = false
-leads Unsealed size beside = false
-leads (Broken from) size beside = false
+leads content size beside = false
 
 -- all is synced, the slot in use is the one that is read and ends with a whole piece, and there is
 -- no fault

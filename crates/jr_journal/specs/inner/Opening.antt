@@ -4,7 +4,7 @@ use Rattle.rep_op.specs.declared.op.Op.{Op}
 use Rattle.jr_disk.specs.declared.disk.Slot.{Slot}
 use Rattle.jr_disk.specs.declared.disk.Slot.TheVariants.{First, Second}
 use Rattle.jr_journal.specs.declared.content.SlotContent.{SlotContent}
-use Rattle.jr_journal.specs.declared.content.SlotContent.TheVariants.{Alien, Unsealed, Sealed, Broken}
+use Rattle.jr_journal.specs.declared.content.SlotContent.TheVariants.{Sealed}
 use Rattle.jr_journal.specs.declared.opening.Opening.{Opening}
 use Rattle.jr_journal.specs.declared.opening.Opening.TheVariants.{New, Held}
 use Rattle.jr_disk.specs.Disk.{Slots, Image, at, replaced, bytes_of, cut_to}
@@ -19,9 +19,7 @@ synced_image i = record { first = synced_bytes i.first; second = synced_bytes i.
 -- the journal goes on in a slot of so many bytes, if it is sealed
 abbrev pub held_of : Slot → SlotContent → ℕ → Opening
 held_of slot (Sealed m f) size = Held slot m f size
-held_of slot Alien size = New
-held_of slot Unsealed size = New
-held_of slot (Broken at) size = New
+held_of slot content size = New
 
 -- what is to be done with two slots of so many bytes that have no fault
 abbrev pub opening_of : SlotContent → ℕ → SlotContent → ℕ → Opening

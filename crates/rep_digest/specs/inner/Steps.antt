@@ -3,7 +3,7 @@ use Rattle.std.specs.Prelude.{◌≡◌, ℕ, ◌+◌, ◌==◌, if◌then◌els
 use Rattle.std.specs.List.{filter_map}
 use Rattle.rep_op.specs.declared.op.Put.{Put}
 use Rattle.rep_op.specs.declared.op.Op.{Op}
-use Rattle.rep_op.specs.declared.op.Op.TheVariants.{Session as OfSession, Put as OfPut, Ack, Retain as OfRetain}
+use Rattle.rep_op.specs.declared.op.Op.TheVariants.{Ack}
 use Rattle.rep_op.specs.Sets.{same_client}
 use Rattle.rep_digest.specs.declared.groups.Acknowledged.{Acknowledged}
 use Rattle.rep_model.specs.declared.view.ClientView.{ClientView}
@@ -18,11 +18,9 @@ use Rattle.rep_digest.specs.Digests.{has_ranges, numbers_from, entry_of_topic}
 
 -- the client's acknowledgements in one operation
 abbrev pub acknowledged_by : List ℕ → Op → Option Acknowledged
-acknowledged_by c (OfSession d stamp counter change) = None
-acknowledged_by c (OfPut d put) = None
 acknowledged_by c (Ack d origin first last) =
     if same_client c d then Some (record { origin = origin; first = first; last = last }) else None
-acknowledged_by c (OfRetain topic kept) = None
+acknowledged_by c op = None
 
 -- the client's acknowledgements in these operations
 abbrev pub group : List Op → List ℕ → List Acknowledged

@@ -17,11 +17,9 @@ first_of_two (Some a) b = Some a
 
 -- the client's acknowledgements in one operation
 abbrev pub range_in : List ℕ → Op → Option Range
-range_in c (OfSession d stamp counter change) = None
-range_in c (OfPut d put) = None
 range_in c (Ack d origin first last) =
     if same_client c d then Some (record { origin = origin; first = first; last = last }) else None
-range_in c (OfRetain topic kept) = None
+range_in c op = None
 
 -- whether the range has the name of the put
 abbrev pub covers : ℕ × ℕ → Range → Bool

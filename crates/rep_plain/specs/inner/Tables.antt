@@ -42,11 +42,9 @@ pub record AreMovable (entries fresh : List (List ℕ × Entry)) : Type 0 where
 
 -- whether the range of acknowledgements is within the operation
 abbrev pub has_range : List ℕ → ℕ → ℕ → ℕ → Op → Bool
-has_range c origin first last (OfSession d stamp counter change) = false
-has_range c origin first last (OfPut d put) = false
-has_range c origin first last (OfRetain topic kept) = false
 has_range c origin first last (Ack d o start end) =
     same_client c d && (origin == o) && nat_le start first && nat_le last end
+has_range c origin first last op = false
 
 -- whether the list has the operation's name; it has none of a topic
 abbrev pub is_known : List Op → Op → Bool

@@ -97,12 +97,10 @@ id_awaited awaited = 0
 
 -- A frame that moves the exchange on, or ends it well, has the message id of what is awaited.
 abbrev pub OnProgress : Turn → Type 0 → Type 0
-OnProgress turns.Stay P = Unit {0}
 OnProgress (turns.Publish topic) P = P
 OnProgress (turns.Release id) P = P
 OnProgress (turns.End outcomes.Accepted) P = P
-OnProgress (turns.End outcomes.Refused) P = Unit {0}
-OnProgress (turns.End outcomes.Unanswered) P = Unit {0}
+OnProgress turn P = Unit {0}
 
 -- A repeated frame says that it was sent before, section 5.3.4.
 abbrev pub repeated_bits : ℕ → ℕ

@@ -8,10 +8,8 @@ group_of to = (to.host % 65536 * 31 + to.port) % 4096
 
 -- whether a datagram is a DISCONNECT without a duration: its length, 2, and its kind, 24
 abbrev pub is_disconnect : List ℕ → Bool
-is_disconnect [] = false
-is_disconnect (a ∷ []) = false
 is_disconnect (a ∷ (b ∷ [])) = (a == 2) && (b == 24)
-is_disconnect (a ∷ (b ∷ (c ∷ rest))) = false
+is_disconnect octets = false
 
 -- the kind of a message: its second octet, or its fourth after a length of three octets
 abbrev pub kind_of : List ℕ → ℕ
