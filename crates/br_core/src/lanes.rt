@@ -10,7 +10,7 @@ ghost use Rattle.br_core.specs.inner.Parts as inner;
 use crate::action::Action;
 use crate::item::Item;
 use crate::settings::{LaneSettings, Settings, UpName};
-use crate::sides::{does, is_up, next_id, once_more, takes};
+use crate::sides::{does, is_broker_up, next_id, once_more, takes};
 use crate::state::{
     Bridge, KEEP_ALIVE, LAST_NUMBER, Lane, MAX_BODY, MAX_IDS, Moment, Named, Open, Phase, SLEEP,
     TRIES,
@@ -167,8 +167,8 @@ fn name_at(id: u16, ids: &[Named]) -> Option<usize>
 }
 
 /// Where a name is among those of the lane.
-fn place_of(name: &[u8], names: &[UpName]) -> Option<usize>
-    ensures { result ≡ spec.place_of name.now names.now }
+fn name_place(name: &[u8], names: &[UpName]) -> Option<usize>
+    ensures { result ≡ spec.name_place name.now names.now }
 {
     for at in 0..names.len() {
         if names[at].name.as_slice() == name {
@@ -179,12 +179,12 @@ fn place_of(name: &[u8], names: &[UpName]) -> Option<usize>
 }
 
 /// Which of the names a topic field of PUBLISH means (section 5.3.11).
-fn name_of(kind: TopicIdType, topic: u16, names: &[UpName], ids: &[Named]) -> Option<usize>
-    ensures { result ≡ spec.name_of kind topic names.now ids.now }
+fn name_meant(kind: TopicIdType, topic: u16, names: &[UpName], ids: &[Named]) -> Option<usize>
+    ensures { result ≡ spec.name_meant kind topic names.now ids.now }
 {
     match kind {
         TopicIdType::Normal => name_at(topic, ids),
-        TopicIdType::Short => place_of(&[(topic / 256) as u8, (topic % 256) as u8], names),
+        TopicIdType::Short => name_place(&[(topic / 256) as u8, (topic % 256) as u8], names),
         TopicIdType::Predefined | TopicIdType::Reserved => None,
     }
 }
@@ -205,21 +205,21 @@ fn item_of(scene: Scene<'_>, number: u64, qos: Qos, reading: Reading<'_>) -> Res
 }
 
 /// Whether the spool can keep these octets, if there is one. No gateway has more.
-fn fits(settings: &Settings, body: &Octets) -> bool
-    ensures { result ≡ spec.fits settings.now body.now }
+fn body_fits(settings: &Settings, body: &Octets) -> bool
+    ensures { result ≡ spec.body_fits settings.now body.now }
 {
     !settings.spools || body.len() <= MAX_BODY
 }
 
 /// Whether one more reading is taken, which has these octets.
-fn has_room(settings: &Settings, body: &Octets, bridge: &Bridge) -> bool
-    ensures { result ≡ spec.has_room settings.now body.now bridge.now }
+fn reading_has_room(settings: &Settings, body: &Octets, bridge: &Bridge) -> bool
+    ensures { result ≡ spec.reading_has_room settings.now body.now bridge.now }
 {
-    fits(settings, body) && bridge.waiting.len() < settings.room && bridge.number < LAST_NUMBER
+    body_fits(settings, body) && bridge.waiting.len() < settings.room && bridge.number < LAST_NUMBER
 }
 
 /// A reading of this quality of service gets the next number.
-fn counted(
+fn reading_counted(
     settings: &Settings,
     scene: Scene<'_>,
     qos: Qos,
@@ -227,7 +227,7 @@ fn counted(
     bridge: &mut Bridge,
 ) -> Result<(), NoMemory>
     requires { bridge.old.number < LAST_NUMBER }
-    ensures { OnOk result (bridge.new ≡ spec.counted settings.now scene.entry.place qos
+    ensures { OnOk result (bridge.new ≡ spec.reading_counted settings.now scene.entry.place qos
         reading.entry.up.now reading.entry.body.now bridge.old) }
 {
     let item = item_of(scene, bridge.number, qos, reading)?;
@@ -293,7 +293,7 @@ fn brings(
         reading.entry.name reading.entry.up.now reading.entry.topic_id reading.entry.msg_id
         reading.entry.body.now lane bridge.old) }
 {
-    if !has_room(settings, reading.body, bridge) {
+    if !reading_has_room(settings, reading.body, bridge) {
         return falls_asleep(scene.place, lane, bridge);
     }
     let number = bridge.number;
@@ -306,7 +306,7 @@ fn brings(
     };
     drop(mem::replace(&mut lane.last, Some(held)));
     seated(scene.place, lane, bridge);
-    counted(settings, scene, Qos::One, reading, bridge)?;
+    reading_counted(settings, scene, Qos::One, reading, bridge)?;
     stored(settings, scene, number, Qos::One, reading, bridge)
 }
 
@@ -391,10 +391,10 @@ fn brings_if(
 
 /// Whether a reading of quality of service 0 goes on: the broker is there, and there is room. Else
 /// it takes no number, which the spool would have to count.
-fn goes_on(settings: &Settings, body: &Octets, bridge: &Bridge) -> bool
-    ensures { result ≡ spec.goes_on settings.now body.now bridge.now }
+fn reading_goes_on(settings: &Settings, body: &Octets, bridge: &Bridge) -> bool
+    ensures { result ≡ spec.reading_goes_on settings.now body.now bridge.now }
 {
-    is_up(bridge.side) && has_room(settings, body, bridge)
+    is_broker_up(bridge.side) && reading_has_room(settings, body, bridge)
 }
 
 /// A reading of quality of service 0 goes on, if it may.
@@ -409,10 +409,10 @@ fn passes(
     ensures { OnOk result (bridge.new ≡ spec.passes settings.now scene.entry.place
         reading.entry.up.now reading.entry.body.now lane bridge.old) }
 {
-    let passes_now = goes_on(settings, reading.body, bridge);
+    let passes_now = reading_goes_on(settings, reading.body, bridge);
     seated(scene.place, lane, bridge);
     if passes_now {
-        counted(settings, scene, Qos::Zero, reading, bridge)
+        reading_counted(settings, scene, Qos::Zero, reading, bridge)
     } else {
         Ok(())
     }
@@ -430,8 +430,8 @@ fn refusal_at(phase: Phase) -> u8
 }
 
 /// The code that refuses a topic: after code 2 the gateway registers an id again.
-fn refusal(kind: TopicIdType, phase: Phase) -> u8
-    ensures { result ≡ spec.refusal kind phase }
+fn refusal_code(kind: TopicIdType, phase: Phase) -> u8
+    ensures { result ≡ spec.refusal_code kind phase }
 {
     match kind {
         TopicIdType::Normal => 2,
@@ -454,7 +454,7 @@ fn unknown(
     let qos = message.flags.qos();
     match qos {
         FieldQos::One => {
-            let code = refusal(message.flags.kind(), lane.phase);
+            let code = refusal_code(message.flags.kind(), lane.phase);
             let frame = Frame::PubAck {
                 topic_id: message.topic_id,
                 msg_id: message.msg_id,
@@ -494,7 +494,7 @@ fn published(
 }
 
 /// PUBLISH (section 6.6).
-fn publication(
+fn lane_publication(
     settings: &Settings,
     scene: Scene<'_>,
     message: Message<'_>,
@@ -502,14 +502,14 @@ fn publication(
     bridge: &mut Bridge,
 ) -> Result<(), NoMemory>
     requires { scene.place < length bridge.old.lanes }
-    ensures { OnOk result (bridge.new ≡ spec.publication settings.now scene.entry.own.now
+    ensures { OnOk result (bridge.new ≡ spec.lane_publication settings.now scene.entry.own.now
         scene.entry.place message.entry.flags message.entry.topic_id message.entry.msg_id
         message.entry.body.now lane bridge.old) }
 {
     let kind = message.flags.kind();
     let topic_id = message.topic_id;
     let names = scene.own.names.as_slice();
-    let Some(name) = name_of(kind, topic_id, names, lane.ids.as_slice()) else {
+    let Some(name) = name_meant(kind, topic_id, names, lane.ids.as_slice()) else {
         return unknown(scene.place, message, lane, bridge);
     };
     let Some(up) = names.get(name) else {
@@ -565,7 +565,7 @@ fn goes_away(place: usize, m: Moment, mut lane: Lane, bridge: &mut Bridge)
 
 /// REGISTER of one of the names gives its topic id (section 6.10); another name is none of the
 /// lane's. A lane that has as many ids as it holds connects anew.
-fn registered(
+fn name_registered(
     scene: Scene<'_>,
     topic_id: u16,
     msg_id: u16,
@@ -574,11 +574,11 @@ fn registered(
     bridge: &mut Bridge,
 ) -> Result<(), NoMemory>
     requires { scene.place < length bridge.old.lanes }
-    ensures { OnOk result (bridge.new ≡ spec.registered (spec.place_of name.now
+    ensures { OnOk result (bridge.new ≡ spec.name_registered (spec.name_place name.now
         scene.entry.own.now.names) scene.entry.place scene.entry.m topic_id msg_id lane
         bridge.old) }
 {
-    let Some(at) = place_of(name.as_slice(), scene.own.names.as_slice()) else {
+    let Some(at) = name_place(name.as_slice(), scene.own.names.as_slice()) else {
         let code = 3;
         let frame = Frame::RegAck {
             topic_id,
@@ -626,13 +626,13 @@ fn awake_frame(
                 msg_id: *msg_id,
                 body,
             };
-            publication(settings, scene, message, lane, bridge)
+            lane_publication(settings, scene, message, lane, bridge)
         }
         Frame::Register {
             topic_id,
             msg_id,
             name,
-        } => registered(scene, *topic_id, *msg_id, name, lane, bridge),
+        } => name_registered(scene, *topic_id, *msg_id, name, lane, bridge),
         Frame::Disconnect { .. } => {
             goes_away(scene.place, scene.m, lane, bridge);
             Ok(())
@@ -668,7 +668,7 @@ fn connected(
 }
 
 /// SUBACK 0 of the name gives its topic id, unless the name is short, and goes on to the next.
-fn subscribed(
+fn lane_subscribed(
     scene: Scene<'_>,
     next: usize,
     topic_id: u16,
@@ -678,7 +678,8 @@ fn subscribed(
 ) -> Result<(), NoMemory>
     requires seat { scene.place < length bridge.old.lanes }
     requires fits { next < LAST_NUMBER }
-    ensures { OnOk result (bridge.new ≡ spec.subscribed scene.entry.own.now scene.entry.place next
+    ensures { OnOk result
+        (bridge.new ≡ spec.lane_subscribed scene.entry.own.now scene.entry.place next
         scene.entry.m topic_id code lane bridge.old) }
 {
     if code != 0 {
@@ -721,7 +722,7 @@ fn naming_frame(
             ..
         } => {
             if is_its(next, *msg_id, &lane) {
-                subscribed(scene, next, *topic_id, *code, lane, bridge)
+                lane_subscribed(scene, next, *topic_id, *code, lane, bridge)
             } else {
                 drop(lane);
                 Ok(())
@@ -733,8 +734,8 @@ fn naming_frame(
 
 /// What comes shows that the gateway is there: the next sign of life is due later, if one was asked
 /// for.
-fn heard(m: Moment, mut lane: Lane) -> Lane
-    ensures { result ≡ spec.heard m lane }
+fn lane_heard(m: Moment, mut lane: Lane) -> Lane
+    ensures { result ≡ spec.lane_heard m lane }
 {
     if lane.tries != 0 {
         lane.tries = 0;
@@ -763,7 +764,7 @@ pub(crate) fn lane_frame(
         }
         Phase::Connecting => connected(scene, frame, lane, bridge),
         Phase::Subscribing { next } => naming_frame(settings, scene, next, frame, lane, bridge),
-        Phase::Listening => awake_frame(settings, scene, frame, heard(scene.m, lane), bridge),
+        Phase::Listening => awake_frame(settings, scene, frame, lane_heard(scene.m, lane), bridge),
     }
 }
 
@@ -784,9 +785,10 @@ fn pings(
 }
 
 /// What is due is sent again.
-fn again(scene: Scene<'_>, lane: Lane, bridge: &mut Bridge) -> Result<(), NoMemory>
+fn lane_again(scene: Scene<'_>, lane: Lane, bridge: &mut Bridge) -> Result<(), NoMemory>
     requires { scene.place < length bridge.old.lanes }
-    ensures { OnOk result (bridge.new ≡ spec.again lane.phase scene.entry.own.now scene.entry.place
+    ensures { OnOk result
+        (bridge.new ≡ spec.lane_again lane.phase scene.entry.own.now scene.entry.place
         scene.entry.m lane bridge.old) }
 {
     let phase = lane.phase;
@@ -831,7 +833,7 @@ pub(crate) fn lane_tick(scene: Scene<'_>, lane: Lane, bridge: &mut Bridge) -> Re
     if TRIES <= lane.tries {
         return gives_up(scene.place, scene.m, lane, bridge);
     }
-    again(scene, lane, bridge)
+    lane_again(scene, lane, bridge)
 }
 
 /// A lane that may not acknowledge falls asleep (section 6.14).
@@ -875,8 +877,8 @@ pub(crate) fn wakes(scene: Scene<'_>, lane: Lane, bridge: &mut Bridge) -> Result
 }
 
 /// Whether the gateway takes an acknowledgement now.
-fn is_awake(phase: Phase) -> bool
-    ensures { result ≡ spec.is_awake phase }
+fn is_lane_awake(phase: Phase) -> bool
+    ensures { result ≡ spec.is_lane_awake phase }
 {
     match phase {
         Phase::Subscribing { .. } | Phase::Listening => true,
@@ -892,14 +894,15 @@ fn answered(
     bridge: &mut Bridge,
 ) -> Result<(), NoMemory>
     requires { place < length bridge.old.lanes }
-    ensures { OnOk result (bridge.new ≡ spec.answered_at (spec.is_awake lane.phase) place held lane
+    ensures { OnOk result
+        (bridge.new ≡ spec.answered_at (spec.is_lane_awake lane.phase) place held lane
         bridge.old) }
 {
     let topic_id = held.topic_id;
     let msg_id = held.msg_id;
     held.is_answered = true;
     drop(mem::replace(&mut lane.last, Some(held)));
-    if is_awake(lane.phase) {
+    if is_lane_awake(lane.phase) {
         let code = 0;
         let frame = Frame::PubAck {
             topic_id,
@@ -933,7 +936,7 @@ fn answered_if(
 ) -> Result<(), NoMemory>
     requires { place < length bridge.old.lanes }
     ensures { OnOk result (bridge.new ≡ (if is_due && not held.is_answered
-        then spec.answered_at (spec.is_awake lane.phase) place held lane bridge.old
+        then spec.answered_at (spec.is_lane_awake lane.phase) place held lane bridge.old
         else bridge.old)) }
 {
     if is_due && !held.is_answered {

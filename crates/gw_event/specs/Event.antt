@@ -9,11 +9,11 @@ use Rattle.rep_op.specs.declared.fault.OpsFault.{OpsFault}
 use Rattle.rep_op.specs.declared.fault.OpsFault.TheVariants as ops_faults
 use Rattle.rep_op.specs.Orders.{subject_of}
 use Rattle.rep_op.specs.Values.{AreValues}
-use Rattle.rep_ops.specs.Making.{AreApart, IsDeltaOf, IsRefusal}
-use Rattle.rep_ops.specs.Spelling.{max_octets, IsWithinLimit}
+use Rattle.rep_ops.specs.Making.{HaveOwnNames, IsDeltaOf, IsRefusal}
+use Rattle.rep_ops.specs.Spelling.{max_octets, IsDeltaWithinLimit}
 use Rattle.rep_answer.specs.Answers.{IsAnswer}
 use Rattle.rep_digest.specs.Digests.{Digested, digest}
-use Rattle.rep_digest.specs.Spelling.{spelling, IsWithinLimit as IsDigestWithinLimit}
+use Rattle.rep_digest.specs.Spelling.{digest_spelling, IsDigestWithinLimit}
 use Rattle.rep_model.specs.declared.fault.Limit.{Limit}
 use Rattle.rep_model.specs.Keep.{keep}
 use Rattle.rep_model.specs.Views.{view, is_named}
@@ -21,7 +21,7 @@ use Rattle.rep_model.specs.Taking.{AllAgree}
 use Rattle.rep_model.specs.Limits.{first_passed}
 use Rattle.rep_model.specs.Held.{IsHeld}
 use Rattle.jr_journal.specs.declared.fault.JournalFault.TheVariants.{Foreign}
-use Rattle.jr_disk.specs.declared.disk.Plan.{Plan as Failure}
+use Rattle.jr_disk.specs.declared.disk.Failure.{Failure}
 use Rattle.jr_disk.specs.Disk.{image}
 use Rattle.jr_journal.specs.Journals.{last_generation}
 use Rattle.sn_plan.specs.declared.plan.Plan.{Plan}
@@ -74,7 +74,7 @@ IsRefused taken delta fault = ⊥
 -- the delta can be written: its numbers fit their octets, and its octets are at most 8 MiB
 pub record IsWritable (delta : List Op) : Type 0 where
   pub values : AreValues delta
-  pub limit : IsWithinLimit delta
+  pub limit : IsDeltaWithinLimit delta
 
 -- nothing changed, and no delta was made
 pub record NothingHappens (old new : Gateway) (made : List (List Op)) : Type 0 where
@@ -102,7 +102,7 @@ IsMade (op ∷ ops) old plan (Some delta) new made =
 abbrev pub IsCarriedOut : Gateway → Plan → Out → Gateway → List (List Op) → Type 0
 IsCarriedOut old plan out new made =
     (out ≡ record (only_sends plan.sends) { made = out.made })
-    × IsMade plan.ops old plan out.made new made × AreApart plan.ops
+    × IsMade plan.ops old plan out.made new made × HaveOwnNames plan.ops
 
 -- the plan for the occasion, by what the gateway has taken; none if a number is after the last
 abbrev pub IsPlan : Gateway → Occasion → ℕ → Option Plan → Type 0
@@ -131,10 +131,10 @@ pub record IsTorn (old : Gateway) (delta : List Op) (new : Gateway)
 pub record IsDropped (old : Gateway) (occasion : Occasion) (plan : Plan) (excuse : Out)
     (new : Gateway) (made : List (List Op)) : Type 0 where
   pub some : plan.ops ≢ []
-  pub apart : AreApart plan.ops
+  pub apart : HaveOwnNames plan.ops
   pub delta : List Op
   pub is_delta : IsDeltaOf plan.ops delta
-  pub limit : IsWithinLimit delta
+  pub limit : IsDeltaWithinLimit delta
   pub torn : IsTorn old delta new made
   pub excused : IsExcuse occasion plan.sends excuse.sends
   pub sends : excuse ≡ only_sends excuse.sends
@@ -226,7 +226,7 @@ DigestStep old (Ok out) new =
     IsDigestWithinLimit (digest old.taken)
     × (out ≡ record (only_sends []) { digest = Some (digest old.taken) }) × (new ≡ old)
 DigestStep old (Err refusals.Full) new =
-    (max_octets < length (spelling (digest old.taken))) × (new ≡ old)
+    (max_octets < length (digest_spelling (digest old.taken))) × (new ≡ old)
 DigestStep old (Err refusal) new = ⊥
 
 -- A gateway asks for what its digest does not cover of what must be kept of the set.

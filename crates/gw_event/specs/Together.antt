@@ -3,7 +3,7 @@ use Rattle.std.specs.Prelude.{◌≡◌, ◌⊎◌, List, [], ◌∷◌, ◌++�
 use Rattle.std.specs.List.{AllByRecursion}
 use Rattle.std.specs.Option.{option_to_list}
 use Rattle.rep_op.specs.declared.op.Op.{Op}
-use Rattle.jr_disk.specs.declared.disk.Plan.{Plan as Failure}
+use Rattle.jr_disk.specs.declared.disk.Failure.{Failure}
 use Rattle.gw_answer.specs.declared.out.Out.{Out}
 use Rattle.gw_answer.specs.declared.refusal.Refusal.{Refusal}
 use Rattle.gw_answer.specs.declared.refusal.Refusal.TheVariants as refusals

@@ -2,7 +2,7 @@
 
 ghost use Rattle.std.specs.Prelude.{◌≡◌, ◌≢◌, ◌≤◌, ℕ, Bool, true, IfOk, IfErr, MatchResult, Err, map};
 ghost use Rattle.std.specs.Arc.{arc_value};
-ghost use Rattle.gw_answer.specs.Answers.{said, told};
+ghost use Rattle.gw_answer.specs.Answers.{said, refusal_of_fault};
 ghost use Rattle.gw_answer.specs.declared.step.Step.{Step as AnyStep};
 ghost use Rattle.gw_shift.specs.Calling.{Made, MadeInRow};
 ghost use Rattle.gw_link.specs.Adding.{Adds};
@@ -85,7 +85,7 @@ pub fn call<T: Wait, R: Replica, D: Disk + Drop>(
             work.stage.note_made(number);
             (pass, Ok(Ok(out)))
         }
-        Err((pass, fault)) => match reached(fault) {
+        Err((pass, fault)) => match refusal_or_end(fault) {
             Ok(refusal) => (pass, Ok(Err(refusal))),
             Err(end) => (pass, Err(end)),
         },
@@ -151,7 +151,7 @@ fn give_back(stage: &Stage, count: usize) {
 fn unreached(fault: CallFault) -> End
     ensures { CannotCall result }
 {
-    match reached(fault) {
+    match refusal_or_end(fault) {
         Err(end) => end,
         Ok(refusal) => {
             drop(refusal);
@@ -161,7 +161,7 @@ fn unreached(fault: CallFault) -> End
 }
 
 /// What a refused call means: the gateway's refusal, or why the call did not reach it.
-fn reached(fault: CallFault) -> Result<NodeFault, End>
+fn refusal_or_end(fault: CallFault) -> Result<NodeFault, End>
     ensures { result ≡ reached_by fault }
 {
     match fault {
@@ -174,9 +174,9 @@ fn reached(fault: CallFault) -> Result<NodeFault, End>
 
 /// What a refusal of the gateway means for what it was asked: that is dropped. Only want of memory
 /// ends anything.
-pub fn dropped(fault: &NodeFault) -> Result<(), NoMemory>
-    ensures { MatchResult result (λ _. told fault.now ≢ refusals.Memory)
-        (λ _. told fault.now ≡ refusals.Memory) }
+pub fn only_memory(fault: &NodeFault) -> Result<(), NoMemory>
+    ensures { MatchResult result (λ _. refusal_of_fault fault.now ≢ refusals.Memory)
+        (λ _. refusal_of_fault fault.now ≡ refusals.Memory) }
 {
     match fault {
         NodeFault::Memory => Err(NoMemory),
@@ -188,14 +188,14 @@ pub fn dropped(fault: &NodeFault) -> Result<(), NoMemory>
 
 /// Drops what the gateway refused. Only want of memory ends what asked.
 pub(crate) fn drop_refusal(fault: NodeFault) -> Result<(), End> {
-    let is_dropped = dropped(&fault);
+    let is_dropped = only_memory(&fault);
     drop(fault);
     Ok(is_dropped?)
 }
 
 /// Whether the gateway refused since it is halted.
 pub fn is_halted(fault: &NodeFault) -> bool
-    ensures { result ≡ says_halted (Err (told fault.now)) }
+    ensures { result ≡ says_halted (Err (refusal_of_fault fault.now)) }
 {
     matches!(fault, NodeFault::Halted)
 }

@@ -28,7 +28,7 @@ use std::sync::{Arc, Wait};
 use std::time::Clock;
 
 /// How often a read may find nothing before the other end has said its number: some ten seconds.
-const MOST_SILENCE: u32 = 1_000;
+const MOST_SILENT_READS: u32 = 1_000;
 
 /// How many deltas are taken in a row at most.
 const MOST_IN_A_ROW: usize = 64;
@@ -79,7 +79,7 @@ fn wait_on<S: Drop>(link: &mut Link<S>, second: u64) -> Result<(), End> {
         return Err(End::Lost);
     }
     link.silence = link.silence.saturating_add(1);
-    if link.other.is_none() && link.silence > MOST_SILENCE {
+    if link.other.is_none() && link.silence > MOST_SILENT_READS {
         return Err(End::Lost);
     }
     match link.heard {

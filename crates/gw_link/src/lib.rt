@@ -37,7 +37,7 @@ mod talking;
 mod trouble;
 mod work;
 
-pub use calling::{End, call, dropped, is_halted};
+pub use calling::{End, call, is_halted, only_memory};
 pub use counts::{LinkCounts, LinkNumbers};
 pub use link::{Link, Origin};
 pub use relay::Relay;

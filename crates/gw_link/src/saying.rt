@@ -30,7 +30,7 @@ const AT_ONCE: usize = 64;
 
 /// How often a read finds nothing, ten milliseconds each, before that counts as a quiet time: some
 /// thirty seconds.
-const MOST_QUIET: u32 = 3_000;
+const MOST_QUIET_READS: u32 = 3_000;
 
 /// How many quiet times there are before this end says its digest again: some five minutes of reads
 /// that find nothing. That asks for what the other end took from a third gateway meanwhile,
@@ -274,7 +274,7 @@ fn take_place<T: Wait, S: Drop>(
 fn is_to_speak<S: Drop>(link: &mut Link<S>, changes: u64, second: u64) -> bool {
     let mut is_due = changes != link.changes;
     if link.is_told() {
-        if link.silence >= MOST_QUIET {
+        if link.silence >= MOST_QUIET_READS {
             link.silence = 0;
             link.repeats = link.repeats.saturating_add(1);
             is_due = true;

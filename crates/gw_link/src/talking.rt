@@ -6,7 +6,7 @@ use crate::calling::End;
 use crate::counts::counts_of;
 use crate::hearing::{answer, hear_all, listen, second_of};
 use crate::link::Link;
-use crate::outgoing::pump;
+use crate::outgoing::write_some;
 use crate::relay::Relay;
 use crate::saying::{greet, hand_all, tell_all};
 use crate::stage::Phase;
@@ -19,7 +19,7 @@ use std::sync::Wait;
 use std::time::Clock;
 
 /// How many milliseconds a link that may make no more calls waits for the end of the shift.
-const A_MOMENT: u64 = 20;
+const CLOSING_WAIT_MS: u64 = 20;
 
 /// Talks over a link until the shift is over. `Full` says that each delta of the shift was told or
 /// waits to go out, and the link stays open: what its stream has not taken goes out in the next
@@ -131,7 +131,7 @@ fn tell<T: Wait, R: Replica, D: Disk + Drop, S: Write + Drop>(
     if phase == Phase::Quiet && link.stalls > 0 {
         return Ok(());
     }
-    pump(link, phase)
+    write_some(link, phase)
 }
 
 /// Reads on, or waits if no more calls may be made. At the shift's end that is an end too. Runs in
@@ -149,7 +149,7 @@ fn wait_or_listen<T: Wait + Clock, R: Replica, D: Disk + Drop, S: Read + Drop>(
         Ok(()) => listen(work.alloc, link, piece, second_of(work.rt)),
         Err(End::Full) => {
             work.stage.close(work.rt);
-            work.stage.wait(work.rt, Phase::Closing, A_MOMENT);
+            work.stage.wait(work.rt, Phase::Closing, CLOSING_WAIT_MS);
             Ok(())
         }
         Err(end) => Err(end),

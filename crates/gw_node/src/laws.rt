@@ -16,7 +16,7 @@ ghost use Rattle.gw_answer.specs.declared.step.Step.{Step};
 ghost use Rattle.gw_node.specs.Parts.{State};
 ghost use Rattle.gw_node.specs.Calls.{StepCall};
 ghost use Rattle.gw_node.specs.Carrying.{StepCarriesOn};
-ghost use Rattle.gw_node.specs.Taking.{IsBetween, IsWhole, StandsFor};
+ghost use Rattle.gw_node.specs.Taking.{IsBetween, IsWhole, RecoversTo};
 ghost use Rattle.gw_node.specs.Opening.{FitInTurn, HasMisfit, IsOpenFault, IsDiskFault};
 
 use jr_journal::Disk;
@@ -28,16 +28,16 @@ use jr_journal::Disk;
 /// function does nothing; its contract is the law.
 pub fn opening_laws()
     ensures room { (gateway : ℕ) (S : List Op) (refused : List (List Op)) (i : Image)
-        → StandsFor gateway S refused i → HasMisfit (records gateway i) refusals.Full → ⊥ }
+        → RecoversTo gateway S refused i → HasMisfit (records gateway i) refusals.Full → ⊥ }
     ensures agreement { (gateway : ℕ) (S : List Op) (refused : List (List Op)) (i : Image)
-        (of : Subject) → StandsFor gateway S refused i → HasMisfit (records gateway i)
+        (of : Subject) → RecoversTo gateway S refused i → HasMisfit (records gateway i)
         (refusals.Conflict of) → ⊥ }
     ensures memory { (gateway : ℕ) (S : List Op) (refused : List (List Op)) (i : Image)
-        (refusal : Refusal) → StandsFor gateway S refused i → IsOpenFault gateway i refusal
+        (refusal : Refusal) → RecoversTo gateway S refused i → IsOpenFault gateway i refusal
         → (IsDiskFault refusal → ⊥) → refusal ≡ refusals.Memory }
     ensures begins { (gateway : ℕ) (i : Image) → fault_of gateway i ≡ None
         → FitInTurn [] (records gateway i) → IsConsistent (all_of (records gateway i))
-        → StandsFor gateway (all_of (records gateway i)) [] i }
+        → RecoversTo gateway (all_of (records gateway i)) [] i }
 {}
 
 /// A call by itself is refused one delta. What stands for a set with it counts as the set, or as

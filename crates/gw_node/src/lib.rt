@@ -14,7 +14,7 @@
 //!   state, in this order.
 //! - `row`: several calls with one write. `looking` finds what has something to write, and `ahead`
 //!   carries a call out, but for the write.
-//! - `anew`: the journal is written anew from what is kept, or read anew.
+//! - `rewriting`: the journal is written anew from what is kept, or read anew.
 //! - `retained`: what it retains of topics.
 //! - `laws`: what an opening finds that goes on with what was taken (`opening_laws`), what is said
 //!   of one delta that was refused (`single_refusal`), and which set a node has taken after a call
@@ -36,7 +36,6 @@
 #![tactic(auto)]
 
 mod ahead;
-mod anew;
 mod carrying;
 mod handling;
 mod laws;
@@ -44,6 +43,7 @@ mod looking;
 mod node;
 mod opening;
 mod retained;
+mod rewriting;
 mod row;
 
 pub use gw_answer::{Answer, NodeFault, Out, Refusal, Shares, Step, same_answer, same_step};

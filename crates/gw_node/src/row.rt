@@ -14,10 +14,10 @@ ghost use Rattle.gw_node.specs.Parts.{state_of};
 ghost use Rattle.gw_node.specs.Parts as parts;
 ghost use Rattle.gw_node.specs.inner.Ahead.{IsWriter};
 ghost use Rattle.gw_node.specs.inner.Rows.{WrittenAllAs, OneMore, WentOn, excused, EndedAs, IsFinished, RowCall};
-ghost use Rattle.jr_journal.specs.Parts.{is_halted as is_stopped};
+ghost use Rattle.jr_journal.specs.Parts.{is_stopped};
 
 use super::ahead::{Most, carry_ahead, go_ahead, take_ahead};
-use super::carrying::{carry_out, take_in};
+use super::carrying::{write_and_apply, write_and_take};
 use super::handling::handle_step;
 use super::looking::{Left, look};
 use super::node::Node;
@@ -333,10 +333,10 @@ fn own_row<R: Replica, D: Disk + Drop>(
         (map arc_value calls.entry.rest.now) result.items (state_of R.kept node.new) }
 {
     if calls.most.operations < plan.ops.len() {
-        return alone(replies, carry_out(alloc, node, plan, excuse));
+        return alone(replies, write_and_apply(alloc, node, plan, excuse));
     }
     let Ok(mut row) = Row::new(alloc, node) else {
-        return alone(replies, carry_out(alloc, node, plan, excuse));
+        return alone(replies, write_and_apply(alloc, node, plan, excuse));
     };
     let Ok(excuse) = Shares::new(alloc, excuse) else {
         drop(row);
@@ -383,10 +383,10 @@ fn taken_row<R: Replica, D: Disk + Drop>(
         result.items (state_of R.kept node.new) }
 {
     if delta.is_empty() || most.operations < delta.ops().len() {
-        return alone(replies, take_in(alloc, node, delta));
+        return alone(replies, write_and_take(alloc, node, delta));
     }
     let Ok(mut row) = Row::new(alloc, node) else {
-        return alone(replies, take_in(alloc, node, delta));
+        return alone(replies, write_and_take(alloc, node, delta));
     };
     let Ok(nothing) = Shares::new(alloc, Out::of_sends(alloc, Sequence::empty(alloc))) else {
         drop(row);
@@ -439,11 +439,7 @@ pub(crate) fn play<R: Replica, D: Disk + Drop>(
     match look(alloc, node, first) {
         Left::Told(reply) => alone(replies, reply),
         Left::Writes(plan, excuse) => {
-            let calls = Calls {
-                first,
-                rest,
-                most,
-            };
+            let calls = Calls { first, rest, most };
             own_row(alloc, node, plan, excuse, calls, replies)
         }
         Left::Alone => alone(replies, handle_step(alloc, node, first)),

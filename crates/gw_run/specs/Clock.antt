@@ -40,9 +40,9 @@ OpensAs before end after = after ≡ before
 
 -- What comes after the ticks that did not find the gateway halted, by why the clock ended. It is
 -- nothing, or one that did, and then the call by which the gateway was opened again.
-abbrev pub EndsAs : Holder → Option End → Holder → Type 0
-EndsAs before None after = after ≡ before
-EndsAs before (Some end) after =
+abbrev pub ClockEndsAs : Holder → Option End → Holder → Type 0
+ClockEndsAs before None after = after ≡ before
+ClockEndsAs before (Some end) after =
     (CannotCall end × (after ≡ before))
     ⊎ ((found : Holder) × FindsHalted before found × OpensAs found end after)
 
@@ -50,4 +50,4 @@ EndsAs before (Some end) after =
 -- so, and holds nothing else.
 abbrev pub AddsOfClock : Holder → Option End → Holder → Type 0
 AddsOfClock before end after =
-    (ticked : Holder) × AddsEach IsLiveTick before ticked × EndsAs ticked end after
+    (ticked : Holder) × AddsEach IsLiveTick before ticked × ClockEndsAs ticked end after

@@ -16,7 +16,7 @@ pub const MOST_ACCEPTED: usize = 8;
 const LARGEST_PIECE: usize = 65_536;
 
 /// How many seconds an empty seat waits for a link before it looks again.
-const A_LOOK: u64 = 5;
+const SEAT_WAIT_SECONDS: u64 = 5;
 
 #[derive(Drop)]
 struct Links<S: Drop> {
@@ -209,7 +209,7 @@ impl<S: Drop> Pool<S> {
         let (links, _) = self.changed.wait_timeout_while(
             rt,
             self.links.lock(rt),
-            Duration::from_secs(A_LOOK),
+            Duration::from_secs(SEAT_WAIT_SECONDS),
             |links| links.waiting.is_empty() && !links.is_quiet,
         );
         let _ = links.accepted;

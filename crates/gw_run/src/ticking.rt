@@ -5,7 +5,7 @@ ghost use Rattle.std.specs.Prelude.{◌≡◌, Some, None, MatchResult};
 ghost use Rattle.gw_run.specs.Clock.{AddsOfClock, OpensAs};
 
 use crate::pool::Pool;
-use gw_link::{End, Phase, Work, call, dropped, is_halted};
+use gw_link::{End, Phase, Work, call, is_halted, only_memory};
 use gw_shift::Pass;
 use gw_shift::gw_node::{Out, Step};
 use gw_wire::{FieldClock, Post};
@@ -19,7 +19,7 @@ use std::time::Clock;
 pub const MOST_TICKS: u64 = 1_024;
 
 /// How many milliseconds pass before the clock is looked at again.
-const A_LOOK: u64 = 100;
+const CLOCK_WAIT_MS: u64 = 100;
 
 /// How many milliseconds pass after the gateway stood still, before it ticks: what clients sent
 /// meanwhile is read first.
@@ -57,7 +57,7 @@ pub fn tick_all<T: Wait + Clock, R: Replica, D: Disk + Drop, P: Post, S: Drop>(
             work.stage.close(rt);
             return (pass, end);
         }
-        work.stage.wait(rt, Phase::Serving, A_LOOK);
+        work.stage.wait(rt, Phase::Serving, CLOCK_WAIT_MS);
     }
     unreachable!()
 }
@@ -174,7 +174,7 @@ fn tick_once<T: Wait, R: Replica, D: Disk + Drop, P: Post>(
             let (pass, end) = open_anew(work, pass);
             (pass, Err(end))
         }
-        Ok(Err(fault)) => match dropped(&fault) {
+        Ok(Err(fault)) => match only_memory(&fault) {
             Ok(()) => (pass, Ok(false)),
             Err(_) => (pass, Err(End::Memory)),
         },

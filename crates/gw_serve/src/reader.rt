@@ -88,7 +88,7 @@ pub fn read_all<T: Wait, R: Replica, D: Disk + Drop, W: Wire, P: Post, G: Gate>(
                     bell.note_put();
                     bell.ring(rt);
                 } else {
-                    wire.unheard();
+                    wire.note_dropped();
                 }
             }
         }

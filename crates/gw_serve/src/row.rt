@@ -9,7 +9,7 @@ ghost use Rattle.gw_shift.specs.Calls.{Holder};
 ghost use Rattle.gw_shift.specs.Calling.{NoneMade};
 ghost use Rattle.gw_serve.specs.Serving.{is_frame, Gains};
 ghost use Rattle.gw_serve.specs.inner.Queue.{hand};
-ghost use Rattle.gw_serve.specs.inner.Rows.{IsRow, IsEmptyRow, HasTaken, IsCalled, IsEnd, numbers_from};
+ghost use Rattle.gw_serve.specs.inner.Rows.{IsTakenRow, IsEmptyRow, TakesNumbers, AreCalled, IsEnd, row_numbers_from};
 
 use crate::queue::{CAPACITY, Datagram, Receiver, Takes, Ticket};
 use crate::worker::{Shared, Taken, Trouble};
@@ -81,8 +81,8 @@ pub fn take_row<T: Wait, R: Replica, D: Disk + Drop, P: Post, G: Gate>(
     requires part { (view ticket.old).parts ≡ 1 }
     requires empty { IsEmptyRow row.old }
     ensures channel { IsSeatAt (receives_on receiver.now) ticket.new }
-    ensures taken { HasTaken (view ticket.old) row.new.numbers.items (view ticket.new) }
-    ensures row { OnOk result (IsRow row.new) }
+    ensures taken { TakesNumbers (view ticket.old) row.new.numbers.items (view ticket.new) }
+    ensures row { OnOk result (IsTakenRow row.new) }
 {
     let rt = shared.rt;
     for count in 0..CAPACITY {
@@ -134,8 +134,8 @@ pub fn call_row<T: Wait, R: Replica, D: Disk + Drop, P: Post, G: Gate>(
     pass: Pass,
     row: &mut Row,
 ) -> (Pass, End)
-    requires { IsRow row.old }
-    ensures called { IsCalled pass row.old.numbers.items row.new.called.items result.0 }
+    requires { IsTakenRow row.old }
+    ensures called { AreCalled pass row.old.numbers.items row.new.called.items result.0 }
     ensures end { IsEnd (length row.old.numbers.items) (length row.new.called.items) result.1
         result.0 }
     ensures numbers { row.new.numbers.items ≡ row.old.numbers.items }
@@ -185,7 +185,7 @@ fn note_called(called: &mut Vec<Called>, numbers: &[u64], first: u64, answers: V
         ++ take (length answers.items) (drop (vec_len called.old) numbers.now) }
     ensures steps { map (λ c. c.taken.step) called.new.items
         ≡ map (λ c. c.taken.step) called.old.items
-        ++ numbers_from first (length answers.items) }
+        ++ row_numbers_from first (length answers.items) }
 {
     let mut step = first;
     for answer in answers {

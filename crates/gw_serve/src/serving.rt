@@ -3,7 +3,7 @@
 ghost use Rattle.std.specs.Prelude.{◌≡◌, ◌≢◌, ◌⊎◌, ◌≤◌, ◌<◌, ◌+◌, ◌-◌, ◌^◌, ◌++◌, ℕ, Some, None, List, [], ◌∷◌, length, map, vec_len, vec_capacity, IfOk, IfErr, IfSome, All};
 ghost use Rattle.crossbeam_channel.specs.Claims.{view, IsSeatAt};
 ghost use Rattle.crossbeam_channel.specs.Ends.{sends_on, receives_on};
-ghost use Rattle.gw_serve.specs.Count.{weigh, times, one_to};
+ghost use Rattle.gw_serve.specs.Count.{weigh, times_in, one_to};
 ghost use Rattle.gw_serve.specs.inner.Queue.{hand, whole};
 ghost use Rattle.gw_serve.specs.Serving.{EachGains, HaveSeen};
 ghost use Rattle.gw_serve.specs.inner.Work.{IsFreshSlot, IsDone, IsWorked, IsWorkedSlot, WorkedFrom, DoneFrom, IsGathered, pass_of};
@@ -89,8 +89,8 @@ where
     ensures datagrams { IfOk result (λ s. (n : ℕ) × (lost : ℕ)
         × (W.arrivals wire.new ≡ W.arrivals wire.old + n + lost)
         × (W.drops wire.new ≡ W.drops wire.old + lost)
-        × ((x : ℕ) → times x (map (λ t. t.datagram) s.taken.items ++ s.left.items)
-        ≡ times x (one_to n))) }
+        × ((x : ℕ) → times_in x (map (λ t. t.datagram) s.taken.items ++ s.left.items)
+        ≡ times_in x (one_to n))) }
     ensures passes { IfOk result (λ s. EachGains passes.items (map (λ t. t.step) s.taken.items)
         s.passes.items) }
     ensures wire { IfErr result (λ f. f.cause ≡ causes.Wire
@@ -169,8 +169,8 @@ where
     ensures datagrams { IfOk result (λ s. (n : ℕ) × (lost : ℕ)
         × (W.arrivals wire.new ≡ W.arrivals wire.old + n + lost)
         × (W.drops wire.new ≡ W.drops wire.old + lost)
-        × ((x : ℕ) → times x (map (λ t. t.datagram) s.taken.items ++ s.left.items)
-        ≡ times x (one_to n))) }
+        × ((x : ℕ) → times_in x (map (λ t. t.datagram) s.taken.items ++ s.left.items)
+        ≡ times_in x (one_to n))) }
     ensures passes { IfOk result (λ s. EachGains passes.items (map (λ t. t.step) s.taken.items)
         s.passes.items) }
     ensures wire { IfErr result (λ f. f.cause ≡ causes.Wire

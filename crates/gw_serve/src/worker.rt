@@ -5,7 +5,7 @@ ghost use Rattle.crossbeam_channel.specs.Ends.{receives_on};
 ghost use Rattle.gw_serve.specs.declared.queue.TheConstants.{CAPACITY};
 ghost use Rattle.gw_serve.specs.declared.worker.Trouble.TheVariants as troubles;
 ghost use Rattle.gw_serve.specs.inner.Handling.{IsHandled};
-ghost use Rattle.gw_serve.specs.inner.Rows.{IsRow, IsEmptyRow};
+ghost use Rattle.gw_serve.specs.inner.Rows.{IsTakenRow, IsEmptyRow};
 ghost use Rattle.gw_serve.specs.inner.Work.{IsFresh, IsWorked};
 
 use crate::bell::Bell;
@@ -229,7 +229,7 @@ fn handle<T: Wait, R: Replica, D: Disk + Drop, P: Post, G: Gate>(
     taken: &mut Vec<Taken>,
     left: &mut Vec<u64>,
 ) -> (Pass, Option<Trouble>)
-    requires row { IsRow row }
+    requires row { IsTakenRow row }
     requires room { (vec_len taken.old + CAPACITY ≤ vec_capacity taken.old)
         × (vec_len left.old + CAPACITY ≤ vec_capacity left.old) }
     ensures { IsHandled pass row.numbers.items taken.old.items left.old.items result.1

@@ -3,7 +3,7 @@ use Rattle.std.specs.Prelude.{◌≡◌, ◌<◌, ◌≤◌, ◌⊎◌, ◌+◌,
 use Rattle.rep_op.specs.declared.op.Op.{Op}
 use Rattle.rep_model.specs.Held.{IsHeld}
 use Rattle.jr_disk.specs.declared.disk.Disk.{Ghosts}
-use Rattle.jr_journal.specs.Parts.{disk_of}
+use Rattle.jr_journal.specs.Parts.{disk_under}
 use Rattle.gw_answer.specs.declared.out.Out.{Out}
 use Rattle.gw_answer.specs.declared.refusal.Refusal.{Refusal}
 use Rattle.gw_answer.specs.declared.step.Step.{Step}
@@ -40,8 +40,8 @@ pub record DoTogether {D : Type 0} {G : Ghosts D} (old : State G) (calls : List 
     (new : State G) : Type 0 where
   pub some : 0 < length calls
   pub events : EventsOn old (steps_in calls) (answers_in calls) new
-  pub failures : G.failures (disk_of old.journal) + failed_in calls
-      ≤ G.failures (disk_of new.journal)
+  pub failures : G.failures (disk_under old.journal) + failed_in calls
+      ≤ G.failures (disk_under new.journal)
 
 -- a part of a history: a call by itself, or calls with one write
 abbrev pub DoesPart : {D : Type 0} {G : Ghosts D} → State G → List Call → State G → Type 0
@@ -70,5 +70,5 @@ pub record IsLegal {D : Type 0} {G : Ghosts D} (opening : List (List Op)) (histo
   pub parts : List (List Call)
   pub whole : calls_in parts ≡ history
   pub leads : Leads first parts state
-  pub failures : G.failures (disk_of first.journal) + failed_in history
-      ≤ G.failures (disk_of state.journal)
+  pub failures : G.failures (disk_under first.journal) + failed_in history
+      ≤ G.failures (disk_under state.journal)

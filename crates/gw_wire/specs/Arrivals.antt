@@ -1,8 +1,8 @@
 -- What came by a receive, counted.
 use Rattle.std.specs.Prelude.{ℕ, Option, Some, None, Result, Ok, Err}
-use Rattle.gw_wire.specs.declared.ends.Arrival.{Arrival}
-use Rattle.gw_wire.specs.declared.ends.Came.{Came}
-use Rattle.gw_wire.specs.declared.ends.Came.TheVariants.{Datagram, Nothing, Over}
+use Rattle.gw_wire.specs.declared.traits.Arrival.{Arrival}
+use Rattle.gw_wire.specs.declared.traits.Came.{Came}
+use Rattle.gw_wire.specs.declared.traits.Came.TheVariants.{Datagram, Nothing, Over}
 
 -- the datagram that a receive brought, if it brought one
 abbrev pub arrival_of : Came → Option Arrival

@@ -4,7 +4,7 @@ ghost use Rattle.std.specs.Prelude.{◌≡◌};
 ghost use Rattle.gw_wire.specs.Outages as spec;
 
 use super::clock::millisecond;
-use super::ends::Post;
+use super::traits::Post;
 use sn_local::Addr;
 use std::alloc::Global;
 use std::mem;

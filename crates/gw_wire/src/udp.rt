@@ -5,7 +5,7 @@ ghost use Rattle.gw_wire.specs.Addresses.{IsAddress};
 ghost use Rattle.gw_wire.specs.inner.Addresses as spec;
 
 use super::clock::FieldClock;
-use super::ends::{Arrival, Came, Post, Tally, Unsent, Wire, WireFault};
+use super::traits::{Arrival, Came, Post, Tally, Unsent, Wire, WireFault};
 use jr_disk::Failures;
 use libc::net::{SO_RCVBUF, SO_SNDBUF, SOL_SOCKET, setsockopt};
 use mio::net::UdpSocket;
@@ -21,10 +21,10 @@ use std::{io, thread};
 
 /// How many milliseconds a receive waits for a datagram. As long a shift that has had all its calls
 /// may go on.
-const A_WHILE: u64 = 10;
+const RECV_TIMEOUT_MS: u64 = 10;
 
 /// How many milliseconds a reader rests that has no room for more.
-const A_REST: u64 = 1;
+const FULL_WAIT_MS: u64 = 1;
 
 /// How many octets the system is asked to keep of datagrams that were not read yet. It keeps less
 /// if its own limit (`net.core.rmem_max`) is less.
@@ -55,7 +55,7 @@ pub struct Socket {
 
 /// The reader's side of a socket. One thread has it, and waits in it without a lock.
 #[derive(Drop)]
-pub struct Ears<'a> {
+pub struct UdpReceiver<'a> {
     clock: &'a FieldClock,
     socket: &'a UdpSocket,
     poll: &'a mut Poll,
@@ -70,7 +70,7 @@ pub struct Ears<'a> {
 
 /// The side by which threads send. They share it, and take no lock.
 #[derive(Clone, Copy, Drop)]
-pub struct Mouth<'a> {
+pub struct UdpSender<'a> {
     socket: &'a UdpSocket,
     /// Whether the system had no room for the last datagram, however often that was offered.
     choked: &'a AtomicBool,
@@ -119,7 +119,7 @@ impl Socket {
 
     /// The two sides, of which one gives each datagram the moment of this clock. Those who read
     /// count from here on.
-    pub fn sides<'a>(&'a mut self, clock: &'a FieldClock) -> (Ears<'a>, Mouth<'a>)
+    pub fn sides<'a>(&'a mut self, clock: &'a FieldClock) -> (UdpReceiver<'a>, UdpSender<'a>)
         ensures failures { result.0.failures.count ≡ 0 }
         ensures datagrams { (result.0.arrivals.count ≡ 0) × (result.0.drops.count ≡ 0) }
     {
@@ -131,7 +131,7 @@ impl Socket {
             local: _,
             failures: _,
         } = self;
-        let ears = Ears {
+        let ears = UdpReceiver {
             clock,
             socket,
             poll,
@@ -140,7 +140,7 @@ impl Socket {
             arrivals: Tally::none(),
             drops: Tally::none(),
         };
-        (ears, Mouth { socket, choked })
+        (ears, UdpSender { socket, choked })
     }
 }
 
@@ -196,7 +196,7 @@ fn value_of(room: i32) -> [u8; 16] {
     value
 }
 
-impl<'a> Ears<'a> {
+impl<'a> UdpReceiver<'a> {
     /// A datagram that is there, or nothing. A sender that has no IPv4 address is nothing.
     fn look(&self, buffer: &mut [u8]) -> io::Result<Option<(usize, Addr)>> {
         match self.socket.recv_from(buffer) {
@@ -220,7 +220,7 @@ impl<'a> Ears<'a> {
             return Ok(Some(found));
         }
         self.poll
-            .poll(self.events, Some(Duration::from_millis(A_WHILE)))?;
+            .poll(self.events, Some(Duration::from_millis(RECV_TIMEOUT_MS)))?;
         self.look(buffer)
     }
 
@@ -247,7 +247,7 @@ impl<'a> Ears<'a> {
     }
 }
 
-impl<'a> Wire for Ears<'a> {
+impl<'a> Wire for UdpReceiver<'a> {
     ghost failures = { λ w. w.failures.count };
 
     ghost arrivals = { λ w. w.arrivals.count };
@@ -272,18 +272,18 @@ impl<'a> Wire for Ears<'a> {
         }
     }
 
-    fn unheard(&mut self) {
+    fn note_dropped(&mut self) {
         self.drops = Tally::next(&self.drops);
     }
 
     fn rest(&mut self) {
         let _ = self
             .poll
-            .poll(self.events, Some(Duration::from_millis(A_REST)));
+            .poll(self.events, Some(Duration::from_millis(FULL_WAIT_MS)));
     }
 }
 
-impl<'a> Post for Mouth<'a> {
+impl<'a> Post for UdpSender<'a> {
     /// Where the system has no room, the datagram is offered again while other threads run: a
     /// client that wakes is sent all that waits at quality of service 0 at once, and nothing sends
     /// that again.

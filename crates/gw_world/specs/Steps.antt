@@ -5,7 +5,7 @@ use Rattle.std.specs.List.{AllByRecursion}
 use Rattle.rep_op.specs.declared.op.Op.{Op}
 use Rattle.rep_answer.specs.Answers.{IsAnswer}
 use Rattle.rep_digest.specs.Digests.{digest}
-use Rattle.rep_digest.specs.Spelling.{IsWithinLimit as IsDigestWithinLimit}
+use Rattle.rep_digest.specs.Spelling.{IsDigestWithinLimit}
 use Rattle.jr_journal.specs.Records.{records}
 use Rattle.gw_answer.specs.declared.out.Out.{Out}
 use Rattle.gw_answer.specs.declared.refusal.Refusal.{Refusal}

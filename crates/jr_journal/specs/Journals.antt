@@ -10,9 +10,9 @@ use Rattle.jr_disk.specs.Disk.{Slots, at, replaced, cut_to}
 -- ---- slots and generations
 
 -- the other of the two slots
-abbrev pub other : Slot → Slot
-other First = Second
-other Second = First
+abbrev pub other_slot : Slot → Slot
+other_slot First = Second
+other_slot Second = First
 
 -- the slots once this one is cut to nothing
 abbrev pub emptied : Slots → Slot → Slots

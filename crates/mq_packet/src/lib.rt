@@ -31,4 +31,4 @@ pub use header::Header;
 pub use laws::{one_fault, one_meaning, one_spelling};
 pub use length::remaining;
 pub use packet::{Delivery, Login, MAX_DATA, MAX_REMAINING, Packet, Qos, Will};
-pub use text::{is_filter, is_text, is_topic};
+pub use text::{is_filter_text, is_text, is_topic_text};

@@ -34,8 +34,8 @@ use Rattle.sn_tick.specs.Ticking.{may_advertise, will_puts, tick}
 -- The message is for one of these clients, a recipient of a publication to this topic with this
 -- body that comes at this quality of service. It has the quality of service at which that client
 -- gets it.
-abbrev pub IsAmong : Seen → List (List ℕ) → List ℕ → ℕ → List ℕ → NewPut → Type 0
-IsAmong seen clients topic qos body p =
+abbrev pub IsAmongRecipients : Seen → List (List ℕ) → List ℕ → ℕ → List ℕ → NewPut → Type 0
+IsAmongRecipients seen clients topic qos body p =
     Contains clients p.client × (qos_for topic qos (seen.of p.client) ≡ Some p.qos)
     × (p.topic ≡ topic) × (p.body ≡ body)
 
@@ -105,8 +105,8 @@ puts_by_tick g advertise field seen local now =
     else puts_due seen (first_due g seen local now seen.all)
 
 -- this frame goes to the address
-abbrev pub IsAnswered : Addr → Frame → List Send → Type 0
-IsAnswered a answer sends = Contains sends (record { to = a; bytes = spelling answer })
+abbrev pub IsReplyTo : Addr → Frame → List Send → Type 0
+IsReplyTo a answer sends = Contains sends (record { to = a; bytes = spelling answer })
 
 -- the client that is bound to the address publishes to a topic, and these are the messages for the
 -- recipients at this quality of service
@@ -133,6 +133,6 @@ IsOfGateway g S plan =
     × (tick g lifetime advertise field predefined (seen_of S) local now ≡ Some plan))
 
 -- a message of these operations waits for its client in the set
-abbrev pub IsKept : List Op → Op → Type 0
-IsKept S (OfPut c put) = pending_at c S (put.seq, put.origin) ≡ Some put
-IsKept S op = Unit {0}
+abbrev pub IsWaiting : List Op → Op → Type 0
+IsWaiting S (OfPut c put) = pending_at c S (put.seq, put.origin) ≡ Some put
+IsWaiting S op = Unit {0}

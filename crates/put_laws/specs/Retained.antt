@@ -125,7 +125,7 @@ handed_bound predefined seen (Some c) bits field =
 
 -- What a frame hands. A SUBSCRIBE that is accepted hands its client what is retained of the topics
 -- that it asks for. No other frame hands anything.
-abbrev pub handed_of : Entries → Seen → Local → Addr → Frame → List NewPut
-handed_of predefined seen local a (frames.Subscribe flags msg_id field) =
+abbrev pub handed_by : Entries → Seen → Local → Addr → Frame → List NewPut
+handed_by predefined seen local a (frames.Subscribe flags msg_id field) =
     handed_bound predefined seen (client_at a local.bindings) flags.bits field
-handed_of predefined seen local a frame = []
+handed_by predefined seen local a frame = []

@@ -73,16 +73,16 @@ abbrev pub retain_at : List ℕ → List Op → ℕ × ℕ → Option Retained
 retain_at t S name = find clock_cmp name (retains t S)
 
 -- the operation stands in the set: what the set has under its name is the operation
-abbrev pub Stands : List Op → Op → Type 0
-Stands S (OfSession c stamp counter change) = operation_at c S (stamp, counter) ≡ Some change
-Stands S (OfPut c put) = put_at c S (put.seq, put.origin) ≡ Some put
-Stands S (Ack c origin first last) =
+abbrev pub HasOperation : List Op → Op → Type 0
+HasOperation S (OfSession c stamp counter change) = operation_at c S (stamp, counter) ≡ Some change
+HasOperation S (OfPut c put) = put_at c S (put.seq, put.origin) ≡ Some put
+HasOperation S (Ack c origin first last) =
     (seq : ℕ) → first ≤ seq → seq ≤ last → IsTrue (is_acknowledged c S (seq, origin))
-Stands S (OfRetain t kept) = retain_at t S (clock_of kept) ≡ Some kept
+HasOperation S (OfRetain t kept) = retain_at t S (clock_of kept) ≡ Some kept
 
 -- no name has two contents: each operation on the list is what the list has at its name
 abbrev pub IsConsistent : List Op → Type 0
-IsConsistent S = AllByRecursion (Stands S) S
+IsConsistent S = AllByRecursion (HasOperation S) S
 
 -- what the set has under the operation's name, if anything, is the operation
 abbrev pub Agrees : List Op → Op → Type 0

@@ -21,7 +21,7 @@ use std::net::{Net, SocketAddr};
 use std::time::{Clock, Duration};
 
 /// How many milliseconds a turn waits for something to come; so often time goes by.
-const A_WHILE: u64 = 100;
+const TURN_WAIT_MS: u64 = 100;
 
 /// The most octets of a datagram, and of one read of the connection.
 const BUFFER: usize = 65_535;
@@ -308,7 +308,7 @@ impl<'a> Turning<'a> {
 
     /// Waits until something comes, or for a while.
     fn wait(&mut self, events: &mut Events) {
-        let wait = if self.is_busy { 0 } else { A_WHILE };
+        let wait = if self.is_busy { 0 } else { TURN_WAIT_MS };
         let _ = self.poll.poll(events, Some(Duration::from_millis(wait)));
         self.is_busy = false;
     }
@@ -390,7 +390,7 @@ impl<'a> Turning<'a> {
         if now < self.due {
             return Ok(());
         }
-        self.due = now.saturating_add(A_WHILE);
+        self.due = now.saturating_add(TURN_WAIT_MS);
         self.take_in(rt, alloc, Event::Tick)
     }
 

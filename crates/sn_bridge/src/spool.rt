@@ -12,7 +12,7 @@ use crate::stop::Stop;
 use br_core::Item;
 use br_spool::{Held, SPOOL, SpoolFault, delta_of, held_in};
 use file_disk::{FileDisk, FileDiskFault};
-use gw_main::{Tended, base_of, is_grown, next_try, number_of, tend};
+use gw_main::{Tended, begin_fault_number, changed_length, is_grown, next_try, tend};
 use gw_node::{Node, NodeFault};
 use jr_disk::{Disk, Slot};
 use octets::Sequence;
@@ -132,7 +132,7 @@ fn node_on(alloc: Global, disk: FileDisk) -> Result<Node<Folded, FileDisk>, Stop
         Ok(node) => Ok(node),
         Err((disk, fault)) => {
             drop(disk);
-            let number = number_of(&fault);
+            let number = begin_fault_number(&fault);
             drop(fault);
             Err(Stop::Spool(number))
         }
@@ -272,7 +272,7 @@ fn spool_at(alloc: Global, node: Node<Folded, FileDisk>, path: String, below: u6
 
 /// The number by which a refused write is told.
 fn number_of_refusal(fault: NodeFault) -> u8 {
-    let number = number_of(&fault);
+    let number = begin_fault_number(&fault);
     drop(fault);
     number
 }
@@ -353,7 +353,7 @@ impl Spool {
         };
         self.both = after.0.saturating_add(after.1);
         self.base = match before {
-            Some(before) => base_of(before, after),
+            Some(before) => changed_length(before, after),
             None => after.0.max(after.1),
         };
     }

@@ -64,8 +64,8 @@ fn awaiting(session: &Session, pending: &[Put], phase: Phase, msg_id: u16) -> Op
 }
 
 /// The message of an exchange.
-fn put_of(pending: &[Put], exchange: Option<Outbound>) -> Option<&Put>
-    ensures { option_copied result ≡ spec.put_of pending.now exchange }
+fn put_of_exchange(pending: &[Put], exchange: Option<Outbound>) -> Option<&Put>
+    ensures { option_copied result ≡ spec.put_of_exchange pending.now exchange }
 {
     match exchange {
         None => None,
@@ -82,7 +82,7 @@ fn put_awaiting<'a>(
 ) -> Option<&'a Put>
     ensures { option_copied result ≡ spec.put_awaiting session.now pending.now phase msg_id }
 {
-    put_of(pending, awaiting(session, pending, phase, msg_id))
+    put_of_exchange(pending, awaiting(session, pending, phase, msg_id))
 }
 
 /// And then the exchange is over.
@@ -107,7 +107,7 @@ fn done(session: &Session, put: &Put, draft: &mut Draft) -> Result<(), NoMemory>
 
 /// And then the client has this id for the name, or has it no more.
 fn tell(alloc: Global, entry: &TopicEntry, known: bool, draft: &mut Draft) -> Result<(), NoMemory>
-    ensures { OnOk result (draft.new ≡ spec.told entry.now known draft.old) }
+    ensures { OnOk result (draft.new ≡ spec.id_told entry.now known draft.old) }
 {
     draft.change(SessionOp::Register {
         id: entry.id,
@@ -369,14 +369,14 @@ fn pubcomp(
 }
 
 /// The client knows the id of the topic from now on.
-fn registered(
+fn id_known(
     alloc: Global,
     session: &Session,
     entry: Option<&TopicEntry>,
     draft: &mut Draft,
 ) -> Result<(), NoMemory>
     requires { draft.old ≡ nothing }
-    ensures { OnOk result (draft.new ≡ spec.registered session.now
+    ensures { OnOk result (draft.new ≡ spec.id_known session.now
         (option_copied entry.entry)) }
 {
     match entry {
@@ -400,7 +400,7 @@ fn regack_put(
     ensures { OnOk result (draft.new ≡ spec.regack_put session.now code put.now) }
 {
     if code == 0 {
-        return registered(alloc, session, session.topic_named(&put.topic), draft);
+        return id_known(alloc, session, session.topic_named(&put.topic), draft);
     }
     if code == 1 {
         return Ok(());

@@ -3,7 +3,7 @@
 ghost use Rattle.std.specs.Prelude.{◌≡◌, Some, IfOk};
 ghost use Rattle.sn_local.specs.Bindings as bindings;
 ghost use Rattle.sn_plan.specs.Scenes.{seen_in};
-ghost use Rattle.sn_deliver.specs.Serving.{publish_of, pubrel_of, ack_of};
+ghost use Rattle.sn_deliver.specs.Serving.{publish_of, pubrel_of, ack_row};
 ghost use Rattle.sn_deliver.specs.Serving as spec;
 
 use super::acknowledging::acknowledge;
@@ -107,13 +107,13 @@ pub fn pubrel_in<R: Replica>(
 }
 
 /// What an acknowledgement of the client does, by its view.
-fn acknowledged<R: Replica>(
+fn ack_draft<R: Replica>(
     alloc: Global,
     scene: &Scene<'_, R>,
     peer: &Peer,
     frame: &Frame,
 ) -> Result<Draft, NoMemory>
-    ensures { IfOk result (λ draft. draft ≡ spec.acknowledged scene.now.config.now.predefined
+    ensures { IfOk result (λ draft. draft ≡ spec.ack_draft scene.now.config.now.predefined
         (seen_in R.kept scene.now) peer.now frame.now) }
 {
     let empty = Session::empty(alloc);
@@ -139,11 +139,11 @@ fn ack_bound<R: Replica>(
     client: &ClientId,
     frame: &Frame,
 ) -> Result<Row, NoMemory>
-    ensures { IfOk result (λ row. row ≡ ack_of scene.now.config.now.predefined
+    ensures { IfOk result (λ row. row ≡ ack_row scene.now.config.now.predefined
         (seen_in R.kept scene.now) scene.now.from (Some client.now) frame.now scene.now.moment) }
 {
     let peer = peer_at(alloc, scene.from, client, scene.moment)?;
-    let draft = acknowledged(alloc, scene, &peer, frame)?;
+    let draft = ack_draft(alloc, scene, &peer, frame)?;
     bound_row(alloc, client, scene.moment, draft)
 }
 

@@ -4,7 +4,7 @@ ghost use Rattle.std.specs.Prelude.{◌≡◌, IfOk};
 ghost use Rattle.sn_frame.specs.Bodies.{IsMessage};
 ghost use Rattle.rep_op.specs.ClientIds.{IsClientId};
 ghost use Rattle.sn_local.specs.Seen.{seen_of};
-ghost use Rattle.sn_plan.specs.Plans.{Gives};
+ghost use Rattle.sn_plan.specs.Plans.{GivesPlan};
 ghost use Rattle.sn_plan.specs.Scenes.{seen_in};
 ghost use Rattle.sn_flow.specs.Connection as connection;
 ghost use Rattle.sn_deliver.specs.Steps as spec;
@@ -117,7 +117,8 @@ pub fn step<R: Replica>(
     now: u64,
 ) -> Result<Plan, StepFault>
     requires { IsMessage frame.now }
-    ensures { Gives result (spec.step config.now.gateway config.now.lifetime config.now.predefined
+    ensures { GivesPlan result
+        (spec.step config.now.gateway config.now.lifetime config.now.predefined
         (seen_of (R.kept replica.now)) dialogs.now.local from frame.now now) }
 {
     let scene = Scene {

@@ -22,7 +22,7 @@ use rep_ops::{ClientId, OpsFault, Put};
 use sn_exchange::open_exchange;
 use sn_frame::Frame;
 use sn_local::{Addr, is_stamp_of};
-use sn_plan::{Draft, Follow, Row, Scene, bind_to, heard_row, turn_away, unseen, view_or};
+use sn_plan::{Draft, Follow, Row, Scene, bind_to, row_with_timer, turn_away, unseen, view_or};
 use sn_session::{Presence, Session, SessionOp};
 use std::alloc::Global;
 
@@ -71,7 +71,7 @@ fn has_nothing(session: &Session, pending: &[Put]) -> bool
 
 /// And then PINGRESP.
 fn answer(alloc: Global, to: Addr, draft: &mut Draft) -> Result<(), NoMemory>
-    ensures { OnOk result (draft.new ≡ spec.answered to draft.old) }
+    ensures { OnOk result (draft.new ≡ spec.ping_answered to draft.old) }
 {
     match draft.send(alloc, to, Frame::PingResp) {
         Ok(()) => Ok(()),
@@ -80,8 +80,8 @@ fn answer(alloc: Global, to: Addr, draft: &mut Draft) -> Result<(), NoMemory>
 }
 
 /// The draft, with PINGRESP.
-fn answered(alloc: Global, to: Addr, draft: Draft) -> Result<Draft, NoMemory>
-    ensures { IfOk result (λ made. made ≡ spec.answered to draft) }
+fn ping_answered(alloc: Global, to: Addr, draft: Draft) -> Result<Draft, NoMemory>
+    ensures { IfOk result (λ made. made ≡ spec.ping_answered to draft) }
 {
     let mut draft = draft;
     let done = answer(alloc, to, &mut draft);
@@ -116,7 +116,7 @@ fn from_sleep(
     ensures { IfOk result (λ row. row ≡ spec.from_sleep to client.now session.now idle draft) }
 {
     if idle {
-        let draft = answered(alloc, to, draft)?;
+        let draft = ping_answered(alloc, to, draft)?;
         return Row::new(alloc, Follow::Nothing, client, draft);
     }
     let draft = in_presence(session, Presence::Awake, draft)?;
@@ -138,15 +138,15 @@ fn from_wake(
         return Row::new(alloc, Follow::Resend, client, draft);
     }
     let draft = in_presence(session, Presence::Asleep, draft)?;
-    let draft = answered(alloc, to, draft)?;
+    let draft = ping_answered(alloc, to, draft)?;
     Row::new(alloc, Follow::Nothing, client, draft)
 }
 
 /// A client that is Active gets PINGRESP, and then what waits for it.
 fn from_activity(alloc: Global, to: Addr, client: &ClientId, draft: Draft) -> Result<Row, NoMemory>
-    ensures { IfOk result (λ row. row ≡ row_of Delivery client.now (spec.answered to draft)) }
+    ensures { IfOk result (λ row. row ≡ row_of Delivery client.now (spec.ping_answered to draft)) }
 {
-    let draft = answered(alloc, to, draft)?;
+    let draft = ping_answered(alloc, to, draft)?;
     Row::new(alloc, Follow::Delivery, client, draft)
 }
 
@@ -222,7 +222,7 @@ fn wake_bound<R: Replica>(
         None => turn_away(alloc, scene.from),
         Some(client) => {
             let row = woken(alloc, scene, client)?;
-            heard_row(alloc, Some(client), scene.moment, row)
+            row_with_timer(alloc, Some(client), scene.moment, row)
         }
     }
 }
@@ -235,13 +235,13 @@ fn wake_client<R: Replica>(
     client: &[u8],
 ) -> Result<Row, NoMemory>
     requires { IsClientId client.now }
-    ensures { IfOk result (λ row. row ≡ rows.heard_row (option_copied bound.entry)
+    ensures { IfOk result (λ row. row ≡ rows.row_with_timer (option_copied bound.entry)
         scene.now.moment (spec.woken scene.now.config.now.gateway (seen_in R.kept scene.now)
         scene.now.from client.now scene.now.moment)) }
 {
     let client = client_id(alloc, client)?;
     let row = woken(alloc, scene, &client)?;
-    heard_row(alloc, bound, scene.moment, row)
+    row_with_timer(alloc, bound, scene.moment, row)
 }
 
 /// The client of this name. It has the size that a name has, so nothing but memory can be wanting.

@@ -8,7 +8,7 @@ ghost use Rattle.sn_frame.specs.Grammar.{total_of};
 ghost use Rattle.sn_plan.specs.Drafts.{sent};
 ghost use Rattle.sn_exchange.specs.Forms as forms;
 ghost use Rattle.sn_exchange.specs.Exchanges.{left};
-ghost use Rattle.sn_exchange.specs.Delivery.{begun};
+ghost use Rattle.sn_exchange.specs.Delivery.{exchange_begun};
 ghost use Rattle.sn_exchange.specs.Delivery as spec;
 
 use super::exchange::{
@@ -53,7 +53,8 @@ fn begin(
 ) -> Result<(), NoMemory>
     requires message { IsMessage frame }
     requires size { total_of frame ≤ MAX_FRAME }
-    ensures { OnOk result (draft.new ≡ begun visit.now.peer.now visit.now.session.now put.now phase
+    ensures { OnOk result
+        (draft.new ≡ exchange_begun visit.now.peer.now visit.now.session.now put.now phase
         frame draft.old) }
 {
     send(alloc, visit.peer, frame, draft)?;

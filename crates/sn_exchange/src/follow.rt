@@ -1,7 +1,7 @@
 //! What follows a row: Resend or Delivery (MQTT-SN 1.2 sections 6.6, 6.10, 6.13 and 6.14).
 
 ghost use Rattle.std.specs.Prelude.{◌≡◌, IfOk, OnOk};
-ghost use Rattle.sn_plan.specs.Plans.{Gives};
+ghost use Rattle.sn_plan.specs.Plans.{GivesPlan};
 ghost use Rattle.sn_plan.specs.Bound.{session_of};
 ghost use Rattle.sn_plan.specs.Scenes.{seen_in};
 ghost use Rattle.sn_exchange.specs.Following as spec;
@@ -127,7 +127,7 @@ pub fn deliver_next<R: Replica>(
     scene: &Scene<'_, R>,
     row: Row,
 ) -> Result<Plan, StepFault>
-    ensures { Gives result (spec.deliver_next scene.now.config.now.gateway
+    ensures { GivesPlan result (spec.deliver_next scene.now.config.now.gateway
         scene.now.config.now.predefined (seen_in R.kept scene.now) scene.now.from scene.now.moment
         row) }
 {

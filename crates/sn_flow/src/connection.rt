@@ -19,8 +19,8 @@ use rep_model::{ClientView, Replica};
 use sn_frame::{Flags, Frame};
 use sn_local::{Addr, Awaited, LocalChange, Request, WillDialog};
 use sn_plan::{
-    CONGESTION, Draft, Follow, NOT_SUPPORTED, Row, Scene, heard_row, session_or, turn_away, unseen,
-    view_or,
+    CONGESTION, Draft, Follow, NOT_SUPPORTED, Row, Scene, row_with_timer, session_or, turn_away,
+    unseen, view_or,
 };
 use sn_session::{Presence, Session, SessionOp};
 use std::alloc::Global;
@@ -121,14 +121,14 @@ fn asked(alloc: Global, request: Request, now: u64) -> Result<Row, NoMemory>
 }
 
 /// A CONNECT that is not refused.
-fn welcomed(
+fn accepted_connect(
     alloc: Global,
     request: Request,
     will: bool,
     view: &ClientView,
     now: u64,
 ) -> Result<Row, NoMemory>
-    ensures { IfOk result (λ row. row ≡ spec.welcomed request will view.now now) }
+    ensures { IfOk result (λ row. row ≡ spec.accepted_connect request will view.now now) }
 {
     if will {
         return asked(alloc, request, now);
@@ -153,7 +153,7 @@ fn connect_row(
             let draft = Draft::reply(alloc, request.address, Frame::ConnAck { code })?;
             Row::new(alloc, Follow::Nothing, &request.client, draft)
         }
-        None => welcomed(alloc, request, will, view, now),
+        None => accepted_connect(alloc, request, will, view, now),
     }
 }
 
@@ -175,7 +175,7 @@ pub fn connect<R: Replica>(
     let request = request_of(alloc, scene.from, flags, duration, client)?;
     let row = connect_seen(alloc, scene, request, has_will(flags), refusal)?;
     let bound = scene.dialogs.client_at(scene.from);
-    heard_row(alloc, bound, scene.moment, row)
+    row_with_timer(alloc, bound, scene.moment, row)
 }
 
 /// What a CONNECT does for the client as it is seen.
@@ -279,7 +279,7 @@ fn disconnect_bound<R: Replica>(
     let draft = disconnect_draft(alloc, scene.from, client, session, duration);
     drop(empty);
     let row = Row::new(alloc, Follow::Nothing, client, draft?)?;
-    heard_row(alloc, Some(client), scene.moment, row)
+    row_with_timer(alloc, Some(client), scene.moment, row)
 }
 
 /// DISCONNECT: the client falls asleep, or leaves. From an address without binding it is answered

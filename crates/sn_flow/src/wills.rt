@@ -22,8 +22,8 @@ use rep_model::rep_ops::ClientId;
 use sn_frame::{Frame, Will};
 use sn_local::{Addr, Awaited, LocalChange, Request, WillDialog};
 use sn_plan::{
-    CONGESTION, Draft, Follow, NOT_SUPPORTED, Row, Scene, bound_row, heard_row, session_or, stray,
-    turn_away, unseen, view_or,
+    CONGESTION, Draft, Follow, NOT_SUPPORTED, Row, Scene, bound_row, row_with_timer, session_or,
+    turn_away, unexpected_row, unseen, view_or,
 };
 use sn_session::{Message, Session, Will as SessionWill, WillTopic};
 use std::alloc::Global;
@@ -132,22 +132,22 @@ fn topic_row<R: Replica>(
 }
 
 /// A WILLTOPIC at an address with a dialog.
-fn topic_in<R: Replica>(
+fn will_topic_in<R: Replica>(
     alloc: Global,
     scene: &Scene<'_, R>,
     bound: Option<&ClientId>,
     dialog: &WillDialog,
     will: &Option<Will>,
 ) -> Result<Row, NoMemory>
-    ensures { IfOk result (λ row. row ≡ spec.topic_in (seen_in R.kept scene.now) scene.now.from
+    ensures { IfOk result (λ row. row ≡ spec.will_topic_in (seen_in R.kept scene.now) scene.now.from
         (option_copied bound.entry) dialog.now will.now scene.now.moment dialog.now.awaited) }
 {
     match &dialog.awaited {
         Awaited::Topic => {
             let row = topic_row(alloc, scene, dialog, will)?;
-            heard_row(alloc, bound, scene.moment, row)
+            row_with_timer(alloc, bound, scene.moment, row)
         }
-        Awaited::Message(_) => stray(alloc, scene.from, bound, scene.moment),
+        Awaited::Message(_) => unexpected_row(alloc, scene.from, bound, scene.moment),
     }
 }
 
@@ -163,8 +163,8 @@ pub fn will_topic<R: Replica>(
 {
     let bound = scene.dialogs.client_at(scene.from);
     match scene.dialogs.dialog_at(scene.from) {
-        None => stray(alloc, scene.from, bound, scene.moment),
-        Some(dialog) => topic_in(alloc, scene, bound, dialog, will),
+        None => unexpected_row(alloc, scene.from, bound, scene.moment),
+        Some(dialog) => will_topic_in(alloc, scene, bound, dialog, will),
     }
 }
 
@@ -212,10 +212,10 @@ fn message_in<R: Replica>(
         dialog.now.awaited) }
 {
     match &dialog.awaited {
-        Awaited::Topic => stray(alloc, scene.from, bound, scene.moment),
+        Awaited::Topic => unexpected_row(alloc, scene.from, bound, scene.moment),
         Awaited::Message(topic) => {
             let row = message_row(alloc, scene, &dialog.request, topic, message)?;
-            heard_row(alloc, bound, scene.moment, row)
+            row_with_timer(alloc, bound, scene.moment, row)
         }
     }
 }
@@ -232,7 +232,7 @@ pub fn will_msg<R: Replica>(
 {
     let bound = scene.dialogs.client_at(scene.from);
     match scene.dialogs.dialog_at(scene.from) {
-        None => stray(alloc, scene.from, bound, scene.moment),
+        None => unexpected_row(alloc, scene.from, bound, scene.moment),
         Some(dialog) => message_in(alloc, scene, bound, dialog, message),
     }
 }

@@ -34,13 +34,15 @@ AreBindings bindings =
     IsTrue (is_ascending binding_cmp bindings) × IsDistinct of_one_client bindings
 
 -- whether a binding has neither the address nor the client
-abbrev pub is_apart : Addr → List ℕ → Binding → Bool
-is_apart a c binding = not (same_address binding.address a) && not (same_client binding.client c)
+abbrev pub is_other_binding : Addr → List ℕ → Binding → Bool
+is_other_binding a c binding =
+    not (same_address binding.address a) && not (same_client binding.client c)
 
 -- a new binding, which replaces all others of its address and of its client
 abbrev pub bound : Addr → List ℕ → List Binding → List Binding
 bound a c bindings =
-    with_entry binding_cmp (record { address = a; client = c }) (filter (is_apart a c) bindings)
+    with_entry binding_cmp (record { address = a; client = c })
+    (filter (is_other_binding a c) bindings)
 
 -- whether a binding is of another client
 abbrev pub is_of_other : List ℕ → Binding → Bool

@@ -34,6 +34,7 @@ pub use numbering::apply;
 pub use others::{can_wake, is_up, other};
 pub use plan::{Plan, plan_of, plan_of_puts, plan_without};
 pub use row::{
-    Follow, Row, bound_row, heard_row, lasting_row, plan_of_row, quiet, stray, turn_away,
+    Follow, Row, bound_row, empty_row, lasting_row, plan_of_row, row_with_timer, turn_away,
+    unexpected_row,
 };
 pub use scene::Scene;

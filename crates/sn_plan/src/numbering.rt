@@ -78,7 +78,7 @@ fn one_more(n: u64) -> Option<u64>
 }
 
 impl Writer {
-    ghost use Rattle.sn_plan.specs.Numbering.{another, taken_at, taken, counted, write, written, start_of};
+    ghost use Rattle.sn_plan.specs.Numbering.{another, taken_at, taken, counted, write, changes_written, start_of};
     ghost use Rattle.rep_model.specs.Views.{unseen};
 
     /// At the start of a step.
@@ -265,7 +265,8 @@ impl Writer {
         client: &ClientId,
         changes: Vec<SessionOp>,
     ) -> Result<(), StepFault>
-        ensures { Becomes result self.new (written client.now gateway changes.items self.old) }
+        ensures { Becomes result self.new
+            (changes_written client.now gateway changes.items self.old) }
     {
         for change in changes {
             self.write(alloc, gateway, client, change)?;

@@ -5,7 +5,7 @@ ghost use Rattle.sn_plan.specs.Others as spec;
 ghost use Rattle.rep_model.specs.Views.{view};
 
 use super::draft::Draft;
-use super::row::{Row, quiet, stray};
+use super::row::{Row, empty_row, unexpected_row};
 use super::scene::Scene;
 use octets::{NoMemory, Octets};
 use rep_model::Replica;
@@ -41,16 +41,16 @@ pub fn other<R: Replica>(
     let from = scene.from;
     match frame {
         Frame::SearchGw { .. } => searched(alloc, scene.config, from),
-        Frame::Advertise { .. } => Ok(quiet(alloc)),
-        Frame::GwInfo { .. } => Ok(quiet(alloc)),
-        Frame::ConnAck { .. } => Ok(quiet(alloc)),
-        Frame::WillTopicReq => Ok(quiet(alloc)),
-        Frame::WillMsgReq => Ok(quiet(alloc)),
-        Frame::SubAck { .. } => Ok(quiet(alloc)),
-        Frame::UnsubAck { .. } => Ok(quiet(alloc)),
-        Frame::WillTopicResp { .. } => Ok(quiet(alloc)),
-        Frame::WillMsgResp { .. } => Ok(quiet(alloc)),
-        _ => stray(alloc, from, scene.dialogs.client_at(from), scene.moment),
+        Frame::Advertise { .. } => Ok(empty_row(alloc)),
+        Frame::GwInfo { .. } => Ok(empty_row(alloc)),
+        Frame::ConnAck { .. } => Ok(empty_row(alloc)),
+        Frame::WillTopicReq => Ok(empty_row(alloc)),
+        Frame::WillMsgReq => Ok(empty_row(alloc)),
+        Frame::SubAck { .. } => Ok(empty_row(alloc)),
+        Frame::UnsubAck { .. } => Ok(empty_row(alloc)),
+        Frame::WillTopicResp { .. } => Ok(empty_row(alloc)),
+        Frame::WillMsgResp { .. } => Ok(empty_row(alloc)),
+        _ => unexpected_row(alloc, from, scene.dialogs.client_at(from), scene.moment),
     }
 }
 

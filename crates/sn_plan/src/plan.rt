@@ -7,7 +7,7 @@ ghost use Rattle.rep_model.specs.Fresh.{next_clock, next_epoch, next_seq};
 ghost use Rattle.sn_plan.specs.Numbering.{start_of, with_puts, with_handed, with_retain, numbered, ack_of, plan_with};
 ghost use Rattle.sn_plan.specs.inner.Plans.{Becomes};
 ghost use Rattle.sn_local.specs.Seen.{seen_of};
-ghost use Rattle.sn_plan.specs.Plans.{Gives};
+ghost use Rattle.sn_plan.specs.Plans.{GivesPlan};
 ghost use Rattle.sn_plan.specs.Plans as spec;
 
 use super::draft::{Draft, NewPut, Posted};
@@ -117,7 +117,7 @@ fn rest_of<R: Replica>(
     mut ops: Vec<Op>,
     draft: Draft,
 ) -> Result<Plan, StepFault>
-    ensures { Gives result (option_map (plan_with draft)
+    ensures { GivesPlan result (option_map (plan_with draft)
         (numbered gateway client.now (λ e. next_seq e gateway (R.kept replica.now))
         (λ t. next_clock t (R.kept replica.now)) draft
         (ops.items ++ map (ack_of client.now) draft.acks))) }
@@ -156,7 +156,8 @@ pub fn plan_of<R: Replica>(
     client: &ClientId,
     mut draft: Draft,
 ) -> Result<Plan, StepFault>
-    ensures { Gives result (spec.plan_of gateway client.now (seen_of (R.kept replica.now)) draft) }
+    ensures { GivesPlan result
+        (spec.plan_of gateway client.now (seen_of (R.kept replica.now)) draft) }
 {
     if draft.changes_nothing() {
         return rest_of(alloc, gateway, replica, client, Vec::new(alloc), draft);
@@ -184,7 +185,7 @@ pub fn plan_of_puts<R: Replica>(
     replica: &R,
     draft: Draft,
 ) -> Result<Plan, StepFault>
-    ensures { Gives result (spec.plan_of_puts gateway (seen_of (R.kept replica.now)) draft) }
+    ensures { GivesPlan result (spec.plan_of_puts gateway (seen_of (R.kept replica.now)) draft) }
 {
     let Draft {
         changes: _,

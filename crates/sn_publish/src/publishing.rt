@@ -87,14 +87,14 @@ fn posted<R: Replica>(
 }
 
 /// At most once: the recipients get it.
-fn spread<R: Replica>(
+fn publish_at_0<R: Replica>(
     alloc: Global,
     replica: &R,
     asked: bool,
     name: &TopicName,
     body: &Message,
 ) -> Result<Draft, NoMemory>
-    ensures { IfOk result (λ draft. draft ≡ spec.spread (seen_of (R.kept replica.now)) asked
+    ensures { IfOk result (λ draft. draft ≡ spec.publish_at_0 (seen_of (R.kept replica.now)) asked
         name.now body.now) }
 {
     posted(alloc, replica, asked, name, QosLevel::zero(), body)
@@ -125,14 +125,14 @@ fn receive(alloc: Global, to: Addr, msg_id: u16, draft: &mut Draft) -> Result<()
 }
 
 /// At least once: the recipients get it, and PUBACK says so.
-fn spread_once<R: Replica>(
+fn publish_at_1<R: Replica>(
     alloc: Global,
     scene: &Scene<'_, R>,
     publication: &Publication<'_>,
     body: &Message,
     name: &TopicName,
 ) -> Result<Draft, NoMemory>
-    ensures { IfOk result (λ draft. draft ≡ spec.spread_once (seen_in R.kept scene.now)
+    ensures { IfOk result (λ draft. draft ≡ spec.publish_at_1 (seen_in R.kept scene.now)
         (is_retain_asked publication.now.flags.bits) scene.now.from publication.now.topic
         publication.now.msg_id body.now name.now) }
 {
@@ -154,7 +154,7 @@ fn spread_once<R: Replica>(
 
 /// Exactly once: the recipients get it, where they have not got it under this message id, and
 /// PUBREC says so.
-fn spread_twice<R: Replica>(
+fn publish_at_2<R: Replica>(
     alloc: Global,
     scene: &Scene<'_, R>,
     session: &Session,
@@ -162,7 +162,7 @@ fn spread_twice<R: Replica>(
     body: &Message,
     name: &TopicName,
 ) -> Result<Draft, NoMemory>
-    ensures { IfOk result (λ draft. draft ≡ spec.spread_twice (seen_in R.kept scene.now)
+    ensures { IfOk result (λ draft. draft ≡ spec.publish_at_2 (seen_in R.kept scene.now)
         (is_retain_asked publication.now.flags.bits) scene.now.from session.now
         publication.now.topic publication.now.msg_id body.now name.now) }
 {
@@ -201,10 +201,10 @@ fn publish_at<R: Replica>(
 {
     let asked = retain_asked(publication.flags);
     match publication.flags.qos() {
-        Qos::Zero => spread(alloc, scene.replica, asked, name, body),
-        Qos::One => spread_once(alloc, scene, publication, body, name),
-        Qos::Two => spread_twice(alloc, scene, session, publication, body, name),
-        Qos::MinusOne => spread(alloc, scene.replica, asked, name, body),
+        Qos::Zero => publish_at_0(alloc, scene.replica, asked, name, body),
+        Qos::One => publish_at_1(alloc, scene, publication, body, name),
+        Qos::Two => publish_at_2(alloc, scene, session, publication, body, name),
+        Qos::MinusOne => publish_at_0(alloc, scene.replica, asked, name, body),
     }
 }
 
@@ -295,7 +295,7 @@ fn spread_on<R: Replica>(
     match Message::new(body.copied(alloc)?) {
         None => Ok(Draft::new(alloc)),
         Some(body) => {
-            let draft = spread(alloc, replica, asked, name, &body);
+            let draft = publish_at_0(alloc, replica, asked, name, &body);
             drop(body);
             draft
         }

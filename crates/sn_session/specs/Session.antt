@@ -33,32 +33,36 @@ is_full session (Received id) = id_has_no_room id session.received
 is_full session change = false
 
 -- the session after one more operation that finds room
-abbrev pub changed : Session → SessionOp → Session
-changed session (Take taken) = taken
-changed session (SetPresence presence duration) =
+abbrev pub session_changed : Session → SessionOp → Session
+session_changed session (Take taken) = taken
+session_changed session (SetPresence presence duration) =
     record session { presence = presence; duration = duration }
-changed session (Register id name known) =
+session_changed session (Register id name known) =
     record session {
       topics = with_topic
           (record { id = id; name = name; known = known }) session.topics;
     }
-changed session (Subscribe filter qos) =
+session_changed session (Subscribe filter qos) =
     record session {
       subscriptions = with_subscription
           (record { filter = filter; qos = qos }) session.subscriptions;
     }
-changed session (Unsubscribe filter) =
+session_changed session (Unsubscribe filter) =
     record session { subscriptions = without_filter filter session.subscriptions }
-changed session (WillTopic asked) = record session { will = with_will_topic asked session.will }
-changed session (WillMsg message) = record session { will = with_will_message message session.will }
-changed session (Received id) = record session { received = with_received id session.received }
-changed session (Released id) = record session { received = without_received id session.received }
-changed session (Outbound exchange next_id) =
+session_changed session (WillTopic asked) =
+    record session { will = with_will_topic asked session.will }
+session_changed session (WillMsg message) =
+    record session { will = with_will_message message session.will }
+session_changed session (Received id) =
+    record session { received = with_received id session.received }
+session_changed session (Released id) =
+    record session { received = without_received id session.received }
+session_changed session (Outbound exchange next_id) =
     record session { outbound = exchange; next_id = next_id }
 
 -- the session after one more operation: one that finds its table full leaves the session as it was
 abbrev pub applied : Session → SessionOp → Session
-applied session change = if is_full session change then session else changed session change
+applied session change = if is_full session change then session else session_changed session change
 
 -- whether the operation holds a whole session
 abbrev pub is_take : SessionOp → Bool
@@ -66,10 +70,10 @@ is_take (Take taken) = true
 is_take change = false
 
 -- whether the operation puts nothing into a session that takes memory: no octets, and no entry
-abbrev pub is_light : SessionOp → Bool
-is_light (SetPresence presence duration) = true
-is_light (Unsubscribe filter) = true
-is_light (WillTopic asked) = is_none asked
-is_light (Released id) = true
-is_light (Outbound exchange next_id) = true
-is_light change = false
+abbrev pub is_light_op : SessionOp → Bool
+is_light_op (SetPresence presence duration) = true
+is_light_op (Unsubscribe filter) = true
+is_light_op (WillTopic asked) = is_none asked
+is_light_op (Released id) = true
+is_light_op (Outbound exchange next_id) = true
+is_light_op change = false

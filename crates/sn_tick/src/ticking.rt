@@ -7,7 +7,7 @@ ghost use Rattle.sn_local.specs.declared.local.LocalChange.TheVariants.{Heard, R
 ghost use Rattle.sn_plan.specs.Drafts.{moved};
 ghost use Rattle.sn_plan.specs.Others.{can_wake};
 ghost use Rattle.sn_local.specs.Seen.{seen_of};
-ghost use Rattle.sn_plan.specs.Plans.{Gives};
+ghost use Rattle.sn_plan.specs.Plans.{GivesPlan};
 ghost use Rattle.sn_plan.specs.Plans as plans;
 ghost use Rattle.sn_plan.specs.Bound as bound;
 ghost use Rattle.sn_exchange.specs.Following as following;
@@ -167,8 +167,8 @@ fn clean<R: Replica>(alloc: Global, draft: &mut Draft, turn: &Turn<'_, R>) -> Re
 }
 
 /// What every tick does first.
-fn cleaned<R: Replica>(alloc: Global, turn: &Turn<'_, R>) -> Result<Draft, NoMemory>
-    ensures { IfOk result (λ draft. draft ≡ spec.cleaned turn.now.config.now.gateway
+fn begin_tick<R: Replica>(alloc: Global, turn: &Turn<'_, R>) -> Result<Draft, NoMemory>
+    ensures { IfOk result (λ draft. draft ≡ spec.begin_tick turn.now.config.now.gateway
         (seen_of (R.kept turn.now.replica.now)) turn.now.dialogs.now.local turn.now.moment) }
 {
     let mut draft = Draft::new(alloc);
@@ -313,7 +313,7 @@ fn publish_will<R: Replica>(
 }
 
 /// And then the client is lost: its will is published, and it has no address any more.
-fn lose<R: Replica>(
+fn give_up_client<R: Replica>(
     alloc: Global,
     replica: &R,
     client: &ClientId,
@@ -359,7 +359,7 @@ fn plan_expiry<R: Replica>(
     mut draft: Draft,
     client: &ClientId,
 ) -> Result<Plan, StepFault>
-    ensures { Gives result (plans.plan_of turn.now.config.now.gateway client.now
+    ensures { GivesPlan result (plans.plan_of turn.now.config.now.gateway client.now
         (seen_of (R.kept turn.now.replica.now))
         (expiry.expire_all (seen_of (R.kept turn.now.replica.now)) turn.now.dialogs.now.local
         turn.now.moment client.now draft)) }
@@ -376,14 +376,14 @@ fn plan_loss<R: Replica>(
     mut draft: Draft,
     client: &ClientId,
 ) -> Result<Plan, StepFault>
-    ensures { Gives result (plans.plan_of turn.now.config.now.gateway client.now
+    ensures { GivesPlan result (plans.plan_of turn.now.config.now.gateway client.now
         (seen_of (R.kept turn.now.replica.now))
         (spec.lost (seen_of (R.kept turn.now.replica.now)) client.now
         (bound.session_of (seen_of (R.kept turn.now.replica.now)) client.now) draft)) }
 {
     let empty = Session::empty(alloc);
     let session = session_or(turn.replica, client, &empty);
-    let lost = lose(alloc, turn.replica, client, session, &mut draft);
+    let lost = give_up_client(alloc, turn.replica, client, session, &mut draft);
     drop(empty);
     let draft = finished(draft, lost)?;
     plan_of(alloc, turn.config.gateway, turn.replica, client, draft)
@@ -401,8 +401,8 @@ fn retry(alloc: Global, draft: &mut Draft, now: u64, client: &ClientId) -> Resul
 }
 
 /// One try more: Resend follows.
-fn retried(alloc: Global, now: u64, mut draft: Draft, client: &ClientId) -> Result<Row, NoMemory>
-    ensures { IfOk result (λ row. row ≡ spec.retried now draft client.now) }
+fn retry_row(alloc: Global, now: u64, mut draft: Draft, client: &ClientId) -> Result<Row, NoMemory>
+    ensures { IfOk result (λ row. row ≡ spec.retry_row now draft client.now) }
 {
     let done = retry(alloc, &mut draft, now, client);
     let draft = finished(draft, done)?;
@@ -416,7 +416,7 @@ fn plan_row_at<R: Replica>(
     address: Addr,
     row: Row,
 ) -> Result<Plan, StepFault>
-    ensures { Gives result (following.deliver_next turn.now.config.now.gateway
+    ensures { GivesPlan result (following.deliver_next turn.now.config.now.gateway
         turn.now.config.now.predefined (seen_of (R.kept turn.now.replica.now)) address
         turn.now.moment row) }
 {
@@ -438,11 +438,11 @@ fn plan_retry<R: Replica>(
     client: &ClientId,
     address: Addr,
 ) -> Result<Plan, StepFault>
-    ensures { Gives result (following.deliver_next turn.now.config.now.gateway
+    ensures { GivesPlan result (following.deliver_next turn.now.config.now.gateway
         turn.now.config.now.predefined (seen_of (R.kept turn.now.replica.now)) address
-        turn.now.moment (spec.retried turn.now.moment draft client.now)) }
+        turn.now.moment (spec.retry_row turn.now.moment draft client.now)) }
 {
-    let row = retried(alloc, turn.moment, draft, client)?;
+    let row = retry_row(alloc, turn.moment, draft, client)?;
     plan_row_at(alloc, turn, address, row)
 }
 
@@ -454,7 +454,7 @@ fn plan_due<R: Replica>(
     client: &ClientId,
     due: Due,
 ) -> Result<Plan, StepFault>
-    ensures { Gives result (spec.plan_due turn.now.config.now.gateway
+    ensures { GivesPlan result (spec.plan_due turn.now.config.now.gateway
         turn.now.config.now.predefined (seen_of (R.kept turn.now.replica.now))
         turn.now.dialogs.now.local turn.now.moment draft client.now due) }
 {
@@ -476,7 +476,7 @@ fn plan_if_due<R: Replica>(
     draft: Draft,
     found: Option<(ClientId, Due)>,
 ) -> Result<Plan, StepFault>
-    ensures { Gives result (spec.plan_if_due turn.now.config.now.gateway
+    ensures { GivesPlan result (spec.plan_if_due turn.now.config.now.gateway
         turn.now.config.now.predefined (seen_of (R.kept turn.now.replica.now))
         turn.now.dialogs.now.local turn.now.moment draft found) }
 {
@@ -493,7 +493,7 @@ fn plan_advertisement(
     now: u64,
     draft: Draft,
 ) -> Result<Plan, StepFault>
-    ensures { Gives result (Some (plans.plan_without (spec.advertised config.now.gateway
+    ensures { GivesPlan result (Some (plans.plan_without (spec.advertised config.now.gateway
         config.now.advertise config.now.field now draft))) }
 {
     let field = config.field.as_slice();
@@ -507,7 +507,7 @@ fn plan_first<R: Replica>(
     turn: &Turn<'_, R>,
     draft: Draft,
 ) -> Result<Plan, StepFault>
-    ensures { Gives result (spec.plan_if_due turn.now.config.now.gateway
+    ensures { GivesPlan result (spec.plan_if_due turn.now.config.now.gateway
         turn.now.config.now.predefined (seen_of (R.kept turn.now.replica.now))
         turn.now.dialogs.now.local turn.now.moment draft
         (dues.first_due turn.now.config.now.gateway (seen_of (R.kept turn.now.replica.now))
@@ -525,8 +525,12 @@ fn plan_first<R: Replica>(
 }
 
 /// The plan of one thing.
-fn one_thing<R: Replica>(alloc: Global, turn: &Turn<'_, R>, draft: Draft) -> Result<Plan, StepFault>
-    ensures { Gives result (spec.one_thing turn.now.config.now.gateway
+fn plan_one_thing<R: Replica>(
+    alloc: Global,
+    turn: &Turn<'_, R>,
+    draft: Draft,
+) -> Result<Plan, StepFault>
+    ensures { GivesPlan result (spec.plan_one_thing turn.now.config.now.gateway
         turn.now.config.now.advertise turn.now.config.now.field turn.now.config.now.predefined
         (seen_of (R.kept turn.now.replica.now)) turn.now.dialogs.now.local turn.now.moment
         draft) }
@@ -551,7 +555,8 @@ pub fn tick<R: Replica>(
     dialogs: &Dialogs,
     now: u64,
 ) -> Result<Plan, StepFault>
-    ensures { Gives result (spec.tick config.now.gateway config.now.lifetime config.now.advertise
+    ensures { GivesPlan result
+        (spec.tick config.now.gateway config.now.lifetime config.now.advertise
         config.now.field config.now.predefined (seen_of (R.kept replica.now)) dialogs.now.local
         now) }
 {
@@ -561,8 +566,8 @@ pub fn tick<R: Replica>(
         dialogs,
         moment: now,
     };
-    let mut draft = cleaned(alloc, &turn)?;
+    let mut draft = begin_tick(alloc, &turn)?;
     let moment = expires_at(config.lifetime, now);
     draft.last_until(moment);
-    one_thing(alloc, &turn, draft)
+    plan_one_thing(alloc, &turn, draft)
 }

@@ -22,7 +22,7 @@ pub(crate) const CONGESTION: u8 = 1;
 
 /// After how many seconds the list of those that are known is old: over links others may have
 /// become known.
-const A_WHILE: u64 = 10;
+const KNOWN_SECONDS: u64 = 10;
 
 /// What becomes of a datagram.
 #[derive(Clone, Copy, PartialEq, Eq)]
@@ -75,7 +75,7 @@ impl Admission {
 
     /// Whether others may have become known since they were looked up.
     pub(crate) fn is_old(&self, second: u64) -> bool {
-        second.saturating_sub(self.looked) >= A_WHILE
+        second.saturating_sub(self.looked) >= KNOWN_SECONDS
     }
 
     /// What becomes of a datagram that came in this second. What may be a frame is never dropped.

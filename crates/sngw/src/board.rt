@@ -18,7 +18,7 @@ use std::sync::{Mutex, Wait};
 use std::time::Clock;
 
 /// How many milliseconds pass between two glances.
-const A_GLANCE: u64 = 5_000;
+const GLANCE_INTERVAL_MS: u64 = 5_000;
 
 /// Of how many shifts the calls wait at most.
 const MOST_SHIFTS: usize = 64;
@@ -252,7 +252,7 @@ impl Board {
     /// Whether it is time for a glance. From now on it was.
     pub(crate) fn may_glance<C: Clock>(&self, clock: &C) -> bool {
         let now = millisecond(clock);
-        if now.saturating_sub(self.get(Number::Glanced)) < A_GLANCE {
+        if now.saturating_sub(self.get(Number::Glanced)) < GLANCE_INTERVAL_MS {
             return false;
         }
         self.set(Number::Glanced, now);

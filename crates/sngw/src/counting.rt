@@ -27,7 +27,7 @@ const NEAR_FULL: usize = MAX_PENDING / 4 * 3;
 pub(crate) const MANY_TOPICS: usize = 240;
 
 /// How many octets a page of memory has.
-const A_PAGE: u64 = 4_096;
+const PAGE_OCTETS: u64 = 4_096;
 
 /// How many octets of `/proc/self/statm` are read.
 const STATM: usize = 128;
@@ -429,7 +429,7 @@ fn resident<T: Files<File = File>>(rt: &T) -> u64 {
             let mut octets = [0u8; STATM];
             let pages = pages_of(&mut file, &mut octets);
             drop(file);
-            pages.saturating_mul(A_PAGE)
+            pages.saturating_mul(PAGE_OCTETS)
         }
         Err(_) => 0,
     }

@@ -9,11 +9,11 @@ ghost use Rattle.std.specs.Prelude.{◌≡◌, if◌then◌else◌};
 ghost use Rattle.gw_wire.specs.Clock as clocks;
 
 use crate::board::Number;
-use crate::late::Inlet;
+use crate::held_over::Inlet;
 use crate::program::Program;
 use crate::running::tell;
 use crate::stop::Stop;
-use gw_main::number_of;
+use gw_main::begin_fault_number;
 use gw_main::options::Settings;
 use gw_node::Node;
 use gw_wire::{FieldClock, date, is_astray, is_date};
@@ -120,7 +120,7 @@ fn opened_with<R: Replica, D: Disk + Drop>(
         Ok(opened) => Ok(opened),
         Err((disk, fault)) => {
             drop(disk);
-            let number = number_of(&fault);
+            let number = begin_fault_number(&fault);
             drop(fault);
             Err(Stop::Reopening(number))
         }

@@ -21,20 +21,20 @@ use std::time::{Clock, Duration};
 
 /// How many milliseconds a read of a link waits. So often a link looks for deltas to tell, and
 /// whether its shift is over.
-const A_READ: u64 = 10;
+const READ_TIMEOUT_MS: u64 = 10;
 
 /// How many milliseconds a write of a link waits. What the other end has not taken by then waits,
 /// and what it says is read.
-const A_WRITE: u64 = 10;
+const WRITE_TIMEOUT_MS: u64 = 10;
 
 /// How many milliseconds a peer has to take a call: one that is far away is linked too.
-const A_DIAL: u64 = 10_000;
+const DIAL_TIMEOUT_MS: u64 = 10_000;
 
 /// How many milliseconds pass before a peer is dialled again.
-const A_PAUSE: u64 = 1_000;
+const REDIAL_WAIT_MS: u64 = 1_000;
 
 /// How many milliseconds pass before it is looked again whether somebody dials.
-const A_LOOK: u64 = 50;
+const ACCEPT_WAIT_MS: u64 = 50;
 
 /// How many lines are told at once.
 const MOST_LINES: usize = 16;
@@ -106,7 +106,7 @@ fn dial_all<T: Wait + Clock + Net<Listener = TcpListener, Stream = TcpStream>>(
         if program.shared.pool.may_open(rt, door.origin) {
             dial_in_turn(program, door, &mut dials);
         }
-        program.over.wait(rt, Phase::Serving, A_PAUSE);
+        program.over.wait(rt, Phase::Serving, REDIAL_WAIT_MS);
     }
     unreachable!()
 }
@@ -150,7 +150,11 @@ fn dial<T: Wait + Clock + Net<Listener = TcpListener, Stream = TcpStream>>(
     door: Door,
     pool: &Pool<TcpStream>,
 ) -> bool {
-    let found = TcpStream::connect_timeout(rt, &address(door.at), Duration::from_millis(A_DIAL));
+    let found = TcpStream::connect_timeout(
+        rt,
+        &address(door.at),
+        Duration::from_millis(DIAL_TIMEOUT_MS),
+    );
     match found {
         Ok(stream) => {
             open(rt, alloc, stream, door.origin, pool);
@@ -180,7 +184,7 @@ fn accept_all<T: Wait + Clock + Print + Eprint>(program: &Program<'_, T>, listen
         }
         match listener.accept() {
             Ok((stream, _)) => accept(rt, program.alloc, stream, program.shared),
-            Err(_) => program.over.wait(rt, Phase::Serving, A_LOOK),
+            Err(_) => program.over.wait(rt, Phase::Serving, ACCEPT_WAIT_MS),
         }
     }
     unreachable!()
@@ -202,10 +206,10 @@ fn open<T: Wait>(rt: &T, alloc: Global, stream: TcpStream, origin: Origin, pool:
     let is_set = stream.set_nonblocking(false).is_ok()
         && stream.set_nodelay(true).is_ok()
         && stream
-            .set_read_timeout(Some(Duration::from_millis(A_READ)))
+            .set_read_timeout(Some(Duration::from_millis(READ_TIMEOUT_MS)))
             .is_ok()
         && stream
-            .set_write_timeout(Some(Duration::from_millis(A_WRITE)))
+            .set_write_timeout(Some(Duration::from_millis(WRITE_TIMEOUT_MS)))
             .is_ok();
     if is_set {
         pool.open(rt, Link::new(alloc, stream, origin));

@@ -20,7 +20,7 @@ const AT_ONCE: usize = 4;
 const MOST_LOOKS: usize = 1_024;
 
 /// How many milliseconds pass before it is looked again whether it is time for a glance.
-const A_LOOK: u64 = 200;
+const GLANCE_WAIT_MS: u64 = 200;
 
 /// Looks at the clients while the shift serves. If memory runs out, or the shift ends, the last
 /// glance stays. Runs in a thread of its own; it takes the shift's lock for a few clients at a
@@ -41,7 +41,7 @@ pub(crate) fn glance_all<T: Wait + Clock, R: Replica, D: Disk + Drop>(
                 None => {}
             }
         }
-        work.stage.wait(rt, Phase::Serving, A_LOOK);
+        work.stage.wait(rt, Phase::Serving, GLANCE_WAIT_MS);
     }
     unreachable!()
 }

@@ -32,7 +32,7 @@ const MOST_EVENTS: usize = 256;
 const MOST_TROUBLES: usize = 16;
 
 /// How many milliseconds pass before it is told again that datagrams were dropped.
-const A_MINUTE: u64 = 60_000;
+const DROPS_INTERVAL_MS: u64 = 60_000;
 
 /// How many milliseconds pass before it is told again who is at a limit.
 const AN_HOUR: u64 = 3_600_000;
@@ -319,7 +319,7 @@ fn find_turn(news: &mut News, board: &Board, happened: &mut Happened) {
 /// How many datagrams were dropped, once in a minute.
 fn find_dropped(news: &mut News, board: &Board, happened: &mut Happened, now: u64) {
     let dropped = board.get(Number::Dropped);
-    let is_time = happened.told == 0 || now.saturating_sub(happened.told) > A_MINUTE;
+    let is_time = happened.told == 0 || now.saturating_sub(happened.told) > DROPS_INTERVAL_MS;
     if dropped > happened.dropped && is_time {
         let times = growth(&mut happened.dropped, dropped);
         happened.told = now;

@@ -1,7 +1,7 @@
 //! The journal between shifts: when it is written anew, and when a gateway that cannot write tries
 //! again.
 
-use gw_main::{Tended, base_of, is_grown, next_wait};
+use gw_main::{Tended, changed_length, is_grown, next_wait};
 use std::alloc::Global;
 use std::fs::{File, Files, metadata};
 
@@ -65,7 +65,7 @@ impl<'a> Keeper<'a> {
         };
         self.both = after.0.saturating_add(after.1);
         self.base = match before {
-            Some(before) if is_written(tended) => base_of(before, after),
+            Some(before) if is_written(tended) => changed_length(before, after),
             _ => after.0.max(after.1),
         };
     }

@@ -22,7 +22,7 @@
 //! - `doors`: how links are made: peers are dialled, others are accepted.
 //! - `working`: the threads of one shift.
 //! - `watched`: the wire, which ends with the shift.
-//! - `late`: a datagram that came when its shift had no call left for it.
+//! - `held_over`: a datagram that came when its shift had no call left for it.
 //! - `posting`: how replies go out.
 //! - `admission`: which datagrams become calls, and which clients are let in.
 //! - `board`: what is counted for whoever watches the gateway.
@@ -40,9 +40,9 @@ mod doors;
 mod gathering;
 mod glancing;
 mod happenings;
+mod held_over;
 mod ignored;
 mod keeping;
-mod late;
 mod lines;
 mod posting;
 mod program;

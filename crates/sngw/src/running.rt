@@ -8,8 +8,8 @@ use crate::admission::Admission;
 use crate::board::{Board, Number, Shared};
 use crate::dates::{begin_dates, by_date};
 use crate::doors::{Door, doors_of, keep_all};
+use crate::held_over::{Inlet, Late};
 use crate::keeping::{Keeper, is_written};
-use crate::late::{Inlet, Late};
 use crate::posting::Fence;
 use crate::program::{Program, Task};
 use crate::stop::Stop;
@@ -17,7 +17,7 @@ use crate::watcher::show_all;
 use crate::working::{Worked, work};
 use gw_link::{Phase, Stage};
 use gw_main::options::Settings;
-use gw_main::{Tended, number_of, tend};
+use gw_main::{Tended, begin_fault_number, tend};
 use gw_node::Node;
 use gw_run::Pool;
 use gw_wire::{Socket, address, millisecond};
@@ -635,7 +635,7 @@ fn tend_behind<T: Wait + Clock + Print + Eprint + Files<File = File>, R: Replica
             keeper.note_tended(rt, program.alloc, before, tended);
             Ok(tended)
         }
-        Err(fault) => Err(Stop::Reopening(number_of(&fault))),
+        Err(fault) => Err(Stop::Reopening(begin_fault_number(&fault))),
     }
 }
 

@@ -4,7 +4,7 @@ ghost use Rattle.std.specs.Prelude.{◌≡◌, ◌+◌};
 
 use crate::admission::{Admission, CONGESTION, Verdict};
 use crate::board::Number;
-use crate::late::Late;
+use crate::held_over::Late;
 use crate::program::Program;
 use gw_link::{Phase, Stage};
 use gw_wire::{Arrival, Came, Post, Tally, Wire, WireFault};
@@ -13,17 +13,17 @@ use std::sync::Wait;
 use std::time::Clock;
 
 /// How many milliseconds the reader rests that has no room for more.
-const A_REST: u64 = 1;
+const FULL_WAIT_MS: u64 = 1;
 
 /// How often the reader rests, and how many seconds its clock goes on meanwhile, before the shift
 /// is closed since nobody takes what it read.
 const MOST_RESTS: u32 = 4_000;
 
 /// The seconds of that.
-const A_LONG_TIME: u64 = 4;
+const MOST_RESTS_SECONDS: u64 = 4;
 
 /// How many milliseconds pass before it is looked again whether the gateway listens.
-const A_LOOK: u64 = 10;
+const LISTEN_WAIT_MS: u64 = 10;
 
 /// A wire that is over when its shift is to close, and closes it when all its calls are claimed.
 /// What comes is a call's, which is claimed for it and given back if it is dropped; what comes when
@@ -173,7 +173,7 @@ impl<'a, T: Wait + Clock, W: Wire, P: Post> Wire for Watched<'a, T, W, P> {
             return Ok(Came::Over);
         }
         if is_listening {
-            self.stage.wait(rt, Phase::Serving, A_LOOK);
+            self.stage.wait(rt, Phase::Serving, LISTEN_WAIT_MS);
             return Ok(Came::Nothing);
         }
         match self.wire.recv(buffer) {
@@ -203,7 +203,7 @@ impl<'a, T: Wait + Clock, W: Wire, P: Post> Wire for Watched<'a, T, W, P> {
         }
     }
 
-    fn unheard(&mut self) {
+    fn note_dropped(&mut self) {
         self.drops = Tally::next(&self.drops);
         self.program.shared.board.add(Number::Dropped);
         self.stage.give_back();
@@ -219,9 +219,10 @@ impl<'a, T: Wait + Clock, W: Wire, P: Post> Wire for Watched<'a, T, W, P> {
             pool.note_full();
         }
         self.rests = self.rests.saturating_add(1);
-        if self.rests > MOST_RESTS && second > self.rested.saturating_add(A_LONG_TIME) {
+        if self.rests > MOST_RESTS && second > self.rested.saturating_add(MOST_RESTS_SECONDS) {
             self.stage.close(self.program.rt);
         }
-        self.stage.wait(self.program.rt, Phase::Serving, A_REST);
+        self.stage
+            .wait(self.program.rt, Phase::Serving, FULL_WAIT_MS);
     }
 }

@@ -21,12 +21,12 @@ use std::time::Clock;
 
 /// How many milliseconds pass before it is looked again whether somebody calls, while somebody is
 /// served and while nobody is.
-const A_MOMENT: u64 = 5;
+const BUSY_WAIT_MS: u64 = 5;
 
-const A_LOOK: u64 = 50;
+const IDLE_WAIT_MS: u64 = 50;
 
 /// How many milliseconds pass before what is reported is gathered again.
-const A_SECOND: u64 = 1_000;
+const GATHER_INTERVAL_MS: u64 = 1_000;
 
 /// What the thread holds.
 #[derive(Drop)]
@@ -57,7 +57,7 @@ pub(crate) fn show_all<T: Wait + Clock + Print + Eprint + Files<File = File>>(
                 show(program, listener, watcher);
                 return;
             }
-            None => program.over.wait(rt, Phase::Serving, A_SECOND),
+            None => program.over.wait(rt, Phase::Serving, GATHER_INTERVAL_MS),
         }
     }
     unreachable!()
@@ -112,7 +112,11 @@ fn watch<T: Wait + Clock + Print + Eprint + Files<File = File>>(
             watcher.piece.as_mut_slice(),
             &watcher.report,
         );
-        let pause = if is_serving { A_MOMENT } else { A_LOOK };
+        let pause = if is_serving {
+            BUSY_WAIT_MS
+        } else {
+            IDLE_WAIT_MS
+        };
         program.over.wait(rt, Phase::Serving, pause);
     }
     unreachable!()
@@ -125,7 +129,7 @@ fn look<T: Wait + Clock + Print + Eprint + Files<File = File>>(
 ) {
     let now = millisecond(program.rt);
     look_at_rounds(program.shared, &mut watcher.gathered, now);
-    if now.saturating_sub(watcher.looked) < A_SECOND {
+    if now.saturating_sub(watcher.looked) < GATHER_INTERVAL_MS {
         return;
     }
     watcher.looked = now;

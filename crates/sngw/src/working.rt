@@ -9,7 +9,7 @@ ghost use Rattle.gw_shift.specs.declared.shift.TheConstants.{MAX_STEPS};
 
 use crate::board::{Board, Number, Shared};
 use crate::glancing::glance_all;
-use crate::late::Inlet;
+use crate::held_over::Inlet;
 use crate::posting::Outlet;
 use crate::program::Program;
 use crate::stop::Stop;

@@ -57,7 +57,7 @@ impl Wire for Brief {
         }
     }
 
-    fn unheard(&mut self) {
+    fn note_dropped(&mut self) {
         self.drops = Tally::next(&self.drops);
     }
 

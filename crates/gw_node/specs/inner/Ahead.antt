@@ -3,7 +3,7 @@ use Rattle.std.specs.Prelude.{◌≡◌, ◌≢◌, ◌⊎◌, ◌++◌, ◌∷�
 use Rattle.std.specs.Option.{option_to_list}
 use Rattle.rep_op.specs.declared.op.Op.{Op}
 use Rattle.rep_ops.specs.Deltas.{IsDelta}
-use Rattle.rep_ops.specs.Making.{AreApart, IsDeltaOf}
+use Rattle.rep_ops.specs.Making.{HaveOwnNames, IsDeltaOf}
 use Rattle.rep_model.specs.Keep.{IsKeptOf}
 use Rattle.rep_model.specs.Taking.{Fits}
 use Rattle.sn_local.specs.declared.config.Send.{Send}
@@ -54,7 +54,7 @@ pub record IsDoneAhead {D : Type 0} {G : Ghosts D} (old : State G) (plan : Plan)
   pub records : new.records ≡ old.records
   pub journal : IsUntouched old.journal new.journal
   pub local : new.local ≡ after_all old.local plan.local
-  pub apart : AreApart plan.ops
+  pub apart : HaveOwnNames plan.ops
   pub made : MakesAhead plan.ops out.made old new
   pub answer : out ≡ record (only_sends plan.sends) { made = out.made }
 
@@ -126,9 +126,9 @@ NotedAs old plan (Err refusals.Memory) new = IsUnchanged old new
 NotedAs old plan answer new = ⊥
 
 -- the delta that was made, if one was
-abbrev pub made_by : Result Out Refusal → List (List Op)
-made_by (Ok out) = option_to_list out.made
-made_by (Err refusal) = []
+abbrev pub made_in : Result Out Refusal → List (List Op)
+made_in (Ok out) = option_to_list out.made
+made_in (Err refusal) = []
 
 -- ---- what is found before anything is written
 

@@ -14,7 +14,7 @@ use Rattle.sn_deliver.specs.Steps.{step}
 use Rattle.sn_tick.specs.Rest.{is_idle}
 use Rattle.sn_tick.specs.Ticking.{tick}
 use Rattle.jr_disk.specs.declared.disk.Disk.{Ghosts}
-use Rattle.jr_journal.specs.Parts.{disk_of, gateway_of}
+use Rattle.jr_journal.specs.Parts.{disk_under, gateway_of}
 use Rattle.gw_answer.specs.declared.out.Out.{Out}
 use Rattle.gw_answer.specs.declared.refusal.Refusal.{Refusal}
 use Rattle.gw_answer.specs.declared.refusal.Refusal.TheVariants as refusals
@@ -109,7 +109,7 @@ pub record IsGivenBack {D : Type 0} {G : Ghosts D} (old : State G) (deltas : Lis
   pub kept : new.kept ≡ old.kept
   pub local : new.local ≡ old.local
   pub gateway : gateway_of new.journal ≡ gateway_of old.journal
-  pub disk : disk_of new.journal ≡ disk_of old.journal
+  pub disk : disk_under new.journal ≡ disk_under old.journal
   pub halts : refusal ≢ refusals.Memory → is_halted new ≡ true
   pub wanting : refusal ≡ refusals.Memory → is_halted new ≡ (if halted then true else is_halted old)
   pub why : DoNotFit deltas refusal

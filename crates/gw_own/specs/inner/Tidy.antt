@@ -19,14 +19,14 @@ abbrev pub is_stranger : List ℕ → Local → Bool
 is_stranger c local = is_none (address_of c local.bindings) && is_none (timer_of c local.timers)
 
 -- whether the gateway owns the client, or knows nothing of it
-abbrev pub is_left : ℕ → Seen → Local → List ℕ → Bool
-is_left g seen local c = is_owned g seen c || is_stranger c local
+abbrev pub stays_bound : ℕ → Seen → Local → List ℕ → Bool
+stays_bound g seen local c = is_owned g seen c || is_stranger c local
 
 -- Whether the operation leaves the gateway each client whose address or timer it knows. So does all
 -- but a Take, and a Take of a client that the gateway owns, or of a stranger.
 abbrev pub leaves_all : ℕ → Seen → Local → Op → Bool
 leaves_all g seen local (OfSession c stamp counter change) =
-    not (counter == 0) || is_left g seen local c
+    not (counter == 0) || stays_bound g seen local c
 leaves_all g seen local op = true
 
 -- whether an address or a timer that the change notes is of a client that the gateway owns

@@ -7,7 +7,7 @@ use Rattle.rep_op.specs.declared.op.Op.{Op}
 use Rattle.rep_ops.specs.Spelling.{max_octets}
 use Rattle.rep_answer.specs.Answers.{IsAnswer}
 use Rattle.rep_digest.specs.Digests.{Digested, digest}
-use Rattle.rep_digest.specs.Spelling.{spelling, IsWithinLimit as IsDigestWithinLimit}
+use Rattle.rep_digest.specs.Spelling.{digest_spelling, IsDigestWithinLimit}
 use Rattle.sn_local.specs.declared.config.Config.{Config}
 use Rattle.jr_disk.specs.declared.disk.Disk.{Ghosts}
 use Rattle.rep_model.specs.Topics.{all_retained}
@@ -18,11 +18,11 @@ use Rattle.gw_answer.specs.declared.step.Step.{Step}
 use Rattle.gw_answer.specs.declared.step.Step.TheVariants as steps
 use Rattle.gw_event.specs.Event.{StepOf, Event as CallEvent, IsWritable}
 use Rattle.gw_event.specs.Together.{InTurnBy, Together}
-use Rattle.jr_disk.specs.declared.disk.Plan.{Plan as Failure}
+use Rattle.jr_disk.specs.declared.disk.Failure.{Failure}
 use Rattle.gw_event.specs.Gateways.{Gateway}
 use Rattle.gw_node.specs.Parts.{State}
 use Rattle.gw_answer.specs.Answers.{said, only_sends}
-use Rattle.gw_node.specs.Standing.{Agrees, fated}
+use Rattle.gw_node.specs.Standing.{CallAgrees, with_failure}
 use Rattle.gw_world.specs.declared.event.Event.{Event}
 use Rattle.gw_world.specs.declared.event.Event.TheVariants.{Frame, Tick, Take, Together as AtOnce, Answer as Asks, WriteFails, Compact, Restart, Show}
 use Rattle.gw_world.specs.declared.event.Call.{Call}
@@ -33,7 +33,7 @@ use Rattle.gw_world.specs.declared.world.WorldFault.{WorldFault}
 use Rattle.gw_world.specs.declared.world.WorldFault.TheVariants as stops
 use Rattle.gw_world.specs.Events.{made_of, answered_of}
 use Rattle.gw_world.specs.Whole.{made_of_all}
-use Rattle.gw_world.specs.Field.{Field, new_field, AreStepsOf, AreFed, Run, NamesNoGateway, NamesNoDelta, shown, gateway_of, failing}
+use Rattle.gw_world.specs.Field.{Field, new_field, AreStepsOf, AreFed, Run, NamesNoGateway, NamesNoDelta, shown, gateway_of_event, failing_gateway}
 use Rattle.gw_world.specs.Keeping.{IsShown, AreShown}
 use Rattle.gw_world.specs.Steps.{restarted, records_left}
 
@@ -48,7 +48,7 @@ IsFed answer = Unit {0}
 abbrev pub GoesOn : {D : Type 0} {G : Ghosts D} → State G → Step → Result Out Refusal → State G
     → Type 0
 GoesOn old step answer new =
-    (gateway : Gateway) → IsShown gateway old → Agrees gateway step
+    (gateway : Gateway) → IsShown gateway old → CallAgrees gateway step
     → (next : Gateway) × (made : List (List Op)) × StepOf gateway step answer next made
     × IsShown next new
 
@@ -62,9 +62,9 @@ IsNoFailure answer = Unit {0}
 abbrev pub AgreeAlong : Gateway → List Step → Type 0
 AgreeAlong gateway [] = Unit {0}
 AgreeAlong gateway (step ∷ rest) =
-    Agrees gateway step
+    CallAgrees gateway step
     × ((fate : Option Failure) (answer : Result Out Refusal) (next : Gateway)
-    (made : List (List Op)) → CallEvent (fated fate gateway) step answer next made
+    (made : List (List Op)) → CallEvent (with_failure fate gateway) step answer next made
     → AgreeAlong next rest)
 
 -- whatever gateway the node stood for, it does these calls with one write, and the node stands for
@@ -100,17 +100,17 @@ StartsAgain old kept count new =
 -- the next write of the node is to fail
 abbrev pub FailsNext : {D : Type 0} {G : Ghosts D} → State G → ℕ → Bool → State G → Type 0
 FailsNext old bytes sync new =
-    (gateway : Gateway) → IsShown gateway old → IsShown (failing bytes sync gateway) new
+    (gateway : Gateway) → IsShown gateway old → IsShown (failing_gateway bytes sync gateway) new
 
 -- the node stands for some gateway
 abbrev pub IsStood : {D : Type 0} {G : Ghosts D} → State G → Type 0
 IsStood state = (gateway : Gateway) × IsShown gateway state
 
 -- what a peer answers to a digest, by what it keeps
-abbrev pub IsAnswered : Digested → List Op → Result Out Refusal → Type 0
-IsAnswered asked kept (Ok out) =
+abbrev pub AnswersDigest : Digested → List Op → Result Out Refusal → Type 0
+AnswersDigest asked kept (Ok out) =
     IsAnswer asked kept out.answer × (out ≡ record (only_sends []) { answer = out.answer })
-IsAnswered asked kept (Err refusal) = ⊥
+AnswersDigest asked kept (Err refusal) = ⊥
 
 -- why a gateway gives no digest: it is too long, or memory ran out
 abbrev pub IsNoDigest : Refusal → Type 0
@@ -121,8 +121,8 @@ IsNoDigest refusal = ⊥
 -- what the digest of what is kept comes to at a peer, by what that one keeps
 abbrev pub AskKept : List Op → List Op → Result Out Refusal → Type 0
 AskKept kept other (Ok out) =
-    IsDigestWithinLimit (digest kept) × IsAnswered (digest kept) other (Ok out)
-AskKept kept other (Err refusals.Full) = max_octets < length (spelling (digest kept))
+    IsDigestWithinLimit (digest kept) × AnswersDigest (digest kept) other (Ok out)
+AskKept kept other (Err refusals.Full) = max_octets < length (digest_spelling (digest kept))
 AskKept kept other answer = ⊥
 
 -- ---- nodes in their places
@@ -150,7 +150,8 @@ StepsAt olds i step answer news = Moves olds i (λ old new. GoesOn old step answ
 -- the i-th node answers these calls so, which have one write, and no other node changes
 abbrev pub RowAt : {D : Type 0} {G : Ghosts D} → List (State G) → ℕ → List Step
     → List (Result Out Refusal) → List (State G) → Type 0
-RowAt olds i called answers news = Moves olds i (λ old new. GoesTogether old called answers new) news
+RowAt olds i called answers news =
+    Moves olds i (λ old new. GoesTogether old called answers new) news
 
 -- the digest of the i-th node goes to the j-th
 abbrev pub AskAt : {D : Type 0} {G : Ghosts D} → List (State G) → ℕ → ℕ → Result Out Refusal
@@ -257,7 +258,7 @@ EventAt olds deltas i (Show number) news next answer =
 abbrev pub EventPlayed : {D : Type 0} {G : Ghosts D} → List (State G) → List (List Op) → Event
     → List (State G) → List (List Op) → Answer → Type 0
 EventPlayed olds deltas event news next answer =
-    (i : ℕ) × (place_in (gateway_of event) 0 olds ≡ Some i)
+    (i : ℕ) × (place_in (gateway_of_event event) 0 olds ≡ Some i)
     × EventAt olds deltas i event news next answer
 
 -- ---- events without an answer

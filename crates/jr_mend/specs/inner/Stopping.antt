@@ -4,6 +4,6 @@ use Rattle.jr_mend.specs.declared.stop.Stop.{Stop}
 use Rattle.jr_mend.specs.declared.stop.Stop.TheVariants as stops
 
 -- the status of the program
-abbrev pub status_of : Stop → ℕ
-status_of (stops.Journal number) = 2
-status_of stop = 1
+abbrev pub mend_status : Stop → ℕ
+mend_status (stops.Journal number) = 2
+mend_status stop = 1

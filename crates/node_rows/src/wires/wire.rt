@@ -79,7 +79,7 @@ impl<'a> Wire for Told<'a> {
         }
     }
 
-    fn unheard(&mut self) {
+    fn note_dropped(&mut self) {
         self.drops = Tally::next(&self.drops);
     }
 

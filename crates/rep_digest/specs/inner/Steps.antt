@@ -37,8 +37,8 @@ abbrev pub numbers_of : ℕ → Acknowledged → Option (ℕ × ℕ)
 numbers_of origin a = if origin == a.origin then Some (a.first, a.last) else None
 
 -- the sequence number of a message of this origin; none of another's
-abbrev pub seq_of : ℕ → Put → Option ℕ
-seq_of origin put = if origin == put.origin then Some put.seq else None
+abbrev pub seq_if_own : ℕ → Put → Option ℕ
+seq_if_own origin put = if origin == put.origin then Some put.seq else None
 
 -- a number after the others; it joins the last range if it touches it
 abbrev pub with_number : List (ℕ × ℕ) → ℕ → List (ℕ × ℕ)
@@ -55,7 +55,7 @@ abbrev pub drafted : List Acknowledged → List Put → ℕ → OriginEntry
 drafted acks pending origin = record {
   origin = origin;
   acknowledged = filter_map (numbers_of origin) acks;
-  waiting = in_ranges_of (filter_map (seq_of origin) pending);
+  waiting = in_ranges_of (filter_map (seq_if_own origin) pending);
 }
 
 -- the origins 1 to 255 that have ranges

@@ -127,7 +127,7 @@ outcome_at levels.Zero = Some outcomes.Accepted
 outcome_at levels.MinusOne = Some outcomes.Accepted
 
 -- the status of the program
-abbrev pub status_of : Outcome → ℕ
-status_of outcomes.Accepted = 0
-status_of outcomes.Refused = 1
-status_of outcomes.Unanswered = 2
+abbrev pub outcome_status : Outcome → ℕ
+outcome_status outcomes.Accepted = 0
+outcome_status outcomes.Refused = 1
+outcome_status outcomes.Unanswered = 2

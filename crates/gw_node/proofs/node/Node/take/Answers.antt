@@ -6,4 +6,4 @@ use Rattle.gw_node.proofs.node.Node.take.Goals as goal
 pub returns-clause-event : goal.returns-clause-event
 returns-clause-event g c =
     rw c.one_share.ensures
-    (event_on (state_of g.R.Replica.kept c.args.self.now) (state_of g.R.Replica.kept c.take_in.new.node) (steps.Take c.args.delta.now) c.take_in.result c.take_in.ensures)
+    (event_on (state_of g.R.Replica.kept c.args.self.now) (state_of g.R.Replica.kept c.write_and_take.new.node) (steps.Take c.args.delta.now) c.write_and_take.result c.write_and_take.ensures)
