@@ -14,7 +14,7 @@ ghost use Rattle.rep_digest.specs.Reading as spec;
 
 use super::entry::{ClientEntry, RetainedEntry};
 use entry::read_entry;
-use order::{may_follow, topic_may_follow};
+use order::{entry_may_follow, topic_may_follow};
 use rep_ops::{MAX_OCTETS, OpsFault, read_four, read_octet};
 use std::alloc::Global;
 use topic::read_retained;
@@ -33,7 +33,7 @@ fn read_entries(
     let mut rest = bytes;
     for _ in 0..count {
         let (entry, after) = read_entry(alloc, rest)?;
-        if !may_follow(entries.as_slice(), &entry) {
+        if !entry_may_follow(entries.as_slice(), &entry) {
             drop(entry);
             return Err(OpsFault::Order);
         }
