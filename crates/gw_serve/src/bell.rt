@@ -93,11 +93,17 @@ impl Bell {
         self.put.fetch_add(1, Ordering::SeqCst);
     }
 
-    /// Whether who has the turn may take one more datagram at once.
-    pub(crate) fn may_take_more(&self) -> bool {
+    /// Whether who has the turn, and has taken so many datagrams, may take one more at once.
+    pub(crate) fn may_take_more(&self, had: usize) -> bool {
         let put = self.put.load(Ordering::SeqCst);
         let taken = self.taken.load(Ordering::SeqCst);
-        may_take_more(put, taken, self.workers)
+        may_take_more(had as u64, put, taken, self.workers)
+    }
+
+    /// How many datagrams wait in the queue, as far as was counted.
+    pub(crate) fn waiting(&self) -> u64 {
+        let put = self.put.load(Ordering::SeqCst);
+        put.saturating_sub(self.taken.load(Ordering::SeqCst))
     }
 
     /// A datagram was taken from the queue.
