@@ -18,6 +18,7 @@ use std::io::{self, ErrorKind, Input};
 use std::process::ExitCode;
 use std::sync::Wait;
 use std::thread::Threads;
+use std::time::Clock;
 
 /// What a heading begins with.
 const HEADING: &str = "=== ";
@@ -38,7 +39,7 @@ fn main(rt: HostRuntime) -> ExitCode {
 /// Plays standard input.
 fn play_input<T>(rt: &T) -> io::Result<()>
 where
-    T: Threads + Wait + Sync + Files<File = File> + Input + Print + Eprint + AllocGlobal,
+    T: Threads + Wait + Sync + Clock + Files<File = File> + Input + Print + Eprint + AllocGlobal,
 {
     let mut rows = Vec::new(rt.alloc());
     let read = read_lines(rt, &mut rows);
@@ -89,7 +90,7 @@ fn front(rows: &[String]) -> usize {
 /// Reads all lines, plays those in front of the first heading, and keeps the others.
 fn read_lines<T>(rt: &T, rows: &mut Vec<String>) -> io::Result<()>
 where
-    T: Threads + Wait + Sync + Files<File = File> + Input + Print + Eprint + AllocGlobal,
+    T: Threads + Wait + Sync + Clock + Files<File = File> + Input + Print + Eprint + AllocGlobal,
 {
     for line in rt.lines(rt.alloc()) {
         take_read(rt, rows, line)?;
@@ -100,7 +101,7 @@ where
 /// Plays or keeps a line that is read.
 fn take_read<T>(rt: &T, rows: &mut Vec<String>, line: io::Result<String>) -> io::Result<()>
 where
-    T: Threads + Wait + Sync + Files<File = File> + Print + Eprint + AllocGlobal,
+    T: Threads + Wait + Sync + Clock + Files<File = File> + Print + Eprint + AllocGlobal,
 {
     match line {
         Ok(line) => take_line(rt, rows, line),
@@ -111,7 +112,7 @@ where
 /// Plays or keeps a line.
 fn take_line<T>(rt: &T, rows: &mut Vec<String>, line: String) -> io::Result<()>
 where
-    T: Threads + Wait + Sync + Files<File = File> + Print + Eprint + AllocGlobal,
+    T: Threads + Wait + Sync + Clock + Files<File = File> + Print + Eprint + AllocGlobal,
 {
     if rows.is_empty() && !line.starts_with(HEADING) {
         let played = refusals::play_line(rt, line.as_str());

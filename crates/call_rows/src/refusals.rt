@@ -49,11 +49,12 @@ use std::fs::{File, Files};
 use std::io::{self, ErrorKind, Write};
 use std::sync::Wait;
 use std::thread::Threads;
+use std::time::Clock;
 
 /// Plays a line.
 pub(crate) fn play_line<T>(rt: &T, line: &str) -> io::Result<()>
 where
-    T: Threads + Wait + Sync + Files<File = File> + Print + Eprint + AllocGlobal,
+    T: Threads + Wait + Sync + Clock + Files<File = File> + Print + Eprint + AllocGlobal,
 {
     if is_word(line, "all") {
         return play_all(rt);
@@ -67,7 +68,7 @@ where
 /// Plays each row.
 fn play_all<T>(rt: &T) -> io::Result<()>
 where
-    T: Threads + Wait + Sync + Files<File = File> + Print + Eprint + AllocGlobal,
+    T: Threads + Wait + Sync + Clock + Files<File = File> + Print + Eprint + AllocGlobal,
 {
     for name in ROWS.split_whitespace() {
         show(rt, name)?;
@@ -89,7 +90,7 @@ fn spend(alloc: Global, count: u32) -> io::Result<()> {
 /// memory was refused to it.
 fn show<T>(rt: &T, name: &str) -> io::Result<()>
 where
-    T: Threads + Wait + Sync + Files<File = File> + Print + Eprint + AllocGlobal,
+    T: Threads + Wait + Sync + Clock + Files<File = File> + Print + Eprint + AllocGlobal,
 {
     let mut said = Said::new(rt.alloc());
     play_row(rt, &mut said, name);

@@ -93,12 +93,18 @@ impl Bell {
         self.put.fetch_add(1, Ordering::SeqCst);
     }
 
-    /// Whether the worker that has the turn may take one more datagram at once. It asks without a
-    /// lock.
-    pub(crate) fn may_take_more(&self) -> bool {
+    /// Whether the worker that has the turn, and has taken so many datagrams, may take one more at
+    /// once. It asks without a lock.
+    pub(crate) fn may_take_more(&self, had: usize) -> bool {
         let put = self.put.load(Ordering::SeqCst);
         let taken = self.taken.load(Ordering::SeqCst);
-        may_take_more(put, taken, self.workers)
+        may_take_more(had as u64, put, taken, self.workers)
+    }
+
+    /// How many datagrams wait in the queue, as far as was counted.
+    pub(crate) fn waiting(&self) -> u64 {
+        let put = self.put.load(Ordering::SeqCst);
+        put.saturating_sub(self.taken.load(Ordering::SeqCst))
     }
 
     /// Counts a datagram that was taken from the queue. The worker that has the turn does.

@@ -87,7 +87,7 @@ pub fn take_row<T: Wait, R: Replica, D: Disk + Drop, P: Post, G: Gate>(
     let rt = shared.rt;
     for count in 0..CAPACITY {
         let _ = count;
-        if !row.numbers.is_empty() && !shared.bell.may_take_more() {
+        if !row.numbers.is_empty() && !shared.bell.may_take_more(row.numbers.len()) {
             return Ok(());
         }
         match receiver.try_recv_as::<Takes, T>(rt, ticket) {

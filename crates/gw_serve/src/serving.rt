@@ -12,6 +12,7 @@ ghost use Rattle.gw_serve.specs.declared.worker.Cause.TheVariants as causes;
 ghost use Rattle.gw_serve.specs.declared.worker.Trouble.TheVariants as troubles;
 
 use crate::bell::Bell;
+use crate::crowd::Crowd;
 use crate::queue::{CAPACITY, Cut, Datagram, Drains, Fair, Hand, Receiver, Sender, Ticket};
 use crate::reader::{Reading, read_all};
 use crate::worker::{Cause, Seat, Shared, Taken, Trouble, work};
@@ -25,6 +26,7 @@ use std::sync::Wait;
 use std::sync::atomic::AtomicBool;
 use std::thread;
 use std::thread::Threads;
+use std::time::Clock;
 
 /// The largest datagram, and more.
 pub const LARGEST: usize = 65_536;
@@ -78,7 +80,7 @@ pub fn serve<'a, T, R, D, W, P, G>(
     turns: u64,
 ) -> Result<Served<'a, R, D>, ServeFault<'a, R, D>>
 where
-    T: Threads + Wait + Sync,
+    T: Threads + Wait + Sync + Clock,
     R: Replica + Send,
     R::Staged: Send,
     D: Disk + Drop + Send,
@@ -125,6 +127,7 @@ where
         alloc,
         shift,
         bell: Bell::new(passes.len() as u64),
+        crowd: Crowd::new(),
         stop: AtomicBool::new(false),
         post,
         gate,
@@ -153,7 +156,7 @@ fn serve_in<'a, T, R, D, W, P, G>(
     turns: u64,
 ) -> Result<Served<'a, R, D>, ServeFault<'a, R, D>>
 where
-    T: Threads + Wait + Sync,
+    T: Threads + Wait + Sync + Clock,
     R: Replica + Send,
     R::Staged: Send,
     D: Disk + Drop + Send,
@@ -303,7 +306,7 @@ fn read_and_work<T, R, D, W, P, G>(
     buffer: &mut [u8],
 ) -> Reading
 where
-    T: Threads + Wait + Sync,
+    T: Threads + Wait + Sync + Clock,
     R: Replica + Send,
     R::Staged: Send,
     D: Disk + Drop + Send,
@@ -350,7 +353,7 @@ fn work_all<T, R, D, P, G>(
     slots: &mut [Option<Seat>],
 )
 where
-    T: Threads + Wait + Sync,
+    T: Threads + Wait + Sync + Clock,
     R: Replica + Send,
     R::Staged: Send,
     D: Disk + Drop + Send,
@@ -370,7 +373,7 @@ where
 }
 
 /// Works at one place. Runs in a worker's thread.
-fn work_at<T: Wait, R: Replica, D: Disk + Drop, P: Post, G: Gate>(
+fn work_at<T: Wait + Clock, R: Replica, D: Disk + Drop, P: Post, G: Gate>(
     shared: &Shared<'_, '_, T, R, D, P, G>,
     receiver: &Receiver,
     slot: &mut Option<Seat>,

@@ -9,6 +9,7 @@ ghost use Rattle.gw_serve.specs.inner.Rows.{IsTakenRow, IsEmptyRow};
 ghost use Rattle.gw_serve.specs.inner.Work.{IsFresh, IsWorked};
 
 use crate::bell::Bell;
+use crate::crowd::{Crowd, moment};
 use crate::queue::{CAPACITY, Receiver, Ticket};
 use crate::row::{End, Row, call_row, leave_rest, take_row, tell_all};
 use gw_shift::{Pass, Shift};
@@ -18,6 +19,7 @@ use rep_model::Replica;
 use std::alloc::Global;
 use std::sync::atomic::{AtomicBool, Ordering};
 use std::sync::{MutexGuard, Wait};
+use std::time::Clock;
 use thiserror::Error;
 
 /// Why serving ended early.
@@ -96,6 +98,8 @@ pub struct Shared<'s, 'a, T: Wait, R: Replica, D: Disk, P: Post, G: Gate> {
     pub shift: &'s Shift<R, D>,
     /// By which the reader wakes workers.
     pub bell: Bell,
+    /// What the last row says of the next one.
+    pub crowd: Crowd,
     /// Whether the reader is to stop.
     pub stop: AtomicBool,
     /// By which the replies go out.
@@ -106,7 +110,7 @@ pub struct Shared<'s, 'a, T: Wait, R: Replica, D: Disk, P: Post, G: Gate> {
 
 /// Works until the queue is closed and empty. If it failed, the reader is to stop. Runs in a
 /// worker's thread.
-pub fn work<T: Wait, R: Replica, D: Disk + Drop, P: Post, G: Gate>(
+pub fn work<T: Wait + Clock, R: Replica, D: Disk + Drop, P: Post, G: Gate>(
     shared: &Shared<'_, '_, T, R, D, P, G>,
     receiver: &Receiver,
     seat: Seat,
@@ -125,7 +129,7 @@ pub fn work<T: Wait, R: Replica, D: Disk + Drop, P: Post, G: Gate>(
 /// made before, so each that was taken is told of, unless the worker must end with a fault. Runs in
 /// a worker's thread. It takes the turn to take numbers and make their calls, and waits for the
 /// bell without it.
-fn take_all<T: Wait, R: Replica, D: Disk + Drop, P: Post, G: Gate>(
+fn take_all<T: Wait + Clock, R: Replica, D: Disk + Drop, P: Post, G: Gate>(
     shared: &Shared<'_, '_, T, R, D, P, G>,
     receiver: &Receiver,
     seat: Seat,
@@ -149,6 +153,7 @@ fn take_all<T: Wait, R: Replica, D: Disk + Drop, P: Post, G: Gate>(
         };
         let heard = bell.heard(rt);
         let turn = bell.take_turn(rt);
+        shared.crowd.wait(rt, bell);
         let Ok(()) = take_row(shared, receiver, &mut ticket, &mut row) else {
             drop(turn);
             drop(row);
@@ -221,7 +226,7 @@ fn room_for(alloc: Global, taken: &mut Vec<Taken>, left: &mut Vec<u64>) -> Optio
 /// Makes the calls of a row, with the turn and under the shift's lock, and then sends their
 /// replies, with neither. What the shift does not make is left, and the reader is to stop. Runs in
 /// a worker's thread.
-fn handle<T: Wait, R: Replica, D: Disk + Drop, P: Post, G: Gate>(
+fn handle<T: Wait + Clock, R: Replica, D: Disk + Drop, P: Post, G: Gate>(
     shared: &Shared<'_, '_, T, R, D, P, G>,
     pass: Pass,
     mut row: Row,
@@ -235,7 +240,12 @@ fn handle<T: Wait, R: Replica, D: Disk + Drop, P: Post, G: Gate>(
     ensures { IsHandled pass row.numbers.items taken.old.items left.old.items result.1
         taken.new.items left.new.items result.0 }
 {
+    let start = moment(shared.rt);
     let (pass, end) = call_row(shared, pass, &mut row);
+    let waiting = shared.bell.waiting();
+    shared
+        .crowd
+        .note(shared.rt, row.numbers.len(), waiting, start);
     let _ = MutexGuard::unlock(turn);
     let Row {
         numbers,

@@ -330,7 +330,7 @@ fn serve_all<T, R, D, W, P>(
     post: &P,
 ) -> Result<(), Stop>
 where
-    T: Threads + Wait + Sync,
+    T: Threads + Wait + Sync + Clock,
     R: Replica + Send,
     R::Staged: Send,
     D: Disk + Drop + Send,

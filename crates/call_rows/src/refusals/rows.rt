@@ -26,6 +26,7 @@ use rep_state::Folded;
 use std::fs::{File, Files};
 use std::sync::Wait;
 use std::thread::Threads;
+use std::time::Clock;
 
 /// The rows, each named after its call.
 pub(crate) const ROWS: &str = "
@@ -159,7 +160,7 @@ pub(crate) const NO_GROWTH: &str = "
 /// Plays a row.
 pub(crate) fn play_row<T>(rt: &T, said: &mut Said, name: &str)
 where
-    T: Threads + Wait + Sync + Files<File = File>,
+    T: Threads + Wait + Sync + Clock + Files<File = File>,
 {
     match parts_of(name) {
         Some((home, call)) => play_known(rt, said, home, call),
@@ -180,7 +181,7 @@ fn parts_of(name: &str) -> Option<(&str, &str)> {
 /// all others to the next.
 fn play_known<T>(rt: &T, said: &mut Said, home: &str, call: &str)
 where
-    T: Threads + Wait + Sync + Files<File = File>,
+    T: Threads + Wait + Sync + Clock + Files<File = File>,
 {
     match home {
         "gw_shift" if is_word(call, "tally") => play::<Reports>(said, call),

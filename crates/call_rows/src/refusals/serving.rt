@@ -13,6 +13,7 @@ use rep_state::Folded;
 use sn_local::Addr;
 use std::sync::Wait;
 use std::thread::{self, Threads};
+use std::time::Clock;
 
 /// A wire that brings one SEARCHGW, and then nothing. It takes no memory.
 #[derive(Drop)]
@@ -99,7 +100,7 @@ pub(crate) fn play_row<T: Wait + Threads + Sync>(rt: &T, said: &mut Said) {
 /// Plays the row of a gateway with these replicas.
 fn play_on<T, R>(rt: &T, said: &mut Said)
 where
-    T: Threads + Wait + Sync,
+    T: Threads + Wait + Sync + Clock,
     R: Replica + Send,
     R::Staged: Send,
 {
@@ -113,7 +114,7 @@ where
 /// given is not known to be `Sync`.
 fn serve_in<T, R>(rt: &T, said: &mut Said, shift: &Shared<R>, mut passes: Vec<Pass>)
 where
-    T: Threads + Wait + Sync,
+    T: Threads + Wait + Sync + Clock,
     R: Replica + Send,
     R::Staged: Send,
 {
@@ -132,7 +133,7 @@ where
 /// Serves the datagram with one worker. If that is refused, its pass comes back.
 fn serve_once<T, R, D>(rt: &T, said: &mut Said, shift: &Shift<R, D>, passes: Vec<Pass>) -> Vec<Pass>
 where
-    T: Threads + Wait + Sync,
+    T: Threads + Wait + Sync + Clock,
     R: Replica + Send,
     R::Staged: Send,
     D: Disk + Drop + Send,

@@ -168,7 +168,7 @@ fn side_by_side<T, R, D, W, P>(
     asker: Asker<'_>,
 ) -> (Option<Vec<u8>>, Outcome)
 where
-    T: Threads + Wait + Sync,
+    T: Threads + Wait + Sync + Clock,
     R: Replica + Send,
     R::Staged: Send,
     D: Disk + Drop + Send,

@@ -270,7 +270,12 @@ fn play_fail(page: &mut Page, row: &mut Row, words: &mut Words) {
 }
 
 /// `serve`: serves what comes in a shift of the open gateway, and closes that.
-fn play_serve<T: Threads + Wait + Sync>(rt: &T, page: &mut Page, row: &mut Row, words: &mut Words) {
+fn play_serve<T: Threads + Wait + Sync + Clock>(
+    rt: &T,
+    page: &mut Page,
+    row: &mut Row,
+    words: &mut Words,
+) {
     if words.end(page) {
         let plan = plan_of(page, row);
         let node = serve_on(rt, page, taken_from(row), &plan);
@@ -280,7 +285,7 @@ fn play_serve<T: Threads + Wait + Sync>(rt: &T, page: &mut Page, row: &mut Row, 
 }
 
 /// Serves what comes in a shift of a gateway, which is closed then.
-fn serve_on<T: Threads + Wait + Sync>(
+fn serve_on<T: Threads + Wait + Sync + Clock>(
     rt: &T,
     page: &mut Page,
     node: Option<Gateway>,
@@ -293,7 +298,7 @@ fn serve_on<T: Threads + Wait + Sync>(
 }
 
 /// Serves what comes in a shift, and closes that.
-fn serve_in<T: Threads + Wait + Sync>(
+fn serve_in<T: Threads + Wait + Sync + Clock>(
     rt: &T,
     page: &mut Page,
     shift: Shared,
@@ -316,7 +321,7 @@ fn opened(page: &mut Page, node: Option<Gateway>, plan: &Plan) -> Option<(Shared
 }
 
 /// Serves what comes, and prints how that ended and what the outside was asked.
-fn serve_noted<T: Threads + Wait + Sync>(
+fn serve_noted<T: Threads + Wait + Sync + Clock>(
     rt: &T,
     page: &mut Page,
     shift: &Shared,
@@ -343,7 +348,7 @@ fn serve_told<T, O>(
     outside: &O,
 ) -> Outcome
 where
-    T: Threads + Wait + Sync,
+    T: Threads + Wait + Sync + Clock,
     O: Post + Gate + Sync,
 {
     let turns = plan.turns.saturating_add(plan.coming.len() as u64);

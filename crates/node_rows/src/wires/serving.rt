@@ -15,6 +15,7 @@ use rep_plain::Plain;
 use std::alloc::Global;
 use std::sync::Wait;
 use std::thread::Threads;
+use std::time::Clock;
 
 /// The row's gateway.
 pub(crate) type Gateway = Node<Plain, MemoryDisk>;
@@ -99,7 +100,7 @@ pub(crate) fn serve_all<T, R, D, W, P, G>(
     sides: Sides<'_, W, P, G>,
 ) -> Outcome
 where
-    T: Threads + Wait + Sync,
+    T: Threads + Wait + Sync + Clock,
     R: Replica + Send,
     R::Staged: Send,
     D: Disk + Drop + Send,
