@@ -93,7 +93,7 @@ impl Post for Mute {
 }
 
 /// Plays the row.
-pub(crate) fn play_row<T: Wait + Threads + Sync>(rt: &T, said: &mut Said) {
+pub(crate) fn play_row<T: Threads + Wait + Sync + Clock>(rt: &T, said: &mut Said) {
     play_on::<T, Folded>(rt, said);
 }
 
