@@ -11,6 +11,7 @@ ghost use Rattle.gw_serve.specs.Serving.{is_frame, Gains};
 ghost use Rattle.gw_serve.specs.inner.Queue.{hand};
 ghost use Rattle.gw_serve.specs.inner.Rows.{IsRow, IsEmptyRow, HasTaken, IsCalled, IsEnd, numbers_from};
 
+use crate::bell::Bell;
 use crate::queue::{CAPACITY, Datagram, Receiver, Takes, Ticket};
 use crate::worker::{Shared, Taken, Trouble};
 use gw_shift::gw_node::{Answer, NodeFault, Out, Step};
@@ -69,12 +70,14 @@ impl Row {
     }
 }
 
-/// Takes what waits: one datagram, and more of them while the bell allows it.
+/// Takes what waits: one datagram, and more of them while the bell allows it, or all, if the worker
+/// has waited for the calls of another one.
 pub fn take_row<T: Wait, R: Replica, D: Disk + Drop, P: Post, G: Gate>(
     shared: &Shared<'_, T, R, D, P, G>,
     receiver: &Receiver,
     ticket: &mut Ticket,
     row: &mut Row,
+    has_waited: bool,
 ) -> Result<(), NoMemory>
     requires channel { IsSeatAt (receives_on receiver.now) ticket.old }
     requires part { (view ticket.old).parts ≡ 1 }
@@ -86,7 +89,7 @@ pub fn take_row<T: Wait, R: Replica, D: Disk + Drop, P: Post, G: Gate>(
     let rt = shared.rt;
     for count in 0..CAPACITY {
         let _ = count;
-        if !row.numbers.is_empty() && !shared.bell.may_take_more(row.numbers.len()) {
+        if !has_waited && !goes_on(&shared.bell, row) {
             return Ok(());
         }
         match receiver.try_recv_as::<Takes, T>(rt, ticket) {
@@ -99,6 +102,11 @@ pub fn take_row<T: Wait, R: Replica, D: Disk + Drop, P: Post, G: Gate>(
         }
     }
     Ok(())
+}
+
+/// Whether a worker that has taken these may take one more.
+fn goes_on(bell: &Bell, row: &Row) -> bool {
+    row.numbers.is_empty() || bell.may_take_more(row.numbers.len())
 }
 
 /// The step of a datagram.
