@@ -1,12 +1,12 @@
 #!/usr/bin/env python3
 """How many readings a second the bridge brings from a gateway to mosquitto, by one lane and by four, beside plain round trips to both.
 
-Usage: bridge.py PROGRAM SNGW [--many N] [--spool] [--saves]
+Usage: bridge.py PROGRAM SNGW [--many N] [--turns N] [--spool] [--saves]
 
 While the broker is away, so many readings wait for each lane, at most 1,000; then it comes back, and the time from the first to the last one at the
 broker's reader counts. A plain round trip is a publication at quality of service 1 and its PUBACK: to the gateway, where a client sleeps that gets it,
 and to the broker, whose reader gets it, one after the other. The goals are 0.7 of what both round trips add up to for one lane, and three times as much for
-four lanes.
+four lanes. Each is measured so many times in turn (5), and the best of each counts, as a disk may be slow for a while.
 With --saves mosquitto saves all it has on each change, one message at a time: then it sets the pace, for any number of lanes.
 """
 import argparse
@@ -77,6 +77,7 @@ def main() -> int:
     words.add_argument("program", type=os.path.abspath)
     words.add_argument("sngw", type=os.path.abspath)
     words.add_argument("--many", type=int, default=1000)
+    words.add_argument("--turns", type=int, default=5)
     words.add_argument("--spool", action="store_true")
     words.add_argument("--saves", action="store_true")
     words = words.parse_args()
@@ -86,11 +87,12 @@ def main() -> int:
             print(f"mosquitto cannot be had: {why}")
             return 0
         try:
-            one, trip = rate(words, folder, broker, 1)
-            four, _ = rate(words, folder, broker, 4)
+            turns = [(rate(words, folder, broker, 1), rate(words, folder, broker, 4)) for _ in range(max(1, words.turns))]
         except Failed as fault:
             print(f"FAILED: {fault}")
             return 1
+    one, four = max(one for (one, _), _ in turns), max(four for _, (four, _) in turns)
+    trip = min(trip for pair in turns for _, trip in pair)
     print(f"plain    {1 / trip:8.0f} a second, a round trip to the gateway and one to the broker")
     print(f"one lane {one:8.0f} a second, {one * trip:.2f} of that; goal 0.7")
     print(f"four     {four:8.0f} a second, {four / one:.1f} times one; goal 3")

@@ -440,7 +440,7 @@ class Scene:
         if broker:
             config = os.path.join(self.folder, "mosquitto.conf")
             with open(config, "w", encoding="utf-8") as it:
-                it.write(f"listener {self.broker_port} {HOST}\nallow_anonymous true\nmax_queued_messages 0\npersistence true\n"
+                it.write(f"listener {self.broker_port} {HOST}\nset_tcp_nodelay true\nallow_anonymous true\nmax_queued_messages 0\npersistence true\n"
                          f"persistence_location {self.folder}/\n" + ("autosave_on_changes true\nautosave_interval 1\n" if saves else ""))
                 if os.geteuid() == 0:
                     it.write("user root\n")
