@@ -9,7 +9,7 @@ The parts, all where none is named:
           each sync takes 10 ms longer. Behind each start all that was acknowledged is in the journal, and in the end it comes to who sleeps.
           There are fewer syncs than half of what was acknowledged, though the clients connect anew behind each start
   fails   N times (10) a write or a sync fails amid the same: one publication is refused each time, and what was acknowledged comes to who sleeps
-  held    the reply to one datagram goes out two seconds late, and one that comes meanwhile is answered before, by the other of two workers
+  held    the reply to one datagram goes out two seconds late, and a datagram right behind it is answered before, by the other of two workers
   peer    64 deltas that come over a link at once are in the journal with one sync, or with two
 
 A start may take N seconds (30). It needs cc. All goes on at 127.0.0.1, at ports that the system gives, in a folder that is gone afterwards.
@@ -240,7 +240,7 @@ def fails(program: str, folder: str, options) -> str:
 
 
 def held(program: str, folder: str, _) -> str:
-    """While a sync is under way a PINGREQ comes, whose reply is late. Another one comes before that goes out."""
+    """While a sync is under way two PINGREQ come. The reply to the first is late."""
     with Counted(folder) as slow, Late(folder) as late, Gateway(program, folder, 1, workers="2") as gateway:
         gateway.start()
         sleeps_at(gateway, b"s-held")
@@ -255,17 +255,15 @@ def held(program: str, folder: str, _) -> str:
                 time.sleep(0.2)
                 slow.say(0)
                 first.send(ping())
-                sent = time.monotonic()
-                time.sleep(0.8)
                 second.send(ping())
                 began = time.monotonic()
-                expect(second.receive(10) == PONG, "the datagram after it was not answered")
+                expect(second.receive(10) == PONG, "the datagram behind it was not answered")
                 took.append(time.monotonic() - began)
-                expect(first.receive(10) == PONG and time.monotonic() - sent > 2, "the reply was not late")
+                expect(first.receive(10) == PONG and time.monotonic() - began > 2, "the reply was not late")
                 while writer.receive(0.2) is not None:
                     pass
-    expect(max(took) < 0.9, f"the datagram after it was answered after {max(took):.2f} seconds")
-    return f"the datagram after it was answered after {max(took):.2f} seconds at most"
+    expect(max(took) < 1.9, f"the datagram behind it was answered after {max(took):.2f} seconds")
+    return f"the datagram behind it was answered after {max(took):.2f} seconds at most"
 
 
 def message_of(kind: int, body: bytes) -> bytes:

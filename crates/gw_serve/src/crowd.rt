@@ -37,8 +37,6 @@ pub fn waits_on(waiting: u64, expected: u64, waited: u64, still: u64, lasted: u6
 /// What the last row says of the next one.
 #[derive(Drop)]
 pub struct Crowd {
-    /// How many rows there were.
-    rows: AtomicU64,
     /// How many datagrams it may have: as many as the last row, and as many as waited after its
     /// calls.
     expected: AtomicU64,
@@ -50,16 +48,9 @@ impl Crowd {
     /// Before the first row.
     pub(crate) fn new() -> Crowd {
         Crowd {
-            rows: AtomicU64::new(0),
             expected: AtomicU64::new(0),
             lasted: AtomicU64::new(0),
         }
-    }
-
-    /// How many rows there were. A worker that sees another number once it has the turn has waited
-    /// for the calls of a row.
-    pub(crate) fn rows(&self) -> u64 {
-        self.rows.load(Ordering::SeqCst)
     }
 
     /// Notes the calls of a row: how many they were, how many wait now, and when they began.
@@ -70,7 +61,6 @@ impl Crowd {
         waiting: u64,
         start: Option<Instant>,
     ) {
-        self.rows.fetch_add(1, Ordering::SeqCst);
         let expected = waiting.saturating_add(count as u64);
         self.expected.store(expected, Ordering::SeqCst);
         let lasted = match (start, moment(clock)) {

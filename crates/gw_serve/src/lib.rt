@@ -4,8 +4,8 @@
 //! full. A datagram that finds it full all the same is dropped without a number. One worker at a
 //! time takes numbers and makes their calls under the shift's lock, so that the calls come in the
 //! order of the numbers; it sends the replies after that, while another worker's calls go on. It
-//! takes all that waits, and one sync serves them. If no call was under way before, it takes one of
-//! no more numbers than there are workers, so that each worker has one. At the end each number is accounted for: it became a
+//! takes all that waits, and one sync serves them; of no more numbers than there are workers it
+//! takes one, so that each worker has one. At the end each number is accounted for: it became a
 //! call, or it was left. How many there are the counts of the wire say.
 //!
 //! - `serving`: the whole (`serve`), and what it hands back (`Served`, `ServeFault`).

@@ -21,11 +21,11 @@ pub fn has_room(put: u64, taken: u64) -> bool
     put.saturating_sub(taken) < CAPACITY as u64
 }
 
-/// Whether a worker that found the turn free and has taken so many datagrams may take one more at
-/// once, if so many were put into the queue and so many were taken from it: it has as many as there
-/// are workers, or at least as many wait. So of as many datagrams as there are workers each worker
-/// finds one, and a reply that is held up holds up none of the others. More than that share a write,
-/// and a late reply delays those that were taken with it.
+/// Whether a worker that has taken so many datagrams may take one more at once, if so many were put
+/// into the queue and so many were taken from it: it has as many as there are workers, or at least
+/// as many wait. So of as many datagrams as there are workers each worker finds one, and a reply
+/// that is held up holds up none of the others. More than that share a write, and a late reply
+/// delays those that were taken with it.
 pub fn may_take_more(had: u64, put: u64, taken: u64, workers: u64) -> bool
     ensures { result ≡ spec.may_take_more had put taken workers }
 {

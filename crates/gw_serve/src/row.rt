@@ -11,7 +11,6 @@ ghost use Rattle.gw_serve.specs.Serving.{is_frame, Gains};
 ghost use Rattle.gw_serve.specs.inner.Queue.{hand};
 ghost use Rattle.gw_serve.specs.inner.Rows.{IsTakenRow, IsEmptyRow, TakesNumbers, AreCalled, IsEnd, row_numbers_from};
 
-use crate::bell::Bell;
 use crate::queue::{CAPACITY, Datagram, Receiver, Takes, Ticket};
 use crate::worker::{Shared, Taken, Trouble};
 use gw_shift::gw_node::{Answer, NodeFault, Out, Step};
@@ -70,14 +69,13 @@ impl Row {
     }
 }
 
-/// Takes what waits: one datagram, and more of them while the bell allows it, or all, if the worker
-/// has waited for the calls of another one. Runs in a worker's thread, with the turn.
+/// Takes what waits: one datagram, and more of them while the bell allows it. Runs in a worker's
+/// thread, with the turn.
 pub fn take_row<T: Wait, R: Replica, D: Disk + Drop, P: Post, G: Gate>(
     shared: &Shared<'_, '_, T, R, D, P, G>,
     receiver: &Receiver,
     ticket: &mut Ticket,
     row: &mut Row,
-    has_waited: bool,
 ) -> Result<(), NoMemory>
     requires channel { IsSeatAt (receives_on receiver.now) ticket.old }
     requires part { (view ticket.old).parts ≡ 1 }
@@ -89,7 +87,7 @@ pub fn take_row<T: Wait, R: Replica, D: Disk + Drop, P: Post, G: Gate>(
     let rt = shared.rt;
     for count in 0..CAPACITY {
         let _ = count;
-        if !has_waited && !goes_on(&shared.bell, row) {
+        if !row.numbers.is_empty() && !shared.bell.may_take_more(row.numbers.len()) {
             return Ok(());
         }
         match receiver.try_recv_as::<Takes, T>(rt, ticket) {
@@ -102,11 +100,6 @@ pub fn take_row<T: Wait, R: Replica, D: Disk + Drop, P: Post, G: Gate>(
         }
     }
     Ok(())
-}
-
-/// Whether a worker that has taken these may take one more.
-fn goes_on(bell: &Bell, row: &Row) -> bool {
-    row.numbers.is_empty() || bell.may_take_more(row.numbers.len())
 }
 
 /// The step of a datagram.

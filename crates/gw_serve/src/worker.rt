@@ -152,11 +152,9 @@ fn take_all<T: Wait + Clock, R: Replica, D: Disk + Drop, P: Post, G: Gate>(
             return seat_of(pass, ticket, taken, left, Some(Trouble::Memory));
         };
         let heard = bell.heard(rt);
-        let rows = shared.crowd.rows();
         let turn = bell.take_turn(rt);
         shared.crowd.wait(rt, bell);
-        let has_waited = rows != shared.crowd.rows();
-        let Ok(()) = take_row(shared, receiver, &mut ticket, &mut row, has_waited) else {
+        let Ok(()) = take_row(shared, receiver, &mut ticket, &mut row) else {
             drop(turn);
             drop(row);
             return seat_of(pass, ticket, taken, left, Some(Trouble::Memory));
