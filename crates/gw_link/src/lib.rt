@@ -10,7 +10,7 @@
 //! - `stage`: how far a shift is, and how its threads wait (`Stage`, `Phase`).
 //! - `work`: what a thread of a shift works with (`Work`).
 //! - `calling`: a call with a pass that comes back (`call`, `End`), and what a refusal of it means
-//!   (`dropped`, `is_halted`).
+//!   (`only_memory`, `is_halted`).
 //! - `link`: a link that is open (`Link`, `Origin`).
 //! - `saying`: what is said over a link.
 //! - `relay`: what all links share: what is handed on, and who is linked (`Relay`).

@@ -9,8 +9,8 @@
 //! SUBSCRIBE and UNSUBSCRIBE. `PacketFault` says how the rest is refused.
 //!
 //! The grammar is in specs/: `Headers` has the first octet of each packet, `Bodies` its body,
-//! `Text` what strings may hold, and `Grammar` Remaining Length and the word `Spells` that both
-//! calls are proved by. `Faults` says what a refusal means. `laws` has what follows from the
+//! `Text` what strings may hold, and `Grammar` Remaining Length and the word `SpellsPacket` that
+//! both calls are proved by. `Faults` says what a refusal means. `laws` has what follows from the
 //! grammar alone: no octets spell two packets, and refused octets have one fault.
 #![tactic(auto)]
 
