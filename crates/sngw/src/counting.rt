@@ -16,7 +16,7 @@ use sn_frame::MsgType;
 use sn_plan::MAX_PENDING;
 use sn_session::Presence;
 use std::alloc::Global;
-use std::fs::{File, Files};
+use std::fs::File;
 use std::io::Read;
 use std::mem;
 
@@ -63,7 +63,7 @@ pub(crate) fn no_numbers(alloc: Global) -> Numbers {
 
 /// Puts the numbers of now into the report. If memory runs out, they are those of the last time.
 /// Runs in the watcher's thread, and waits for no lock.
-pub(crate) fn renew_numbers<T: Files<File = File>>(
+pub(crate) fn renew_numbers<T>(
     program: &Program<'_, T>,
     gathered: &Gathered,
     report: &mut Report,
@@ -78,7 +78,7 @@ pub(crate) fn renew_numbers<T: Files<File = File>>(
 }
 
 /// Counts all numbers. Whether there was memory for them.
-fn count_all<T: Files<File = File>>(
+fn count_all<T>(
     program: &Program<'_, T>,
     gathered: &Gathered,
     report: &Report,
@@ -87,14 +87,14 @@ fn count_all<T: Files<File = File>>(
 ) -> bool {
     let seen = report.clients.as_slice();
     let board = &program.shared.board;
-    count_singles(program.rt, &mut numbers.singles, board, gathered, now);
+    count_singles(program.host, &mut numbers.singles, board, gathered, now);
     count_clients(&mut numbers.singles, program.settings.gateway, seen);
     count_parts(program, gathered, seen, numbers)
         && count_links(program.settings, board, gathered, numbers, now)
 }
 
 /// The numbers with a label, without those of links. Whether there was memory for them.
-fn count_parts<T: Files<File = File>>(
+fn count_parts<T>(
     program: &Program<'_, T>,
     gathered: &Gathered,
     seen: &[Seen],
@@ -117,8 +117,8 @@ fn add(all: &mut Sequence<Sample>, label: Label, value: u64) -> bool {
 }
 
 /// The numbers without a label, but for those of clients.
-fn count_singles<T: Files<File = File>>(
-    rt: &T,
+fn count_singles(
+    rt: &HostRuntime,
     singles: &mut Singles,
     board: &Board,
     gathered: &Gathered,
@@ -306,13 +306,10 @@ fn add_origins(all: &mut Sequence<Sample>, known: &[(u8, u64)]) -> bool {
 
 /// The lengths of both files of the journal; 0 for one of which the system does not tell. Whether
 /// there was memory for them.
-fn add_lengths<T: Files<File = File>>(
-    program: &Program<'_, T>,
-    all: &mut Sequence<Sample>,
-) -> bool {
+fn add_lengths<T>(program: &Program<'_, T>, all: &mut Sequence<Sample>) -> bool {
     let path = program.settings.journal.as_str();
-    let first = length_of(program.rt, program.alloc, path, 0).unwrap_or(0);
-    let second = length_of(program.rt, program.alloc, path, 1).unwrap_or(0);
+    let first = length_of(program.host, program.alloc, path, 0).unwrap_or(0);
+    let second = length_of(program.host, program.alloc, path, 1).unwrap_or(0);
     add(all, Label::FirstSlot, first) && add(all, Label::SecondSlot, second)
 }
 
@@ -423,7 +420,7 @@ fn add_refusals(all: &mut Sequence<Sample>, place: Place, counts: LinkCounts) ->
 }
 
 /// How many octets of memory the process has; 0 if the system does not tell.
-fn resident<T: Files<File = File>>(rt: &T) -> u64 {
+fn resident(rt: &HostRuntime) -> u64 {
     match File::open(rt, "/proc/self/statm") {
         Ok(mut file) => {
             let mut octets = [0u8; STATM];

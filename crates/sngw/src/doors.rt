@@ -12,8 +12,7 @@ use gw_run::{MOST_ACCEPTED, Pool};
 use gw_wire::{address, second};
 use sn_local::Addr;
 use std::alloc::Global;
-use std::io::{Eprint, Print};
-use std::net::{Net, TcpListener, TcpStream};
+use std::net::{TcpListener, TcpStream};
 use std::sync::Wait;
 use std::thread;
 use std::thread::Threads;
@@ -71,8 +70,7 @@ pub(crate) fn doors_of(alloc: Global, settings: &Settings) -> Option<Vec<Door>> 
 /// Keeps the doors open until the program's work is over, each in a thread of its own.
 pub(crate) fn keep_all<T>(program: &Program<'_, T>, doors: &mut [Door], listener: &TcpListener)
 where
-    T: Threads + Wait + Sync + Clock + Print + Eprint,
-    T: Net<Listener = TcpListener, Stream = TcpStream>,
+    T: Threads + Wait + Sync + Clock,
 {
     let count = doors.len();
     if count > 0 {
@@ -89,10 +87,7 @@ where
 /// Dials a peer whenever no link to it is open: at once if the last one worked, and with growing
 /// pauses if it takes the call and does not say its number. Runs in the peer's door's thread, and
 /// holds no lock while it dials.
-fn dial_all<T: Wait + Clock + Net<Listener = TcpListener, Stream = TcpStream>>(
-    program: &Program<'_, T>,
-    door: Door,
-) {
+fn dial_all<T: Wait + Clock>(program: &Program<'_, T>, door: Door) {
     let mut dials = Dials {
         pause: 0,
         left: 0,
@@ -123,11 +118,7 @@ struct Dials {
 }
 
 /// Dials a peer to which no link is open, unless it is to be left alone for some seconds more.
-fn dial_in_turn<T: Wait + Clock + Net<Listener = TcpListener, Stream = TcpStream>>(
-    program: &Program<'_, T>,
-    door: Door,
-    dials: &mut Dials,
-) {
+fn dial_in_turn<T: Wait>(program: &Program<'_, T>, door: Door, dials: &mut Dials) {
     let pool = &program.shared.pool;
     if dials.has_called {
         dials.pause = next_pause(dials.pause, pool.has_spoken(program.rt, door.origin));
@@ -135,7 +126,7 @@ fn dial_in_turn<T: Wait + Clock + Net<Listener = TcpListener, Stream = TcpStream
         dials.has_called = false;
     }
     if dials.left == 0 {
-        dials.has_called = dial(program.rt, program.alloc, door, pool);
+        dials.has_called = dial(program, door);
         if !dials.has_called {
             note_no_dial(program.shared, door.origin);
         }
@@ -144,20 +135,16 @@ fn dial_in_turn<T: Wait + Clock + Net<Listener = TcpListener, Stream = TcpStream
 }
 
 /// Dials a peer. Whether it took the call.
-fn dial<T: Wait + Clock + Net<Listener = TcpListener, Stream = TcpStream>>(
-    rt: &T,
-    alloc: Global,
-    door: Door,
-    pool: &Pool<TcpStream>,
-) -> bool {
+fn dial<T: Wait>(program: &Program<'_, T>, door: Door) -> bool {
+    let pool = &program.shared.pool;
     let found = TcpStream::connect_timeout(
-        rt,
+        program.host,
         &address(door.at),
         Duration::from_millis(DIAL_TIMEOUT_MS),
     );
     match found {
         Ok(stream) => {
-            open(rt, alloc, stream, door.origin, pool);
+            open(program.rt, program.alloc, stream, door.origin, pool);
             true
         }
         Err(_) => false,
@@ -173,7 +160,7 @@ fn note_no_dial(shared: &Shared, origin: Origin) {
 
 /// Accepts those who dial, as many as may be, and tells the troubles, unless the watcher does. Runs
 /// in the thread of the door for all who dial.
-fn accept_all<T: Wait + Clock + Print + Eprint>(program: &Program<'_, T>, listener: &TcpListener) {
+fn accept_all<T: Wait + Clock>(program: &Program<'_, T>, listener: &TcpListener) {
     let rt = program.rt;
     for _ in rt.forever() {
         if program.over.phase(rt) != Phase::Serving {
@@ -218,7 +205,7 @@ fn open<T: Wait>(rt: &T, alloc: Global, stream: TcpStream, origin: Origin, pool:
 
 /// Tells the troubles that are to be told, each in a line of standard error: that nothing can be
 /// sent, and those of links.
-fn tell_all<T: Wait + Clock + Print + Eprint>(program: &Program<'_, T>) {
+fn tell_all<T: Wait + Clock>(program: &Program<'_, T>) {
     let rt = program.rt;
     let pool = &program.shared.pool;
     let err = program.said.err;
@@ -226,7 +213,7 @@ fn tell_all<T: Wait + Clock + Print + Eprint>(program: &Program<'_, T>) {
         err.say(rt, outage_line(program.alloc));
     }
     for _ in 0..MOST_LINES {
-        match pool.relay.report(rt, second(rt)) {
+        match pool.relay.report(rt, second(program.host)) {
             None => return,
             Some(report) => err.say(rt, trouble_line(program.alloc, report)),
         }

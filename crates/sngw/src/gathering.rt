@@ -11,11 +11,9 @@ use gw_wire::{date, millisecond};
 use octets::Sequence;
 use rep_ops::ClientId;
 use std::alloc::Global;
-use std::fs::{File, Files};
 use std::mem;
 use std::sync::Wait;
 use std::sync::atomic::Ordering;
-use std::time::Clock;
 
 /// After how many milliseconds without a round the clock is late.
 const LATE: u64 = 5_000;
@@ -98,7 +96,7 @@ pub(crate) fn no_report(alloc: Global) -> Report {
 }
 
 /// Nothing was gathered.
-pub(crate) fn none_gathered<T: Clock>(rt: &T, alloc: Global) -> Gathered {
+pub(crate) fn none_gathered(rt: &HostRuntime, alloc: Global) -> Gathered {
     let now = millisecond(rt);
     let start = date(rt);
     Gathered {
@@ -126,7 +124,7 @@ pub(crate) fn none_gathered<T: Clock>(rt: &T, alloc: Global) -> Gathered {
 
 /// Gathers what is reported. What needs memory that is refused stays as it was. Runs in the
 /// watcher's thread; it takes the relay's lock and those of the board, one at a time.
-pub(crate) fn gather<T: Wait + Clock + Files<File = File>>(
+pub(crate) fn gather<T: Wait>(
     program: &Program<'_, T>,
     gathered: &mut Gathered,
     report: &mut Report,
@@ -134,7 +132,7 @@ pub(crate) fn gather<T: Wait + Clock + Files<File = File>>(
     let rt = program.rt;
     let alloc = program.alloc;
     let shared = program.shared;
-    let now = millisecond(rt);
+    let now = millisecond(program.host);
     look_at_clock(shared, gathered, now);
     forget_longest(shared, gathered, now);
     add_calls(rt, shared, gathered);

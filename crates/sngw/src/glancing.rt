@@ -5,11 +5,9 @@
 
 use crate::board::{Board, Field};
 use crate::gathering::MOST_LINKS;
-use crate::program::Program;
-use gw_link::{LinkNumbers, Phase, Work};
+use crate::program::{GatewayWork, Program};
+use gw_link::{LinkNumbers, Phase};
 use gw_report::Glimpse;
-use jr_disk::Disk;
-use rep_model::Replica;
 use std::sync::Wait;
 use std::time::Clock;
 
@@ -25,17 +23,14 @@ const GLANCE_WAIT_MS: u64 = 200;
 /// Looks at the clients while the shift serves. If memory runs out, or the shift ends, the last
 /// glance stays. Runs in a thread of its own; it takes the shift's lock for a few clients at a
 /// time.
-pub(crate) fn glance_all<T: Wait + Clock, R: Replica, D: Disk + Drop>(
-    program: &Program<'_, T>,
-    work: &Work<'_, T, R, D>,
-) {
+pub(crate) fn glance_all<T: Wait + Clock>(program: &Program<'_, T>, work: &GatewayWork<'_, T>) {
     let rt = program.rt;
     let board = &program.shared.board;
     for _ in rt.forever() {
         if work.stage.phase(rt) != Phase::Serving {
             return;
         }
-        if board.may_glance(rt) {
+        if board.may_glance(program.host) {
             match look(program, work) {
                 Some(field) => board.put_field(rt, field),
                 None => {}
@@ -47,10 +42,7 @@ pub(crate) fn glance_all<T: Wait + Clock, R: Replica, D: Disk + Drop>(
 }
 
 /// All clients at a glance. `None` if memory runs out, or the shift ends.
-fn look<T: Wait, R: Replica, D: Disk + Drop>(
-    program: &Program<'_, T>,
-    work: &Work<'_, T, R, D>,
-) -> Option<Field> {
+fn look<T: Wait>(program: &Program<'_, T>, work: &GatewayWork<'_, T>) -> Option<Field> {
     note_gateways(program);
     let clock = &program.shared.pool.clock;
     let second = clock.second();
@@ -68,10 +60,7 @@ fn look<T: Wait, R: Replica, D: Disk + Drop>(
 }
 
 /// Looks at the clients, some at a time, while the shift serves. Whether all were seen.
-fn look_at_all<T: Wait, R: Replica, D: Disk + Drop>(
-    work: &Work<'_, T, R, D>,
-    field: &mut Field,
-) -> bool {
+fn look_at_all<T: Wait>(work: &GatewayWork<'_, T>, field: &mut Field) -> bool {
     for _ in 0..MOST_LOOKS {
         let many = field.clients.len();
         if work.stage.phase(work.rt) != Phase::Serving || !look_on(work, field) {
@@ -85,10 +74,7 @@ fn look_at_all<T: Wait, R: Replica, D: Disk + Drop>(
 }
 
 /// Looks at some clients more, if there are any. Whether there was memory for them.
-fn look_on<T: Wait, R: Replica, D: Disk + Drop>(
-    work: &Work<'_, T, R, D>,
-    field: &mut Field,
-) -> bool {
+fn look_on<T: Wait>(work: &GatewayWork<'_, T>, field: &mut Field) -> bool {
     let last = last_of(field.clients.as_slice());
     match work.shift.glance(work.rt, work.alloc, last, AT_ONCE) {
         Err(_) => false,
@@ -127,8 +113,8 @@ fn keep(clients: &mut Vec<Glimpse>, glimpse: Glimpse) -> bool {
 
 /// Adds how many messages of each gateway are known for these clients. Whether there was memory for
 /// that.
-fn count_known<T: Wait, R: Replica, D: Disk + Drop>(
-    work: &Work<'_, T, R, D>,
+fn count_known<T: Wait>(
+    work: &GatewayWork<'_, T>,
     found: &[Glimpse],
     known: &mut [(u8, u64)],
 ) -> bool {

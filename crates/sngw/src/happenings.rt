@@ -20,7 +20,6 @@ use sn_flow::MAX_CLIENTS;
 use sn_plan::MAX_PENDING;
 use sn_session::Presence;
 use std::alloc::Global;
-use std::io::{Eprint, Print};
 use std::mem;
 use std::sync::Wait;
 use std::time::Clock;
@@ -93,13 +92,13 @@ struct News {
 
 /// Tells what happened since the last time. Runs in the watcher's thread, and holds no lock while
 /// it compares.
-pub(crate) fn tell_all<T: Wait + Clock + Print + Eprint>(
+pub(crate) fn tell_all<T: Wait + Clock>(
     program: &Program<'_, T>,
     gathered: &mut Gathered,
     happened: &mut Happened,
     report: &mut Report,
 ) {
-    let now = millisecond(program.rt);
+    let now = millisecond(program.host);
     let moment = now.saturating_sub(gathered.began) / 1_000;
     let mut news = News {
         alloc: program.alloc,
@@ -133,12 +132,7 @@ fn find_all<T>(
 
 /// Says what is bad enough, and puts all of it to the events of the page. How many could not be
 /// told.
-fn tell<T: Wait + Print + Eprint>(
-    program: &Program<'_, T>,
-    moment: u64,
-    news: News,
-    report: &mut Report,
-) -> u64 {
+fn tell<T: Wait>(program: &Program<'_, T>, moment: u64, news: News, report: &mut Report) -> u64 {
     let News { alloc, told, lost } = news;
     let mut events = mem::replace(&mut report.events, Sequence::empty(alloc)).into_vec();
     let untold = tell_each(program, moment, told, &mut events);
@@ -147,7 +141,7 @@ fn tell<T: Wait + Print + Eprint>(
 }
 
 /// Says each of these, and puts it to the events of the page. How many could not be told.
-fn tell_each<T: Wait + Print + Eprint>(
+fn tell_each<T: Wait>(
     program: &Program<'_, T>,
     moment: u64,
     told: Vec<What>,
@@ -172,7 +166,7 @@ fn count_unless(count: &mut u64, holds: bool) {
 
 /// Says an event on standard error, if it is of the level of the settings or worse. Whether its
 /// line was not left out.
-fn say<T: Wait + Print + Eprint>(program: &Program<'_, T>, event: &Event) -> bool {
+fn say<T: Wait>(program: &Program<'_, T>, event: &Event) -> bool {
     if event.level().number() > program.settings.log {
         return true;
     }
@@ -229,7 +223,7 @@ fn find_links(news: &mut News, links: &mut [KnownLink]) {
 
 /// The troubles of links, and that nothing can be sent. If the settings ask for no events, each has
 /// a line.
-fn find_troubles<T: Wait + Clock + Print + Eprint>(program: &Program<'_, T>, news: &mut News) {
+fn find_troubles<T: Wait + Clock>(program: &Program<'_, T>, news: &mut News) {
     let rt = program.rt;
     let pool = &program.shared.pool;
     let is_printed = program.settings.log == 0;
@@ -240,7 +234,7 @@ fn find_troubles<T: Wait + Clock + Print + Eprint>(program: &Program<'_, T>, new
         warn(news, Warning::NothingSent);
     }
     for _ in 0..MOST_TROUBLES {
-        let Some(told) = pool.relay.report(rt, second(rt)) else {
+        let Some(told) = pool.relay.report(rt, second(program.host)) else {
             return;
         };
         if is_printed {

@@ -2,15 +2,30 @@
 
 use crate::board::Shared;
 use crate::lines::Said;
-use gw_link::Stage;
+use file_disk::FileDisk;
+use gw_link::{Stage, Work};
 use gw_main::options::Settings;
+use gw_node::Node;
+use gw_shift::Shift;
+use rep_state::Folded;
 use std::alloc::Global;
+
+/// The gateway of this program. What no answer needs it forgets, and its journal is in two files.
+pub(crate) type Gateway = Node<Folded, FileDisk>;
+
+/// A shift of that gateway.
+pub(crate) type GatewayShift = Shift<Folded, FileDisk>;
+
+/// What the threads of a shift of that gateway work with.
+pub(crate) type GatewayWork<'a, T> = Work<'a, T, Folded, FileDisk>;
 
 /// What the program was begun with.
 #[derive(Drop)]
 pub(crate) struct Task<'a, T> {
-    /// The machine.
+    /// By which threads wait for each other.
     pub(crate) rt: &'a T,
+    /// The machine.
+    pub(crate) host: &'a HostRuntime,
     /// The memory.
     pub(crate) alloc: Global,
     /// The settings.
@@ -27,8 +42,10 @@ pub(crate) struct Task<'a, T> {
 /// a lock of it for longer than one of its calls.
 #[derive(Drop)]
 pub(crate) struct Program<'a, T> {
-    /// The machine.
+    /// By which threads wait for each other.
     pub(crate) rt: &'a T,
+    /// The machine.
+    pub(crate) host: &'a HostRuntime,
     /// The memory.
     pub(crate) alloc: Global,
     /// The settings.

@@ -11,23 +11,19 @@ use crate::doors::{Door, doors_of, keep_all};
 use crate::held_over::{Inlet, Late};
 use crate::keeping::{Keeper, is_written};
 use crate::posting::Fence;
-use crate::program::{Program, Task};
+use crate::program::{Gateway, Program, Task};
 use crate::stop::Stop;
 use crate::watcher::show_all;
 use crate::working::{Worked, work};
 use gw_link::{Phase, Stage};
 use gw_main::options::Settings;
 use gw_main::{Tended, begin_fault_number, tend};
-use gw_node::Node;
 use gw_run::Pool;
 use gw_wire::{Socket, address, millisecond};
-use jr_disk::Disk;
-use rep_model::Replica;
 use sn_local::Addr;
 use std::alloc::Global;
-use std::fs::{File, Files};
-use std::io::{Eprint, ErrorKind, Print};
-use std::net::{Net, TcpListener, TcpStream};
+use std::io::ErrorKind;
+use std::net::{TcpListener, TcpStream};
 use std::sync::{Mutex, Wait};
 use std::thread::Threads;
 use std::time::{Clock, Duration};
@@ -35,16 +31,11 @@ use std::{mem, thread};
 
 /// Works the shifts of a task with a gateway. The sockets are open from before the first to after
 /// the last.
-pub(crate) fn run<T, R, D>(task: &Task<'_, T>, node: Node<R, D>) -> Result<(), Stop>
+pub(crate) fn run<T>(task: &Task<'_, T>, node: Gateway) -> Result<(), Stop>
 where
-    T: Threads + Wait + Sync + Clock + Print + Eprint + Files<File = File>,
-    T: Net<Listener = TcpListener, Stream = TcpStream>,
-    T::Dir: Send,
-    R: Replica + Send,
-    R::Staged: Send,
-    D: Disk + Drop + Send,
+    T: Threads + Wait + Sync + Clock,
 {
-    match open_all(task.rt, task.alloc, task.settings) {
+    match open_all(task.host, task.alloc, task.settings) {
         Ok(opened) => run_opened(task, node, opened),
         Err(stop) => {
             drop(node);
@@ -54,20 +45,16 @@ where
 }
 
 /// Works the shifts of a task with a gateway, by what it is reached by.
-fn run_opened<T, R, D>(task: &Task<'_, T>, node: Node<R, D>, mut opened: Opened) -> Result<(), Stop>
+fn run_opened<T>(task: &Task<'_, T>, node: Gateway, mut opened: Opened) -> Result<(), Stop>
 where
-    T: Threads + Wait + Sync + Clock + Print + Eprint + Files<File = File>,
-    T: Net<Listener = TcpListener, Stream = TcpStream>,
-    T::Dir: Send,
-    R: Replica + Send,
-    R::Staged: Send,
-    D: Disk + Drop + Send,
+    T: Threads + Wait + Sync + Clock,
 {
-    begin_dates(task.rt, &opened.shared.pool.clock, task.today);
+    begin_dates(task.host, &opened.shared.pool.clock, task.today);
     let place = Mutex::new(Some(node));
     let over = Stage::new(0, 0);
     let program = Program {
         rt: task.rt,
+        host: task.host,
         alloc: task.alloc,
         settings: task.settings,
         shared: &opened.shared,
@@ -107,11 +94,7 @@ struct Listeners {
 }
 
 /// Opens all that a gateway is reached by.
-fn open_all<T: Eprint + Net<Listener = TcpListener, Stream = TcpStream>>(
-    rt: &T,
-    alloc: Global,
-    settings: &Settings,
-) -> Result<Opened, Stop> {
+fn open_all(rt: &HostRuntime, alloc: Global, settings: &Settings) -> Result<Opened, Stop> {
     let socket = socket_of(rt, alloc, settings)?;
     match listeners_of(rt, settings) {
         Ok(listeners) => open_beside(alloc, settings, socket, listeners),
@@ -184,7 +167,7 @@ fn opened_of(
 }
 
 /// The socket of datagrams.
-fn socket_of<T: Eprint + Net>(rt: &T, alloc: Global, settings: &Settings) -> Result<Socket, Stop> {
+fn socket_of(rt: &HostRuntime, alloc: Global, settings: &Settings) -> Result<Socket, Stop> {
     match Socket::bind(rt, alloc, settings.listen) {
         Ok(socket) => Ok(socket),
         Err(error) => Err(no_socket(rt, "listen", error.kind())),
@@ -211,10 +194,7 @@ fn shared_by(alloc: Global, settings: &Settings, pool: Pool<TcpStream>) -> Resul
 }
 
 /// The listeners of links and of the page.
-fn listeners_of<T: Eprint + Net<Listener = TcpListener, Stream = TcpStream>>(
-    rt: &T,
-    settings: &Settings,
-) -> Result<Listeners, Stop> {
+fn listeners_of(rt: &HostRuntime, settings: &Settings) -> Result<Listeners, Stop> {
     match listener_at(rt, "link", settings.link) {
         Ok(link) => listeners_with(rt, settings, link),
         Err(stop) => Err(stop),
@@ -222,8 +202,8 @@ fn listeners_of<T: Eprint + Net<Listener = TcpListener, Stream = TcpStream>>(
 }
 
 /// That of links, and that of the page.
-fn listeners_with<T: Eprint + Net<Listener = TcpListener, Stream = TcpStream>>(
-    rt: &T,
+fn listeners_with(
+    rt: &HostRuntime,
     settings: &Settings,
     link: TcpListener,
 ) -> Result<Listeners, Stop> {
@@ -237,10 +217,7 @@ fn listeners_with<T: Eprint + Net<Listener = TcpListener, Stream = TcpStream>>(
 }
 
 /// The listener of the page, if the settings name its address.
-fn status_listener<T: Eprint + Net<Listener = TcpListener, Stream = TcpStream>>(
-    rt: &T,
-    at: Option<Addr>,
-) -> Result<Option<TcpListener>, Stop> {
+fn status_listener(rt: &HostRuntime, at: Option<Addr>) -> Result<Option<TcpListener>, Stop> {
     match at {
         None => Ok(None),
         Some(at) => match listener_at(rt, "status", at) {
@@ -251,11 +228,7 @@ fn status_listener<T: Eprint + Net<Listener = TcpListener, Stream = TcpStream>>(
 }
 
 /// The listener at an address, which this key of the settings names.
-fn listener_at<T: Eprint + Net<Listener = TcpListener, Stream = TcpStream>>(
-    rt: &T,
-    key: &str,
-    at: Addr,
-) -> Result<TcpListener, Stop> {
+fn listener_at(rt: &HostRuntime, key: &str, at: Addr) -> Result<TcpListener, Stop> {
     match TcpListener::bind(rt, address(at)) {
         Ok(listener) => without_waiting(listener),
         Err(error) => Err(no_socket(rt, key, error.kind())),
@@ -291,27 +264,22 @@ fn inlet_of(alloc: Global, settings: &Settings, socket: Socket) -> Result<Inlet,
 }
 
 /// Says which address of the settings cannot be had, and why.
-fn no_socket<T: Eprint>(rt: &T, key: &str, kind: ErrorKind) -> Stop {
+fn no_socket(rt: &HostRuntime, key: &str, kind: ErrorKind) -> Stop {
     let _ = eprintln!(rt; "{key}: {kind}");
     Stop::Socket
 }
 
 /// Works the shifts in this thread, and keeps the doors open in others.
-fn run_beside<T, R, D>(
+fn run_beside<T>(
     program: &Program<'_, T>,
-    place: &Mutex<Option<Node<R, D>>>,
+    place: &Mutex<Option<Gateway>>,
     inlet: &mut Inlet,
     shifts: u64,
     doors: &mut [Door],
     listeners: &Listeners,
 ) -> Result<(), Stop>
 where
-    T: Threads + Wait + Sync + Clock + Print + Eprint + Files<File = File>,
-    T: Net<Listener = TcpListener, Stream = TcpStream>,
-    T::Dir: Send,
-    R: Replica + Send,
-    R::Staged: Send,
-    D: Disk + Drop + Send,
+    T: Threads + Wait + Sync + Clock,
 {
     let mut keeping = || {
         keep_and_show(program, doors, listeners);
@@ -325,9 +293,7 @@ where
 /// work is over. If no thread can be made for the page, nothing is shown.
 fn keep_and_show<T>(program: &Program<'_, T>, doors: &mut [Door], listeners: &Listeners)
 where
-    T: Threads + Wait + Sync + Clock + Print + Eprint + Files<File = File>,
-    T: Net<Listener = TcpListener, Stream = TcpStream>,
-    T::Dir: Send,
+    T: Threads + Wait + Sync + Clock,
 {
     if !program.shared.board.is_watched {
         keep_all(program, doors, &listeners.link);
@@ -343,17 +309,14 @@ where
 }
 
 /// Works so many shifts, and then ends the doors. Runs in the thread of shifts.
-fn work_through<T, R, D>(
+fn work_through<T>(
     program: &Program<'_, T>,
-    place: &Mutex<Option<Node<R, D>>>,
+    place: &Mutex<Option<Gateway>>,
     inlet: &mut Inlet,
     shifts: u64,
 ) -> Result<(), Stop>
 where
-    T: Threads + Wait + Sync + Clock + Print + Eprint + Files<File = File>,
-    R: Replica + Send,
-    R::Staged: Send,
-    D: Disk + Drop + Send,
+    T: Threads + Wait + Sync + Clock,
 {
     let worked = work_all(program, place, inlet, shifts);
     program.over.go_to(program.rt, Phase::Quiet);
@@ -364,22 +327,19 @@ where
 /// shift, that is told before its line. After it the gateway is tended if it was halted, or its
 /// journal has grown. While its writes fail it is silent between its tries: clients look for
 /// another one.
-fn work_all<T, R, D>(
+fn work_all<T>(
     program: &Program<'_, T>,
-    place: &Mutex<Option<Node<R, D>>>,
+    place: &Mutex<Option<Gateway>>,
     inlet: &mut Inlet,
     shifts: u64,
 ) -> Result<(), Stop>
 where
-    T: Threads + Wait + Sync + Clock + Print + Eprint + Files<File = File>,
-    R: Replica + Send,
-    R::Staged: Send,
-    D: Disk + Drop + Send,
+    T: Threads + Wait + Sync + Clock,
 {
     let pool = &program.shared.pool;
     let mut keeper = Keeper::of(program.settings.journal.as_str());
     write_first(program, place, inlet, &mut keeper)?;
-    begin_dates(program.rt, &pool.clock, pool.clock.moment());
+    begin_dates(program.host, &pool.clock, pool.clock.moment());
     listen_first(program.rt, program.settings, pool);
     for number in 0..shifts {
         work_one(program, place, inlet, number, &mut keeper)?;
@@ -389,18 +349,15 @@ where
 
 /// Works the shift of this number, from 0 on, with the gateway of its place, whose lock is held
 /// only to take it. If none is there, nothing is done.
-fn work_one<T, R, D>(
+fn work_one<T>(
     program: &Program<'_, T>,
-    place: &Mutex<Option<Node<R, D>>>,
+    place: &Mutex<Option<Gateway>>,
     inlet: &mut Inlet,
     number: u64,
     keeper: &mut Keeper<'_>,
 ) -> Result<(), Stop>
 where
-    T: Threads + Wait + Sync + Clock + Print + Eprint + Files<File = File>,
-    R: Replica + Send,
-    R::Staged: Send,
-    D: Disk + Drop + Send,
+    T: Threads + Wait + Sync + Clock,
 {
     let Some(node) = place.lock(program.rt).take() else {
         return Ok(());
@@ -414,10 +371,10 @@ where
 
 /// Ends the shift of this number, from 1 on, and puts the gateway back into its place. If the date
 /// was set meanwhile, the gateway is opened anew by it first.
-fn end_in_place<T: Wait + Clock + Print + Eprint + Files<File = File>, R: Replica, D: Disk + Drop>(
+fn end_in_place<T: Wait>(
     program: &Program<'_, T>,
-    place: &Mutex<Option<Node<R, D>>>,
-    mut worked: Worked<R, D>,
+    place: &Mutex<Option<Gateway>>,
+    mut worked: Worked,
     inlet: &mut Inlet,
     number: u64,
     keeper: &mut Keeper<'_>,
@@ -431,14 +388,14 @@ fn end_in_place<T: Wait + Clock + Print + Eprint + Files<File = File>, R: Replic
     }
     let node = by_date(program, worked.node, inlet)?;
     put_back(rt, place, node);
-    note_turn(rt, program.shared, number, steps);
+    note_turn(program.host, program.shared, number, steps);
     Ok(())
 }
 
 /// Tells of the shift of this number, from 1 on, which is over, and tends the gateway.
-fn end_shift<T: Wait + Clock + Print + Eprint + Files<File = File>, R: Replica, D: Disk + Drop>(
+fn end_shift<T: Wait>(
     program: &Program<'_, T>,
-    worked: &mut Worked<R, D>,
+    worked: &mut Worked,
     inlet: &mut Inlet,
     number: u64,
     keeper: &mut Keeper<'_>,
@@ -458,7 +415,7 @@ fn end_shift<T: Wait + Clock + Print + Eprint + Files<File = File>, R: Replica, 
 }
 
 /// Counts a shift that is over, and how long it took since it had begun to close.
-fn note_turn<T: Clock>(rt: &T, shared: &Shared, number: u64, steps: usize) {
+fn note_turn(rt: &HostRuntime, shared: &Shared, number: u64, steps: usize) {
     let board = &shared.board;
     let closing = board.get(Number::Closing);
     board.set(Number::ShiftCalls, steps as u64);
@@ -471,47 +428,43 @@ fn note_turn<T: Clock>(rt: &T, shared: &Shared, number: u64, steps: usize) {
 }
 
 /// Puts a gateway into its place.
-fn put_back<T: Wait, R: Replica, D: Disk + Drop>(
-    rt: &T,
-    place: &Mutex<Option<Node<R, D>>>,
-    node: Node<R, D>,
-) {
+fn put_back<T: Wait>(rt: &T, place: &Mutex<Option<Gateway>>, node: Gateway) {
     drop(mem::replace(&mut *place.lock(rt), Some(node)));
 }
 
 /// Tends a gateway after its shift, if it was halted, or its journal has grown. If its writes fail
 /// again, it is silent for some seconds.
-fn go_on<T: Wait + Clock + Print + Eprint + Files<File = File>, R: Replica, D: Disk + Drop>(
+fn go_on<T: Wait>(
     program: &Program<'_, T>,
-    worked: &mut Worked<R, D>,
+    worked: &mut Worked,
     inlet: &mut Inlet,
     keeper: &mut Keeper<'_>,
 ) -> Result<(), Stop> {
-    let rt = program.rt;
+    let host = program.host;
     let shared = program.shared;
     let has_failed = worked.tended == Tended::Reopened || worked.node.is_halted();
     if has_failed {
-        shared.board.count_failure(rt);
+        shared.board.count_failure(host);
     }
-    if has_failed || (worked.has_written && keeper.is_grown(rt, program.alloc)) {
+    if has_failed || (worked.has_written && keeper.is_grown(host, program.alloc)) {
         tend_behind(program, &mut worked.node, keeper)?;
     }
     let silence = keeper.silence_after(worked.has_recorded, has_failed);
     if silence > 0 {
         shared.board.set(Number::Halted, 1);
-        be_silent(rt, inlet, shared, silence);
+        be_silent(host, inlet, shared, silence);
         shared.board.set(Number::Halted, 0);
-        shared.board.note_failed(rt);
+        shared.board.note_failed(host);
     }
     Ok(())
 }
 
 /// From now on the clients that the gateway knows are no newcomers. If memory runs out, some of
 /// them are taken for newcomers.
-fn know_clients<R: Replica, D: Disk + Drop>(
+fn know_clients(
     alloc: Global,
     settings: &Settings,
-    node: &Node<R, D>,
+    node: &Gateway,
     inlet: &mut Inlet,
     second: u64,
 ) {
@@ -531,7 +484,7 @@ fn listen_first<T: Wait + Clock>(rt: &T, settings: &Settings, pool: &Pool<TcpStr
 }
 
 /// Says that another gateway has what this one must have made, and has not.
-fn used<T: Wait + Print + Eprint>(program: &Program<'_, T>, other: u8) -> Stop {
+fn used<T: Wait>(program: &Program<'_, T>, other: u8) -> Stop {
     let own = program.settings.gateway;
     let line = format!(in program.alloc;
         "link: gateway {other} has what gateway {own} made, and this journal does not: it is not the newest one, or the number was used before"
@@ -544,9 +497,9 @@ fn used<T: Wait + Print + Eprint>(program: &Program<'_, T>, other: u8) -> Stop {
 /// left may have octets that its last sync did not keep, which the system would call kept: after
 /// this nothing rests on them. A gateway that cannot write, or has no memory for that, says at each
 /// try how it stands, and is silent until it can.
-fn write_first<T: Wait + Clock + Print + Eprint + Files<File = File>, R: Replica, D: Disk + Drop>(
+fn write_first<T: Wait>(
     program: &Program<'_, T>,
-    place: &Mutex<Option<Node<R, D>>>,
+    place: &Mutex<Option<Gateway>>,
     inlet: &mut Inlet,
     keeper: &mut Keeper<'_>,
 ) -> Result<(), Stop> {
@@ -559,9 +512,9 @@ fn write_first<T: Wait + Clock + Print + Eprint + Files<File = File>, R: Replica
 }
 
 /// Tries to write what was read until it is written.
-fn write_anew<T: Wait + Clock + Print + Eprint + Files<File = File>, R: Replica, D: Disk + Drop>(
+fn write_anew<T: Wait>(
     program: &Program<'_, T>,
-    node: &mut Node<R, D>,
+    node: &mut Gateway,
     inlet: &mut Inlet,
     keeper: &mut Keeper<'_>,
 ) -> Result<(), Stop> {
@@ -577,9 +530,9 @@ fn write_anew<T: Wait + Clock + Print + Eprint + Files<File = File>, R: Replica,
 }
 
 /// Tries it once, and waits if it is not written. True if it is.
-fn write_once<T: Wait + Clock + Print + Eprint + Files<File = File>, R: Replica, D: Disk + Drop>(
+fn write_once<T: Wait>(
     program: &Program<'_, T>,
-    node: &mut Node<R, D>,
+    node: &mut Gateway,
     inlet: &mut Inlet,
     keeper: &mut Keeper<'_>,
 ) -> Result<bool, Stop> {
@@ -592,18 +545,13 @@ fn write_once<T: Wait + Clock + Print + Eprint + Files<File = File>, R: Replica,
         keeper.note_written();
         program.shared.board.set(Number::Halted, 0);
     } else {
-        wait_halted(program.rt, inlet, program.shared, keeper);
+        wait_halted(program.host, inlet, program.shared, keeper);
     }
     Ok(is_done)
 }
 
 /// Notes that the gateway cannot write, and waits. What has come meanwhile is dropped.
-fn wait_halted<T: Clock + Wait>(
-    rt: &T,
-    inlet: &mut Inlet,
-    shared: &Shared,
-    keeper: &mut Keeper<'_>,
-) {
+fn wait_halted(rt: &HostRuntime, inlet: &mut Inlet, shared: &Shared, keeper: &mut Keeper<'_>) {
     let silence = keeper.wait_longer();
     shared.board.set(Number::Halted, 1);
     shared.board.note_failed(rt);
@@ -611,7 +559,7 @@ fn wait_halted<T: Clock + Wait>(
 }
 
 /// Waits so many seconds. What has come meanwhile is dropped.
-fn be_silent<T: Clock>(rt: &T, inlet: &mut Inlet, shared: &Shared, seconds: u64) {
+fn be_silent(rt: &HostRuntime, inlet: &mut Inlet, shared: &Shared, seconds: u64) {
     if seconds > 0 {
         thread::sleep(rt, Duration::from_secs(seconds));
         inlet.drop_all(&shared.pool.clock, &shared.board);
@@ -619,12 +567,12 @@ fn be_silent<T: Clock>(rt: &T, inlet: &mut Inlet, shared: &Shared, seconds: u64)
 }
 
 /// Tends the gateway after a shift.
-fn tend_behind<T: Wait + Clock + Print + Eprint + Files<File = File>, R: Replica, D: Disk + Drop>(
+fn tend_behind<T: Wait>(
     program: &Program<'_, T>,
-    node: &mut Node<R, D>,
+    node: &mut Gateway,
     keeper: &mut Keeper<'_>,
 ) -> Result<Tended, Stop> {
-    let rt = program.rt;
+    let rt = program.host;
     let before = keeper.lengths(rt, program.alloc);
     let began = millisecond(rt);
     match tend(program.alloc, node) {
@@ -640,7 +588,7 @@ fn tend_behind<T: Wait + Clock + Print + Eprint + Files<File = File>, R: Replica
 }
 
 /// Counts what became of a gateway that was tended in so many milliseconds.
-fn note_tended<T: Clock>(rt: &T, shared: &Shared, tended: Tended, milliseconds: u64) {
+fn note_tended(rt: &HostRuntime, shared: &Shared, tended: Tended, milliseconds: u64) {
     let board = &shared.board;
     board.note_time(Number::Compaction, Number::LongestCompaction, milliseconds);
     match tended {
@@ -660,11 +608,7 @@ fn note_tended<T: Clock>(rt: &T, shared: &Shared, tended: Tended, milliseconds: 
 
 /// If a gateway was opened anew, says how it stands as at the start, and closes the links. It may
 /// have read what it never told, and over a new link the other end asks for that.
-fn begin_anew<T: Wait + Print + Eprint, R: Replica, D: Disk + Drop>(
-    program: &Program<'_, T>,
-    node: &Node<R, D>,
-    tended: Tended,
-) {
+fn begin_anew<T: Wait>(program: &Program<'_, T>, node: &Gateway, tended: Tended) {
     if tended == Tended::Reopened || tended == Tended::Unwritten {
         program.shared.pool.close_all(program.rt);
         tell(program, node);
@@ -672,16 +616,13 @@ fn begin_anew<T: Wait + Print + Eprint, R: Replica, D: Disk + Drop>(
 }
 
 /// Says how the gateway stands. If memory runs out the line is left out.
-pub(crate) fn tell<T: Wait + Print + Eprint, R: Replica, D: Disk + Drop>(
-    program: &Program<'_, T>,
-    node: &Node<R, D>,
-) {
+pub(crate) fn tell<T: Wait>(program: &Program<'_, T>, node: &Gateway) {
     let line = state_of(program.alloc, node);
     program.said.out.say(program.rt, line);
 }
 
 /// The line that says how a gateway stands. `None` if memory runs out.
-fn state_of<R: Replica, D: Disk + Drop>(alloc: Global, node: &Node<R, D>) -> Option<String> {
+fn state_of(alloc: Global, node: &Gateway) -> Option<String> {
     let count = node.clients(alloc).ok()?.len();
     let (gateway, records) = (node.gateway(), node.records());
     format!(in alloc; "gateway {gateway} records {records} clients {count}").ok()

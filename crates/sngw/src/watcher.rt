@@ -13,8 +13,6 @@ use gw_link::Phase;
 use gw_report::Report;
 use gw_wire::millisecond;
 use std::alloc::Global;
-use std::fs::{File, Files};
-use std::io::{Eprint, Print};
 use std::net::TcpListener;
 use std::sync::Wait;
 use std::time::Clock;
@@ -43,16 +41,13 @@ struct Watcher {
 
 /// Shows the gateway until the program's work is over. Runs in the watcher's thread, and holds no
 /// lock while it reads or writes.
-pub(crate) fn show_all<T: Wait + Clock + Print + Eprint + Files<File = File>>(
-    program: &Program<'_, T>,
-    listener: &Option<TcpListener>,
-) {
+pub(crate) fn show_all<T: Wait + Clock>(program: &Program<'_, T>, listener: &Option<TcpListener>) {
     let rt = program.rt;
     for _ in rt.forever() {
         if program.over.phase(rt) != Phase::Serving {
             return;
         }
-        match watcher_of(rt, program.alloc) {
+        match watcher_of(program.host, program.alloc) {
             Some(watcher) => {
                 show(program, listener, watcher);
                 return;
@@ -64,7 +59,7 @@ pub(crate) fn show_all<T: Wait + Clock + Print + Eprint + Files<File = File>>(
 }
 
 /// What the thread holds before it has gathered anything. `None` if memory ran out.
-fn watcher_of<T: Clock>(rt: &T, alloc: Global) -> Option<Watcher> {
+fn watcher_of(rt: &HostRuntime, alloc: Global) -> Option<Watcher> {
     match room_for_piece(alloc) {
         Some(piece) => Some(Watcher {
             looked: 0,
@@ -79,7 +74,7 @@ fn watcher_of<T: Clock>(rt: &T, alloc: Global) -> Option<Watcher> {
 }
 
 /// Shows the gateway, by what the thread holds.
-fn show<T: Wait + Clock + Print + Eprint + Files<File = File>>(
+fn show<T: Wait + Clock>(
     program: &Program<'_, T>,
     listener: &Option<TcpListener>,
     watcher: Watcher,
@@ -91,7 +86,7 @@ fn show<T: Wait + Clock + Print + Eprint + Files<File = File>>(
 }
 
 /// Gathers once in a second, and serves those who call meanwhile.
-fn watch<T: Wait + Clock + Print + Eprint + Files<File = File>>(
+fn watch<T: Wait + Clock>(
     program: &Program<'_, T>,
     listener: &Option<TcpListener>,
     watcher: &mut Watcher,
@@ -103,10 +98,10 @@ fn watch<T: Wait + Clock + Print + Eprint + Files<File = File>>(
         }
         look(program, watcher);
         if let Some(listener) = listener {
-            take_calls(rt, program.alloc, listener, &mut watcher.callers);
+            take_calls(program.host, program.alloc, listener, &mut watcher.callers);
         }
         let is_serving = serve_calls(
-            rt,
+            program.host,
             program.alloc,
             &mut watcher.callers,
             watcher.piece.as_mut_slice(),
@@ -123,11 +118,8 @@ fn watch<T: Wait + Clock + Print + Eprint + Files<File = File>>(
 }
 
 /// Gathers what is reported, and tells what happened, unless it has just done so.
-fn look<T: Wait + Clock + Print + Eprint + Files<File = File>>(
-    program: &Program<'_, T>,
-    watcher: &mut Watcher,
-) {
-    let now = millisecond(program.rt);
+fn look<T: Wait + Clock>(program: &Program<'_, T>, watcher: &mut Watcher) {
+    let now = millisecond(program.host);
     look_at_rounds(program.shared, &mut watcher.gathered, now);
     if now.saturating_sub(watcher.looked) < GATHER_INTERVAL_MS {
         return;

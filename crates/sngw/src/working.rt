@@ -11,19 +11,17 @@ use crate::board::{Board, Number, Shared};
 use crate::glancing::glance_all;
 use crate::held_over::Inlet;
 use crate::posting::Outlet;
-use crate::program::Program;
+use crate::program::{Gateway, GatewayShift, GatewayWork, Program};
 use crate::stop::Stop;
 use crate::watched::Watched;
 use gw_link::{End, Phase, Stage, Work};
 use gw_main::Tended;
 use gw_main::options::Settings;
-use gw_node::{Node, Step};
+use gw_node::Step;
 use gw_run::{MOST_ACCEPTED, Seat, sit, tick_all};
 use gw_serve::{Cause, serve};
 use gw_shift::{Closed, Entry, MAX_STEPS, Pass, Shift, tally};
 use gw_wire::{FieldClock, OpenGate, Post, Wire, millisecond};
-use jr_disk::Disk;
-use rep_model::Replica;
 use std::alloc::Global;
 use std::sync::Wait;
 use std::thread::Threads;
@@ -52,9 +50,9 @@ struct Made {
 
 /// A shift that was closed.
 #[derive(Drop)]
-pub struct Worked<R: Replica, D: Disk> {
+pub struct Worked {
     /// The gateway.
-    pub node: Node<R, D>,
+    pub node: Gateway,
     /// How many calls were made.
     pub steps: usize,
     /// Whether one of them opened it anew.
@@ -69,17 +67,14 @@ pub struct Worked<R: Replica, D: Disk> {
 /// there already, has a call before clock and links ask for any. If a shift has one call alone, it
 /// has that in every other shift, so that nobody is kept from it. Runs in the thread of shifts,
 /// which waits here for all threads of the shift.
-pub(crate) fn work<T, R, D>(
+pub(crate) fn work<T>(
     program: &Program<'_, T>,
-    node: Node<R, D>,
+    node: Gateway,
     inlet: &mut Inlet,
     number: u64,
-) -> Result<Worked<R, D>, Stop>
+) -> Result<Worked, Stop>
 where
     T: Threads + Wait + Sync + Clock,
-    R: Replica + Send,
-    R::Staged: Send,
-    D: Disk + Drop + Send,
 {
     let rt = program.rt;
     let alloc = program.alloc;
@@ -104,18 +99,15 @@ where
 }
 
 /// Works a shift with a crew, and gives the passes that made its calls.
-fn work_by<T, R, D>(
+fn work_by<T>(
     program: &Program<'_, T>,
-    shift: &Shift<R, D>,
+    shift: &GatewayShift,
     crew: &mut Crew,
     inlet: &mut Inlet,
     number: u64,
 ) -> Result<Made, Stop>
 where
     T: Threads + Wait + Sync + Clock,
-    R: Replica + Send,
-    R::Staged: Send,
-    D: Disk + Drop + Send,
 {
     let pool = &program.shared.pool;
     let steps = steps_of(program.settings);
@@ -170,17 +162,14 @@ fn crew_of(alloc: Global, passes: Vec<Pass>, workers: usize) -> Option<Crew> {
 
 /// Serves links beside ticks beside datagrams, until the shift is over. Once the last two are, the
 /// gateway makes no more deltas, and the links tell what is left. Links have threads of their own.
-fn work_all<T, R, D>(
+fn work_all<T>(
     program: &Program<'_, T>,
-    work: &Work<'_, T, R, D>,
+    work: &GatewayWork<'_, T>,
     crew: &mut Crew,
     inlet: &mut Inlet,
 ) -> Result<(), Stop>
 where
     T: Threads + Wait + Sync + Clock,
-    R: Replica + Send,
-    R::Staged: Send,
-    D: Disk + Drop + Send,
 {
     let Crew {
         serving,
@@ -202,16 +191,9 @@ where
 
 /// Serves links, and beside them glances at the clients if anybody watches. If no thread can be
 /// made for that, it is left out.
-fn sit_and_look<T, R, D>(
-    program: &Program<'_, T>,
-    work: &Work<'_, T, R, D>,
-    seats: &mut [Option<Seat>],
-)
+fn sit_and_look<T>(program: &Program<'_, T>, work: &GatewayWork<'_, T>, seats: &mut [Option<Seat>])
 where
     T: Threads + Wait + Sync + Clock,
-    R: Replica + Send,
-    R::Staged: Send,
-    D: Disk + Drop + Send,
 {
     if !program.shared.board.is_watched {
         sit_all(program, work, seats);
@@ -223,12 +205,9 @@ where
 }
 
 /// Lets links talk at all seats, each in a thread of its own.
-fn sit_all<T, R, D>(program: &Program<'_, T>, work: &Work<'_, T, R, D>, seats: &mut [Option<Seat>])
+fn sit_all<T>(program: &Program<'_, T>, work: &GatewayWork<'_, T>, seats: &mut [Option<Seat>])
 where
     T: Threads + Wait + Sync + Clock,
-    R: Replica + Send,
-    R::Staged: Send,
-    D: Disk + Drop + Send,
 {
     let count = seats.len();
     if count > 0 {
@@ -243,18 +222,15 @@ where
 }
 
 /// Serves ticks beside datagrams.
-fn serve_and_tick<T, R, D>(
+fn serve_and_tick<T>(
     program: &Program<'_, T>,
-    work: &Work<'_, T, R, D>,
+    work: &GatewayWork<'_, T>,
     passes: &mut Vec<Pass>,
     seats: &mut [Option<Seat>],
     inlet: &mut Inlet,
 ) -> Result<(), Stop>
 where
     T: Threads + Wait + Sync + Clock,
-    R: Replica + Send,
-    R::Staged: Send,
-    D: Disk + Drop + Send,
 {
     let Inlet {
         socket,
@@ -277,9 +253,9 @@ where
 
 /// Serves ticks beside datagrams, at the two sides of the socket. The clock has a thread of its
 /// own; this one reads.
-fn serve_beside<T, R, D, W, P>(
+fn serve_beside<T, W, P>(
     program: &Program<'_, T>,
-    work: &Work<'_, T, R, D>,
+    work: &GatewayWork<'_, T>,
     passes: &mut Vec<Pass>,
     seats: &mut [Option<Seat>],
     wire: &mut W,
@@ -287,9 +263,6 @@ fn serve_beside<T, R, D, W, P>(
 ) -> Result<(), Stop>
 where
     T: Threads + Wait + Sync + Clock,
-    R: Replica + Send,
-    R::Staged: Send,
-    D: Disk + Drop + Send,
     W: Wire,
     P: Post + Sync,
 {
@@ -297,7 +270,7 @@ where
     let mut serving = || -> Result<(), Stop> {
         let board = &program.shared.board;
         let served = serve_all(board, work, passes, wire, post);
-        board.set(Number::Closing, millisecond(work.rt));
+        board.set(Number::Closing, millisecond(program.host));
         work.stage.close(work.rt);
         served
     };
@@ -306,9 +279,9 @@ where
 }
 
 /// Ticks at the seat. Runs in the clock's thread.
-fn tick_at<T: Wait + Clock, R: Replica, D: Disk + Drop, P: Post>(
+fn tick_at<T: Wait + Clock, P: Post>(
     program: &Program<'_, T>,
-    work: &Work<'_, T, R, D>,
+    work: &GatewayWork<'_, T>,
     seats: &mut [Option<Seat>],
     post: &P,
 ) {
@@ -322,18 +295,15 @@ fn tick_at<T: Wait + Clock, R: Replica, D: Disk + Drop, P: Post>(
 
 /// Serves datagrams until the shift has had all its calls, or is to close. Neither is a fault. What
 /// is left over counts as dropped. Runs in the reader's thread.
-fn serve_all<T, R, D, W, P>(
+fn serve_all<T, W, P>(
     board: &Board,
-    work: &Work<'_, T, R, D>,
+    work: &GatewayWork<'_, T>,
     passes: &mut Vec<Pass>,
     wire: &mut W,
     post: &P,
 ) -> Result<(), Stop>
 where
     T: Threads + Wait + Sync + Clock,
-    R: Replica + Send,
-    R::Staged: Send,
-    D: Disk + Drop + Send,
     W: Wire,
     P: Post + Sync,
 {
@@ -391,13 +361,13 @@ fn made_by(alloc: Global, crew: &mut Crew) -> Result<Made, Stop> {
 
 /// Ends the shift, and compares its history with what its threads hold. If the crew failed, the
 /// shift is dropped.
-fn close<T: Wait, R: Replica, D: Disk + Drop>(
+fn close<T: Wait>(
     rt: &T,
     alloc: Global,
-    shift: Shift<R, D>,
+    shift: GatewayShift,
     made: Result<Made, Stop>,
     shared: &Shared,
-) -> Result<Worked<R, D>, Stop> {
+) -> Result<Worked, Stop> {
     let Made { passes, tended } = match made {
         Ok(made) => made,
         Err(stop) => {

@@ -5,14 +5,12 @@ use crate::stop::{Stop, missing};
 use crate::wires::serving::{Crew, Outcome, Shared, Sides, serve_all, unserved};
 use gw_shift::Pass;
 use gw_wire::{FieldClock, OpenGate, Post, Socket, Wire, address};
-use jr_disk::Disk;
 use jr_journal::MemoryDisk;
 use mio::net::UdpSocket;
-use rep_model::Replica;
 use rep_plain::Plain;
 use sn_local::Addr;
 use std::alloc::Global;
-use std::net::{Net, SocketAddr};
+use std::net::SocketAddr;
 use std::sync::Wait;
 use std::sync::atomic::{AtomicBool, Ordering};
 use std::thread::Threads;
@@ -53,14 +51,14 @@ struct Asker<'a> {
 }
 
 /// Asks, prints the first answer, and tells how serving ended.
-pub(crate) fn over_sockets<T: Threads + Wait + Sync + Clock + Net>(
+pub(crate) fn over_sockets<T: Threads + Wait + Sync + Clock>(
     rt: &T,
     page: &mut Page,
     shift: &Shared,
     passes: Vec<Pass>,
     questions: &Questions,
 ) -> Outcome {
-    match Socket::bind(rt, page.alloc(), HOME) {
+    match Socket::bind(&page.host(), page.alloc(), HOME) {
         Ok(mut socket) => {
             let outcome = over_socket(rt, page, shift, passes, &mut socket, questions);
             drop(socket);
@@ -78,7 +76,7 @@ fn unasked(page: &mut Page, passes: Vec<Pass>, error: io::Error) -> Outcome {
 }
 
 /// The same once the gateway has its socket.
-fn over_socket<T: Threads + Wait + Sync + Clock + Net>(
+fn over_socket<T: Threads + Wait + Sync + Clock>(
     rt: &T,
     page: &mut Page,
     shift: &Shared,
@@ -86,7 +84,7 @@ fn over_socket<T: Threads + Wait + Sync + Clock + Net>(
     socket: &mut Socket,
     questions: &Questions,
 ) -> Outcome {
-    match UdpSocket::bind(rt, address(HOME)) {
+    match UdpSocket::bind(&page.host(), address(HOME)) {
         Ok(asking) => {
             let asker = Asker {
                 socket: asking,
@@ -104,7 +102,7 @@ fn over_socket<T: Threads + Wait + Sync + Clock + Net>(
 fn over_both<T: Threads + Wait + Sync + Clock>(
     rt: &T,
     page: &mut Page,
-    crew: Crew<'_, Plain, MemoryDisk>,
+    crew: Crew<'_>,
     socket: &mut Socket,
     asker: Asker<'_>,
 ) -> Outcome {
@@ -148,7 +146,7 @@ fn print_answer(page: &mut Page, answer: &Option<Vec<u8>>) {
 fn asked<T: Threads + Wait + Sync + Clock>(
     rt: &T,
     alloc: Global,
-    crew: Crew<'_, Plain, MemoryDisk>,
+    crew: Crew<'_>,
     socket: &mut Socket,
     asker: Asker<'_>,
 ) -> (Option<Vec<u8>>, Outcome) {
@@ -159,19 +157,16 @@ fn asked<T: Threads + Wait + Sync + Clock>(
 }
 
 /// One thread asks, others serve.
-fn side_by_side<T, R, D, W, P>(
+fn side_by_side<T, W, P>(
     rt: &T,
     alloc: Global,
-    crew: Crew<'_, R, D>,
+    crew: Crew<'_>,
     wire: &mut W,
     post: &P,
     asker: Asker<'_>,
 ) -> (Option<Vec<u8>>, Outcome)
 where
     T: Threads + Wait + Sync + Clock,
-    R: Replica + Send,
-    R::Staged: Send,
-    D: Disk + Drop + Send,
     W: Wire,
     P: Post + Sync,
 {

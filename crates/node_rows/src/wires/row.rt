@@ -18,9 +18,7 @@ use gw_shift::Pass;
 use gw_wire::{Gate, Post};
 use jr_journal::MemoryDisk;
 use std::alloc::Global;
-use std::fs::{File, Files};
 use std::mem;
-use std::net::Net;
 use std::sync::Wait;
 use std::thread::Threads;
 use std::time::Clock;
@@ -82,7 +80,7 @@ impl Plan {
 /// lines, and leaves all others to the next.
 pub(crate) fn play<T>(rt: &T, page: &mut Page, row: &mut Row, first: &str, words: &mut Words)
 where
-    T: Threads + Wait + Sync + Clock + Net + Files<File = File>,
+    T: Threads + Wait + Sync + Clock,
 {
     match first {
         "begin" => play_begin(page, row, words),
@@ -90,23 +88,17 @@ where
         "serve" => play_serve(rt, page, row, words),
         "meet" => play_meet(rt, page, row, words),
         "loopback" => play_loopback(rt, page, row, words),
-        first => play_settings(rt, page, row, first, words),
+        first => play_settings(page, row, first, words),
     }
 }
 
 /// Lines about the settings, and about the files that they name.
-fn play_settings<T: Files<File = File>>(
-    rt: &T,
-    page: &mut Page,
-    row: &mut Row,
-    first: &str,
-    words: &mut Words,
-) {
+fn play_settings(page: &mut Page, row: &mut Row, first: &str, words: &mut Words) {
     match first {
         "gateway" => name(page, &mut row.toml, words),
         "settings" => show(page, row.toml.as_str(), words),
-        "files" => files(rt, page, row.toml.as_str(), words),
-        "lose" => lose(rt, page, words),
+        "files" => files(&page.host(), page, row.toml.as_str(), words),
+        "lose" => lose(&page.host(), page, words),
         first => play_page(page, row, first, words),
     }
 }
@@ -375,7 +367,7 @@ fn finish(page: &mut Page, shift: Shared, outcome: Outcome, count: usize) -> Gat
 
 /// `loopback FIRST SECOND`: serves what comes over a socket in a shift of the open gateway, and
 /// closes that: a datagram, and after its answer another one.
-fn play_loopback<T: Threads + Wait + Sync + Clock + Net>(
+fn play_loopback<T: Threads + Wait + Sync + Clock>(
     rt: &T,
     page: &mut Page,
     row: &mut Row,
@@ -400,7 +392,7 @@ fn questions_of(words: &mut Words) -> Questions {
 }
 
 /// Serves what is asked over a socket in a shift of a gateway, which is closed then.
-fn ask_on<T: Threads + Wait + Sync + Clock + Net>(
+fn ask_on<T: Threads + Wait + Sync + Clock>(
     rt: &T,
     page: &mut Page,
     node: Option<Gateway>,
@@ -415,7 +407,7 @@ fn ask_on<T: Threads + Wait + Sync + Clock + Net>(
 
 /// Serves what is asked over a socket, closes the shift, and prints how that went. Its gateway
 /// comes back.
-fn ask_over<T: Threads + Wait + Sync + Clock + Net>(
+fn ask_over<T: Threads + Wait + Sync + Clock>(
     rt: &T,
     page: &mut Page,
     shift: Shared,

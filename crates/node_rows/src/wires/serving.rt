@@ -9,8 +9,7 @@ use gw_node::Node;
 use gw_serve::{Cause, Taken, serve};
 use gw_shift::{CloseFault, Entry, Pass, Shift};
 use gw_wire::{Gate, Post, Wire};
-use jr_journal::{Disk, MemoryDisk};
-use rep_model::Replica;
+use jr_journal::MemoryDisk;
 use rep_plain::Plain;
 use std::alloc::Global;
 use std::sync::Wait;
@@ -25,8 +24,8 @@ pub(crate) type Shared = Shift<Plain, MemoryDisk>;
 
 /// A shift that is to be served, and its passes.
 #[derive(Drop)]
-pub(crate) struct Crew<'a, R: Replica, D: Disk> {
-    pub(crate) shift: &'a Shift<R, D>,
+pub(crate) struct Crew<'a> {
+    pub(crate) shift: &'a Shift<Plain, MemoryDisk>,
     pub(crate) passes: Vec<Pass>,
 }
 
@@ -57,20 +56,20 @@ pub(crate) struct Outcome {
 
 /// A shift that is over.
 #[derive(Drop)]
-pub(crate) struct Over<R: Replica> {
-    pub(crate) node: Node<R, MemoryDisk>,
+pub(crate) struct Over {
+    pub(crate) node: Node<Plain, MemoryDisk>,
     pub(crate) history: Vec<Entry>,
     /// Why it is not closed.
     pub(crate) fault: Option<CloseFault>,
 }
 
 /// A shift of a gateway for so many workers and so many calls. There is none if memory ran out.
-pub(crate) fn shift_of<R: Replica>(
+pub(crate) fn shift_of(
     page: &mut Page,
-    node: Node<R, MemoryDisk>,
+    node: Node<Plain, MemoryDisk>,
     workers: u64,
     steps: u64,
-) -> Option<(Shift<R, MemoryDisk>, Vec<Pass>)> {
+) -> Option<(Shift<Plain, MemoryDisk>, Vec<Pass>)> {
     let opened = Shift::open(page.alloc(), node, passes_of(workers), steps_of(steps)).ok();
     if opened.is_none() {
         page.stop(Stop::Memory);
@@ -93,17 +92,14 @@ fn steps_of(steps: u64) -> u64
 }
 
 /// Serves, and tells how that ended.
-pub(crate) fn serve_all<T, R, D, W, P, G>(
+pub(crate) fn serve_all<T, W, P, G>(
     rt: &T,
     alloc: Global,
-    crew: Crew<'_, R, D>,
+    crew: Crew<'_>,
     sides: Sides<'_, W, P, G>,
 ) -> Outcome
 where
     T: Threads + Wait + Sync + Clock,
-    R: Replica + Send,
-    R::Staged: Send,
-    D: Disk + Drop + Send,
     W: Wire,
     P: Post + Sync,
     G: Gate + Sync,
@@ -153,7 +149,7 @@ pub(crate) fn passes_back(outcome: Outcome) -> Vec<Pass> {
 }
 
 /// Ends a shift, and closes it with these passes.
-pub(crate) fn close<R: Replica>(shift: Shift<R, MemoryDisk>, passes: Vec<Pass>) -> Over<R> {
+pub(crate) fn close(shift: Shift<Plain, MemoryDisk>, passes: Vec<Pass>) -> Over {
     match calls::close_by(calls::over(shift), passes) {
         Ok(closed) => Over {
             node: closed.node,
@@ -172,7 +168,7 @@ pub(crate) fn close<R: Replica>(shift: Shift<R, MemoryDisk>, passes: Vec<Pass>) 
 }
 
 /// The gateway of a shift that is over.
-pub(crate) fn node_of<R: Replica>(over: Over<R>) -> Node<R, MemoryDisk> {
+pub(crate) fn node_of(over: Over) -> Node<Plain, MemoryDisk> {
     let Over {
         node,
         history,
