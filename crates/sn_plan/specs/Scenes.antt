@@ -6,4 +6,4 @@ use Rattle.sn_plan.specs.declared.scene.Scene.{Scene}
 
 -- what the gateway of a scene sees of the set that it keeps
 abbrev pub seen_in : {R Z : Type 0} → (R → List Op) → Scene R Z → Seen
-seen_in kept scene = seen_of (kept scene.replica)
+seen_in kept scene = seen_of (kept scene.replica.now)
