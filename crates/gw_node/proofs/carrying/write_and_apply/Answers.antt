@@ -30,12 +30,12 @@ returns-in-Ok-write_if_made g c =
     record {
       config = refl;
       records = refl;
-      local = c.note_taken-node.ensures.done ∙ ap (λ l. after_all l c.args.plan.local) c.make_ready.ensures.local;
+      local = c.apply_local_after_delta-node.ensures.done ∙ ap (λ l. after_all l c.args.plan.local) c.make_ready.ensures.local;
       apart = subst HaveOwnNames c.into_vec.ensures c.in-Ok.ensures.apart;
       made = subst (λ (made : Option (List Op)). Makes c.args.plan.ops made old
-          (record { config = c.args.node.now.config; kept = g.R.Replica.kept c.commit.new.self; local = c.note_taken-node.new.dialogs.local; journal = c.write_if_made.new.journal; records = c.args.node.now.records })) (sym made_is)
+          (record { config = c.args.node.now.config; kept = g.R.Replica.kept c.commit.new.self; local = c.apply_local_after_delta-node.new.dialogs.local; journal = c.write_if_made.new.journal; records = c.args.node.now.records })) (sym made_is)
           (makes c.args.plan.ops delta old
-          (record { config = c.args.node.now.config; kept = g.R.Replica.kept c.commit.new.self; local = c.note_taken-node.new.dialogs.local; journal = c.write_if_made.new.journal; records = c.args.node.now.records })
+          (record { config = c.args.node.now.config; kept = g.R.Replica.kept c.commit.new.self; local = c.apply_local_after_delta-node.new.dialogs.local; journal = c.write_if_made.new.journal; records = c.args.node.now.records })
           c.requires.some
           (subst (λ (ops : List Op). IsDeltaOf ops delta) c.into_vec.ensures c.in-Ok.ensures.delta)
           c.in-Ok.ensures.fits
