@@ -10,6 +10,7 @@ rows are the same, that each fault is one of the call's type and that none is le
 import pathlib
 import re
 import sys
+import textwrap
 
 import refusals
 
@@ -19,7 +20,7 @@ HEAD = """# What a call answers if it refuses
 
 You call one of these functions on a small machine, and need to know what stands after a refusal.
 Each call has a line: its faults in the order in which it looks for them; the clauses that say when
-each comes; those that say what stands after it.
+each comes; those that say what stands after it. Most that can only lack memory are at the end.
 
 - *reads*: the call changes nothing; what it is given it reads, or takes and drops.
 - *type*: its type has no other fault. *ensures*: a clause without a name. *none*: no clause.
@@ -217,12 +218,18 @@ def page():
     rows = refusals.read_rows()
     if list(rows) != list(FAULTS):
         raise Differs(f"not in both lists: {' '.join(sorted({*rows} ^ {*FAULTS})) or 'the order'}")
-    lines = [HEAD, "```"]
+    lines, alike = [HEAD, "```"], {f"Memory: {it}; reads": [] for it in ("err", "type")}
     for name, said in FAULTS.items():
         call, faults, when, stands = line_of(name, said)
-        line = f"{call}  {faults}: {when}; {stands}"
+        text = f"{faults}: {when}; {stands}"
+        if text in alike:
+            alike[text].append(call)
+            continue
+        line = f"{call}  {text}"
         at = line.find(" ", 60 if len(line) > 100 else 1000)
         lines += [line] if len(line) <= 100 else [line[:at], f"    {line[at + 1:]}"]
+    for text, calls in alike.items():
+        lines += [text, *textwrap.wrap(" ".join(calls), 96, initial_indent="    ", subsequent_indent="    ")]
     return "\n".join([*lines, "```", ""])
 
 
