@@ -108,7 +108,7 @@ LEVELS = [
         "`OwnStep` a datagram or a tick, `TakeStep` a delta that comes, `restarted` a stop and a new start. `run` plays events with the "
         "gateway's own code on disks in memory, and `run.ok` ties this whole level to that code. The clauses `event` do so for single "
         "calls, on any disk; `CanBeSaid` has the exceptions, which on the daemon's own disk are all compactions and reopenings. (These "
-        "calls have two more clauses, `call` and `taken`: see part 5 of the long form.) The step table and the "
+        "calls have one more clause, `call`: see part 5 of the long form.) The step table and the "
         "bytes of frames, deltas and journals are named and not entered.", "",
         "`consistent` and `never` say that no name has two contents in the whole field, and that no event is answered by Conflict. "
         "`alike` and `shown` say that two gateways that have taken the same operations have equal sets and show the same. "
