@@ -15,8 +15,8 @@ write_and_apply-requires-clause-some g c = writer_some (state_of g.R.Replica.kep
 pub write_and_apply-requires-clause-excuse : goal.write_and_apply-requires-clause-excuse
 write_and_apply-requires-clause-excuse g c = writer_sends (state_of g.R.Replica.kept c.args.node.now) c.args.calls.first.now c.args.plan c.args.excuse c.requires.writer
 
-pub returns-then-most-len : goal.returns-then-most-len
-returns-then-most-len g c =
+pub returns-then-calls-len : goal.returns-then-calls-len
+returns-then-calls-len g c =
     let old = state_of g.R.Replica.kept c.args.node.now in
     let new = state_of g.R.Replica.kept c.write_and_apply.new.node in
     by_itself old new c.args.calls.first.now (map arc_value c.args.calls.rest.now) c.alone.result.items c.write_and_apply.result c.alone.ensures
