@@ -20,8 +20,8 @@ gather-gathered-requires-clause-done g c =
     subst (All (IsDone (sends_on c.args.channel.sender))) (sym here)
     (all_done (sends_on c.args.channel.sender) c.as_mut_slice.result.now c.read_and_work-reading.new.slots (omega (arith, len)) (rw tied at c.read_and_work-reading.ensures.slots))
 
-pub returns-in-None-clause-datagrams : goal.returns-in-None-clause-datagrams
-returns-in-None-clause-datagrams g c =
+pub returns-clause-datagrams : goal.returns-clause-datagrams
+returns-clause-datagrams g c =
     let quiet = c.first_trouble.ensures.none (c.first_cause.ensures.none c.in-None.is).1 in
     let len = c.read_and_work-reading.auto.slots in
     let size = ap length c.as_mut_slice.ensures.value in
@@ -39,8 +39,8 @@ returns-in-None-clause-datagrams g c =
       λ x. accounted (view c.gather-gathered.new.root) c.read_and_work-reading.result.count c.gather-gathered.result.taken.items c.gather-gathered.result.left.items c.drain-rest.new.left.items sent gathered.numbers (c.drain-rest.ensures.all quiet.1) (λ y. if y == x then 1 else 0),
     )
 
-pub returns-in-None-clause-passes : goal.returns-in-None-clause-passes
-returns-in-None-clause-passes g c =
+pub returns-clause-passes : goal.returns-clause-passes
+returns-clause-passes g c =
     let quiet = c.first_trouble.ensures.none (c.first_cause.ensures.none c.in-None.is).1 in
     let len = c.read_and_work-reading.auto.slots in
     let size = ap length c.as_mut_slice.ensures.value in
