@@ -4,7 +4,7 @@ ghost use Rattle.std.specs.Prelude.{◌≤◌, IfOk, IfSome, length};
 
 use std::io;
 use std::io::ErrorKind;
-use std::net::{IpAddr, Ipv4Addr, Ipv6Addr, Net, SocketAddr, UdpSocket};
+use std::net::{IpAddr, Ipv4Addr, Ipv6Addr, SocketAddr, UdpSocket};
 use std::time::Duration;
 
 /// How many milliseconds a receive waits for a datagram.
@@ -19,7 +19,7 @@ pub(crate) struct Wire {
 
 impl Wire {
     /// A socket that is bound to a port; with port 0 to one that is free.
-    pub(crate) fn open<N: Net>(net: &N, port: u16, gateway: SocketAddr) -> io::Result<Wire> {
+    pub(crate) fn open(net: &HostRuntime, port: u16, gateway: SocketAddr) -> io::Result<Wire> {
         let own = SocketAddr::new(any_host(gateway), port);
         let socket = UdpSocket::bind(net, own)?;
         socket.set_read_timeout(Some(Duration::from_millis(RECV_TIMEOUT_MS)))?;
